@@ -1,0 +1,96 @@
+-- One bit of a map set: that bit is 1, and every other is as it was.
+-- Assumes nothing.
+use mathlib.Core.Path.{_≡_, refl, _∙_, sym, ap, subst}
+use mathlib.Core.Bool.{Bool, true, false}
+use mathlib.Core.Logic.{_⊎_, inl, inr, ⊎-elim}
+use Prim.Native.Nat.{ℕ, zero, suc, _+_, _-_, _*_, _/_, _%_, _^_, _≤_, _<_}
+use native.Mathlib.Nat.{div-eq-of-lt, div-self, mul-div-cancel, one-mul, zero-div}
+use native.Mathlib.Omega.{arith}
+use lib.Dec.{lit<, eqb}
+use lib.Bits.{bitOr, or-shr, or-mod, or-zero-r}
+use mathlib.Core.List.{List}
+use lib.ListN.{getD, length, length-set, List·getD-eq-default}
+use lib.Pow.{pow-pos, pow-lt, pow-add, shl-exact}
+use lib.Seq.{getD-set-same, getD-set-other, set-out}
+use borrow.Author.Tests.{eqb-true, eqb-false}
+use Rattle.questions.proofs.Bools.{lt-or-ge}
+use Rattle.calendar.specs.Bits.{bitAt, setBit}
+
+or-one : (x : ℕ) → x < 2 → bitOr x 1 ≡ 1
+or-one zero h = refl
+or-one (suc zero) h = refl
+or-one (suc (suc x)) h = absurd (omega arith)
+
+-- bit j of an or is the or of the two bits
+or-bit : (a b j : ℕ) → bitOr a b / 2 ^ j % 2 ≡ bitOr (a / 2 ^ j % 2) (b / 2 ^ j % 2)
+or-bit a b j = ap (λ (n : ℕ). n % 2) (or-shr a b j) ∙ or-mod (a / 2 ^ j) (b / 2 ^ j) 1
+
+pow-above : (j i : ℕ) → 2 ^ (suc i + j) / 2 ^ j % 2 ≡ 0
+pow-above j i =
+    ap (λ (n : ℕ). n / 2 ^ j % 2) (pow-add 2 (suc i) j) ∙ ap (λ (n : ℕ). n % 2) (mul-div-cancel (2 ^ suc i) (pow-pos j)) ∙
+    (omega arith)
+
+-- a power of two has no other bit
+pow-other : (k j : ℕ) → (j ≡ k → ⊥) → 2 ^ k / 2 ^ j % 2 ≡ 0
+pow-other k j ne =
+    ⊎-elim (λ l. ap (λ (n : ℕ). n % 2) (div-eq-of-lt (pow-lt l)))
+    (λ l.
+    let e : k ≡ suc (k - j - 1) + j = omega arith in
+    subst (λ (n : ℕ). 2 ^ n / 2 ^ j % 2 ≡ 0) (sym e) (pow-above j (k - j - 1)))
+    (lt-or-ge k j)
+
+bit-set : (b k : ℕ) → bitOr b (2 ^ k) / 2 ^ k % 2 ≡ 1
+bit-set b k =
+    or-bit b (2 ^ k) k ∙ ap (λ (n : ℕ). bitOr (b / 2 ^ k % 2) (n % 2)) (div-self (pow-pos k)) ∙ or-one (b / 2 ^ k % 2) (omega arith)
+
+bit-kept : (b k j : ℕ) → (j ≡ k → ⊥) → bitOr b (2 ^ k) / 2 ^ j % 2 ≡ b / 2 ^ j % 2
+bit-kept b k j ne =
+    or-bit b (2 ^ k) j ∙ ap (λ (n : ℕ). bitOr (b / 2 ^ j % 2) n) (pow-other k j ne) ∙ or-zero-r (b / 2 ^ j % 2)
+
+-- the code's shift of 1 in a byte
+pub one-shl : (k : ℕ) → k < 8 → 1 * 2 ^ k % 256 ≡ 2 ^ k
+one-shl k h = shl-exact 1 k 8 (lit< tt) (omega arith) ∙ one-mul (2 ^ k)
+
+pub set-length : (map : List ℕ) (n : ℕ) → length (setBit map n) ≡ length map
+unfolding setBit
+set-length map n = length-set map (n / 8) _
+
+-- the byte with its bit set
+abbrev pub marked : List ℕ → ℕ → ℕ
+marked map n = bitOr (getD map (n / 8) 0) (2 ^ (7 - n % 8))
+
+-- the bit that is set
+pub set-here : (map : List ℕ) (n : ℕ) → n / 8 < length map → bitAt (setBit map n) n ≡ true
+unfolding bitAt setBit
+set-here map n h = simp (getD-set-same map (n / 8) (marked map n) 0 h, bit-set)
+
+-- every other bit
+pub set-other : (map : List ℕ) (n m : ℕ) → (m ≡ n → ⊥) → bitAt (setBit map n) m ≡ bitAt map m
+unfolding bitAt setBit
+set-other map n m ne = go (eqb (m / 8) (n / 8)) refl (lt-or-ge (n / 8) (length map))
+  where
+    same : m / 8 ≡ n / 8 → n / 8 < length map → bitAt (setBit map n) m ≡ bitAt map m
+    same p h =
+        simp (p, getD-set-same map (n / 8) (marked map n) 0 h, bit-kept (getD map (n / 8) 0) (7 - n % 8) (7 - m % 8) (λ q. ne (omega arith)))
+
+    out : length map ≤ n / 8 → bitAt (setBit map n) m ≡ bitAt map m
+    out h = simp (set-out map (n / 8) (marked map n) h)
+
+    go : (b : Bool) → eqb (m / 8) (n / 8) ≡ b → (n / 8 < length map) ⊎ (length map ≤ n / 8) → bitAt (setBit map n) m ≡ bitAt map m
+    go b q (inr h) = out h
+    go true q (inl h) = same (eqb-true _ _ q) h
+    go false q (inl h) = simp (getD-set-other map (n / 8) (m / 8) (marked map n) 0 (eqb-false _ _ q))
+
+-- a bit that was 1 stays 1
+pub set-keeps : (map : List ℕ) (n : ℕ) → bitAt map n ≡ true → bitAt (setBit map n) n ≡ true
+unfolding setBit
+set-keeps map n e = go (lt-or-ge (n / 8) (length map))
+  where
+    go : (n / 8 < length map) ⊎ (length map ≤ n / 8) → bitAt (setBit map n) n ≡ true
+    go (inl h) = set-here map n h
+    go (inr h) = rw (set-out map (n / 8) (marked map n) h) e
+
+-- a bit past the map's end is 0
+pub bit-past : (map : List ℕ) (n : ℕ) → length map ≤ n / 8 → bitAt map n ≡ false
+unfolding bitAt
+bit-past map n h = simp (List·getD-eq-default map 0 h, zero-div (2 ^ (7 - n % 8)))

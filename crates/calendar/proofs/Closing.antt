@@ -1,0 +1,142 @@
+-- Closing a day changes that day alone.
+-- Assumes nothing.
+use mathlib.Core.Path.{_≡_, refl, _∙_, sym, ap}
+use mathlib.Core.Bool.{Bool, true, false, not, _&&_, _||_, cond, and-false}
+use Prim.Native.Nat.{ℕ, _-_, _*_, _/_, _%_, _^_, _≤_}
+use native.Mathlib.Omega.{arith}
+use lib.Dec.{eqb, ltb}
+use lib.Bits.{bitOr}
+use lib.ListN.{length, getD, set}
+use lib.Seq.{set-out}
+use borrow.Author.Tests.{eqb-true, eqb-false, not-true}
+use Rattle.questions.proofs.Bools.{clash, both, or-right}
+use Rattle.questions.proofs.Search.{every-at, every-all}
+use Rattle.days.specs.Gregorian.{weekdayOf}
+use Rattle.calendar.specs.declared.Calendar.{Calendar}
+use Rattle.calendar.specs.Bits.{bitAt, setBit}
+use Rattle.calendar.specs.Trading.{validCover, inCover, slotOf, closedOn, tradingDay, mayBeClosed, cleanSlot, clean, closeDay}
+use Rattle.calendar.proofs.Bits.{set-length, set-here, set-other, set-keeps, marked, one-shl}
+use Rattle.calendar.proofs.Covered.{covered, slot-below, slot-may, slot-same}
+
+module _ (cal : Calendar) (d : ℕ) where
+  -- it keeps the cover and the size of the maps
+  pub close-cover : closeDay cal d .cover ≡ cal .cover
+  unfolding closeDay
+  close-cover = refl
+
+  pub close-length : length (closeDay cal d .closed) ≡ length (cal .closed)
+  unfolding closeDay
+  close-length = go (inCover (cal .cover) d)
+    where
+      go : (b : Bool) → length (cond b (setBit (cal .closed) (slotOf (cal .cover) d)) (cal .closed)) ≡ length (cal .closed)
+      go true = set-length (cal .closed) (slotOf (cal .cover) d)
+      go false = refl
+
+  in-map : inCover (cal .cover) d ≡ true → closeDay cal d .closed ≡ setBit (cal .closed) (slotOf (cal .cover) d)
+  unfolding closeDay
+  in-map e = rw e
+
+  out-map : inCover (cal .cover) d ≡ false → closeDay cal d .closed ≡ cal .closed
+  unfolding closeDay
+  out-map e = rw e
+
+  -- the bit of any other day of the cover is as it was
+  bit-other : (e : ℕ) → (e ≡ d → ⊥) → inCover (cal .cover) e ≡ true → bitAt (closeDay cal d .closed) (slotOf (cal .cover) e) ≡ bitAt (cal .closed) (slotOf (cal .cover) e)
+  bit-other e ne p = go (inCover (cal .cover) d) refl
+    where
+      go : (b : Bool) → inCover (cal .cover) d ≡ b → bitAt (closeDay cal d .closed) (slotOf (cal .cover) e) ≡ bitAt (cal .closed) (slotOf (cal .cover) e)
+      go true q =
+          rw (in-map q)
+          (set-other (cal .closed) (slotOf (cal .cover) d) (slotOf (cal .cover) e)
+          (λ s. ne (slot-same (cal .cover) e d (covered (cal .cover) e p) (covered (cal .cover) d q) s)))
+      go false q = rw (out-map q)
+
+  -- any other day is as it was
+  pub closed-other : (e : ℕ) → (e ≡ d → ⊥) → closedOn (closeDay cal d) e ≡ closedOn cal e
+  unfolding closedOn
+  closed-other e ne = go (inCover (cal .cover) e) refl
+    where
+      go : (b : Bool) → inCover (cal .cover) e ≡ b → (inCover (closeDay cal d .cover) e && bitAt (closeDay cal d .closed) (slotOf (closeDay cal d .cover) e)) ≡ (inCover (cal .cover) e && bitAt (cal .closed) (slotOf (cal .cover) e))
+      go true p = rw (close-cover) (ap (λ (b : Bool). inCover (cal .cover) e && b) (bit-other e ne p))
+      go false p = rw (close-cover, p)
+
+  pub trading-other : (e : ℕ) → (e ≡ d → ⊥) → tradingDay (closeDay cal d) e ≡ tradingDay cal e
+  unfolding tradingDay
+  trading-other e ne = rw (closed-other e ne, close-cover)
+
+  -- the day is closed, and so no trading day
+  pub closed-here : validCover (cal .cover) ≡ true → length (cal .closed) ≡ 736 → inCover (cal .cover) d ≡ true → closedOn (closeDay cal d) d ≡ true
+  unfolding closedOn
+  closed-here y l e =
+      let s = slot-below (cal .cover) d (covered (cal .cover) d e) y in
+      rw (close-cover, e, in-map e) (set-here (cal .closed) (slotOf (cal .cover) d) (omega arith))
+
+  pub trading-here : validCover (cal .cover) ≡ true → length (cal .closed) ≡ 736 → tradingDay (closeDay cal d) d ≡ false
+  unfolding tradingDay
+  trading-here y l = go (inCover (cal .cover) d) refl
+    where
+      go : (b : Bool) → inCover (cal .cover) d ≡ b → (inCover (closeDay cal d .cover) d && (ltb (weekdayOf d) 5 && not (closedOn (closeDay cal d) d))) ≡ false
+      go true e = rw (closed-here y l e, close-cover, e) (and-false (ltb (weekdayOf d) 5))
+      go false e = rw (close-cover, e)
+
+  -- a closed day stays closed, so a trading day after closing was one before
+  closed-stays : closedOn cal d ≡ true → closedOn (closeDay cal d) d ≡ true
+  unfolding closedOn
+  closed-stays e =
+      let (a, b) = both (inCover (cal .cover) d) (bitAt (cal .closed) (slotOf (cal .cover) d)) e in
+      rw (close-cover, a, in-map a) (set-keeps (cal .closed) (slotOf (cal .cover) d) b)
+
+  -- closing the day itself
+  trading-same : tradingDay (closeDay cal d) d ≡ true → tradingDay cal d ≡ true
+  unfolding tradingDay closeDay
+  trading-same t = go (closedOn cal d) refl t
+    where
+      go : (b : Bool) → closedOn cal d ≡ b → (inCover (closeDay cal d .cover) d && (ltb (weekdayOf d) 5 && not (closedOn (closeDay cal d) d))) ≡ true → (inCover (cal .cover) d && (ltb (weekdayOf d) 5 && not (closedOn cal d))) ≡ true
+      go true q t =
+          let (a, r) = both (inCover (cal .cover) d) (ltb (weekdayOf d) 5 && not (closedOn (closeDay cal d) d)) t in
+          let (w, n) = both (ltb (weekdayOf d) 5) (not (closedOn (closeDay cal d) d)) r in
+          clash (closed-stays q) (not-true (closedOn (closeDay cal d) d) n)
+      go false q t =
+          let (a, r) = both (inCover (cal .cover) d) (ltb (weekdayOf d) 5 && not (closedOn (closeDay cal d) d)) t in
+          let (w, n) = both (ltb (weekdayOf d) 5) (not (closedOn (closeDay cal d) d)) r in
+          rw (a, w, q)
+
+  pub trading-before : (e : ℕ) → tradingDay (closeDay cal d) e ≡ true → tradingDay cal e ≡ true
+  trading-before e t = go (eqb e d) refl
+    where
+      go : (b : Bool) → eqb e d ≡ b → tradingDay cal e ≡ true
+      go true q =
+          let p : e ≡ d = eqb-true _ _ q in
+          ap (tradingDay cal) p ∙ trading-same (ap (tradingDay (closeDay cal d)) (sym p) ∙ t)
+      go false q = sym (trading-other e (eqb-false _ _ q)) ∙ t
+
+  -- a Monday to Friday of the cover may be closed
+  pub clean-close : clean cal ≡ true → inCover (cal .cover) d ≡ true → ltb (weekdayOf d) 5 ≡ true → clean (closeDay cal d) ≡ true
+  unfolding clean closeDay
+  clean-close k e w =
+      (every-all (cleanSlot (closeDay cal d)) 5888 (λ s h. go s (eqb s (slotOf (cal .cover) d)) refl (every-at (cleanSlot cal) 5888 s k h)))
+    where
+      may : mayBeClosed (cal .cover) (slotOf (cal .cover) d) ≡ true
+      may = slot-may (cal .cover) d (covered (cal .cover) d e) ∙ w
+
+      go : (s : ℕ) (b : Bool) → eqb s (slotOf (cal .cover) d) ≡ b → (not (bitAt (cal .closed) s) || mayBeClosed (cal .cover) s) ≡ true → (not (bitAt (closeDay cal d .closed) s) || mayBeClosed (cal .cover) s) ≡ true
+      go s true q t = or-right (not (bitAt (closeDay cal d .closed) s)) (ap (mayBeClosed (cal .cover)) (eqb-true s (slotOf (cal .cover) d) q) ∙ may)
+      go s false q t = rw (in-map e, set-other (cal .closed) (slotOf (cal .cover) d) s (eqb-false _ _ q)) t
+
+  -- where nothing is marked: a day outside the cover, or a slot past the maps
+  pub close-out : inCover (cal .cover) d ≡ false → cal ≡ closeDay cal d
+  unfolding closeDay
+  close-out e = rw e
+
+  pub close-past : length (cal .closed) ≤ slotOf (cal .cover) d / 8 → cal ≡ closeDay cal d
+  unfolding closeDay setBit
+  close-past h = go (inCover (cal .cover) d)
+    where
+      go : (b : Bool) → cal ≡ record { cover = cal .cover; closed = cond b (setBit (cal .closed) (slotOf (cal .cover) d)) (cal .closed) }
+      go true = rw (set-out (cal .closed) (slotOf (cal .cover) d / 8) (marked (cal .closed) (slotOf (cal .cover) d)) h)
+      go false = refl
+
+  -- the code's store
+  pub close-store : (slot : ℕ) → slot ≡ slotOf (cal .cover) d → inCover (cal .cover) d ≡ true → _≡_ {A = Calendar} (record { cover = cal .cover; closed = set (cal .closed) (slot / 8) (bitOr (getD (cal .closed) (slot / 8) 0) (1 * 2 ^ (7 - slot % 8) % 256)) }) (closeDay cal d)
+  unfolding closeDay setBit
+  close-store slot q e = rw (one-shl (7 - slot % 8) (omega arith), e, q)

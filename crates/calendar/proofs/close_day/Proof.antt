@@ -1,0 +1,57 @@
+use lib.ListN.{length-map}
+use Rattle.calendar.proofs.Closing.{close-out, close-past, close-store}
+use lib.ListN.{length}
+use Rattle.questions.proofs.Bools.{said-no, said-yes}
+use Prim.Native.Nat.{_-_}
+use native.Mathlib.Omega.{arith}
+use mathlib.Core.Path.{_≡_}
+use borrow.Author.Needs.{needs}
+use Rattle.calendar.proofs.close_day.Statement.{statement}
+use Rattle.calendar.proofs.close_day.Tie as tie
+
+in-cover-requires : tie.Need-in-cover-requires
+in-cover-requires c κs = search needs
+
+returns : tie.Need-returns
+returns c = close-out _ _ (said-no (c .before .in-cover .ensures) (c .if1 .taken))
+
+slot-of-requires : tie.Need-slot-of-requires
+slot-of-requires c κs = said-yes (c .before .in-cover .ensures) (c .if1 .left)
+
+returns-2 : tie.Need-returns-2
+returns-2 c =
+    let l : length (c .before .before .before .before .before .args .cal .closed) ≡ 736 = simp length-map at (c .before .before .before .before .before .good .0 .1 .1 .1 .0 .1 .0 .1) in
+    close-past _ _ (omega (arith, c .before .slot-of .ensures))
+
+sub-bit : tie.Need-sub-bit
+sub-bit c = search needs
+
+cast-bit : tie.Need-cast-bit
+cast-bit c = search needs
+
+shl-bit : tie.Need-shl-bit
+shl-bit c = search needs
+
+element-copy-out-next : tie.Need-element-copy-out-next
+element-copy-out-next c = search needs
+
+element-write-next : tie.Need-element-write-next
+element-write-next c = search needs
+
+returns-3 : tie.Need-returns-3
+returns-3 c = close-store _ _ _ (c .before .before .slot-of .ensures) (said-yes (c .before .before .before .before .in-cover .ensures) (c .before .before .before .if1 .left))
+
+pub close-day-spec : {M : Type 1} → statement M
+close-day-spec =
+    tie.close
+    (tie.spec
+    in-cover-requires
+    returns
+    slot-of-requires
+    returns-2
+    sub-bit
+    cast-bit
+    shl-bit
+    element-copy-out-next
+    element-write-next
+    returns-3)

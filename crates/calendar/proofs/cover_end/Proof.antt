@@ -1,0 +1,33 @@
+use Rattle.days.proofs.Years.{year-start-past}
+use Rattle.calendar.specs.Trading.{coverEnd}
+use Prim.Native.Nat.{_-_}
+use native.Mathlib.Omega.{arith}
+use mathlib.Core.Path.{sym}
+use borrow.Author.Needs.{needs}
+use Rattle.calendar.proofs.cover_end.Statement.{statement}
+use Rattle.calendar.proofs.cover_end.Tie as tie
+
+returns : tie.Need-returns
+unfolding coverEnd
+returns c = (sym (year-start-past _ (omega arith)), omega arith)
+
+sub-if2 : tie.Need-sub-if2
+sub-if2 c = search needs
+
+returns-2 : tie.Need-returns-2
+unfolding coverEnd
+returns-2 c = (sym (year-start-past _ (omega arith)), omega arith)
+
+add-year-start : tie.Need-add-year-start
+add-year-start c = search needs
+
+year-start-requires : tie.Need-year-start-requires
+year-start-requires c κs = search needs
+
+returns-3 : tie.Need-returns-3
+unfolding coverEnd
+returns-3 c = c .year-start .ensures
+
+pub cover-end-spec : {M : Type 1} → statement M
+cover-end-spec =
+    tie.close (tie.spec returns sub-if2 returns-2 add-year-start year-start-requires returns-3)

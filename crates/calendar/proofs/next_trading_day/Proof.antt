@@ -1,0 +1,65 @@
+use Rattle.calendar.proofs.Next.{next-start, rest-none, rest-here, rest-next}
+use Rattle.questions.specs.Search.{firstFrom}
+use Rattle.calendar.specs.Trading.{tradingDay, nextTradingDay}
+use Prim.Native.Nat.{_+_, _-_, _≤_}
+use borrow.Author.Needs.{needs}
+use native.Mathlib.Omega.{arith}
+use mathlib.Core.Path.{_≡_, _∙_, sym}
+use Rattle.calendar.proofs.next_trading_day.Statement.{statement}
+use Rattle.calendar.proofs.next_trading_day.Tie as tie
+
+abbrev Inv-loop : tie.InvT-loop
+Inv-loop cal day end d₀ d = (d ≤ end) × (firstFrom (tradingDay cal) 36525 (end - d) d ≡ nextTradingDay cal day)
+
+abbrev μ-loop : tie.MeasureT-loop
+μ-loop cal day end d₀ d = end - d
+
+cover-end-requires : tie.Need-cover-end-requires Inv-loop μ-loop
+cover-end-requires c κs = search needs
+
+returns : tie.Need-returns Inv-loop μ-loop
+returns c =
+    let q = c .before .cover-end .ensures .0 in
+    let day = c .before .before .args .day in
+    sym (sym (next-start _ day _ q) ∙ rest-none _ day _ q (day + 1) (omega arith))
+
+add-d : tie.Need-add-d Inv-loop μ-loop
+add-d c = omega arith
+
+loop-holds : tie.Need-loop-holds Inv-loop μ-loop
+loop-holds c = (omega arith, next-start _ _ _ (c .before .cover-end .ensures .0))
+
+is-trading-day-requires : tie.Need-is-trading-day-requires Inv-loop μ-loop
+is-trading-day-requires c κs = search needs
+
+returns-2 : tie.Need-returns-2 Inv-loop μ-loop
+returns-2 c = sym (rest-here _ (c .before .before .before .before .before .before .args .day) _ (c .before .before .before .before .before .cover-end .ensures .0) _ (c .before .before .loop-test .taken) (sym (c .before .is-trading-day .ensures) ∙ c .if2 .taken)) ∙ c .before .before .before .loop .inv .1
+
+add-d-2 : tie.Need-add-d-2 Inv-loop μ-loop
+add-d-2 c = omega arith
+
+loop-less : tie.Need-loop-less Inv-loop μ-loop
+loop-less c = omega arith
+
+loop-again : tie.Need-loop-again Inv-loop μ-loop
+loop-again c = (omega arith, rest-next _ (c .before .before .before .before .before .before .args .day) _ (c .before .before .before .before .before .cover-end .ensures .0) _ (c .before .before .loop-test .taken) (sym (c .before .is-trading-day .ensures) ∙ c .if2 .left) ∙ c .before .before .before .loop .inv .1)
+
+returns-3 : tie.Need-returns-3 Inv-loop μ-loop
+returns-3 c = sym (rest-none _ (c .before .before .before .before .args .day) _ (c .before .before .before .cover-end .ensures .0) _ (c .loop-test .left)) ∙ c .before .loop .inv .1
+
+pub next-trading-day-spec : {M : Type 1} → statement M
+next-trading-day-spec =
+    tie.close
+    (tie.spec
+    Inv-loop
+    μ-loop
+    cover-end-requires
+    returns
+    add-d
+    loop-holds
+    is-trading-day-requires
+    returns-2
+    add-d-2
+    loop-less
+    loop-again
+    returns-3)

@@ -1,0 +1,89 @@
+-- The cover, the closed days and the trading days (01, Days and months; questions 5, 6, 11, 14, 15, 17).
+-- Assumes nothing.
+use Prim.Native.Nat.{ℕ, zero, suc, _+_, _-_, _*_, _/_, _%_}
+use mathlib.Core.Bool.{Bool, not, _&&_, _||_, cond}
+use lib.Dec.{leb, ltb}
+use Rattle.questions.specs.Search.{every, some, firstFrom}
+use Rattle.days.specs.Gregorian.{weekdayOf}
+use Rattle.days.specs.Dates.{yearOf, yearStart, dayInYear}
+use Rattle.calendar.specs.Bits.{byteBit, bitAt, setBit}
+use Rattle.calendar.specs.declared.Cover.{Cover}
+use Rattle.calendar.specs.declared.Calendar.{Calendar}
+
+-- '1 to 16 years from 2000 to 2099' (01, The table)
+unfoldable pub validCover : Cover → Bool
+validCover c = leb 1 (c .years) && (leb (c .years) 16 && (leb 2000 (c .«first_year») && leb (c .«first_year» + c .years) 2100))
+
+-- 1 January of the cover's first year
+unfoldable pub coverStart : Cover → ℕ
+coverStart c = yearStart (c .«first_year»)
+
+-- the day after 31 December of its last year
+unfoldable pub coverEnd : Cover → ℕ
+coverEnd c = yearStart (c .«first_year» + c .years)
+
+-- 'The cover is a run of whole years'; 11: 'Is the day in the cover?'
+unfoldable pub inCover : Cover → ℕ → Bool
+inCover c d = leb (coverStart c) d && ltb d (coverEnd c)
+
+-- where the maps have the bit of a day: 46 bytes for each year of the cover, a bit for each day of the year
+unfoldable pub slotOf : Cover → ℕ → ℕ
+slotOf c d = 368 * (yearOf d - c .«first_year») + dayInYear d
+
+-- a day of the cover is closed where its bit is 1
+unfoldable pub closedOn : Calendar → ℕ → Bool
+closedOn cal d = inCover (cal .cover) d && bitAt (cal .closed) (slotOf (cal .cover) d)
+
+-- 'A trading day is a Monday to Friday in the cover that is not closed'; 14: 'Is it a trading day?'
+unfoldable pub tradingDay : Calendar → ℕ → Bool
+tradingDay cal d = inCover (cal .cover) d && (ltb (weekdayOf d) 5 && not (closedOn cal d))
+
+-- the first trading day after a day; 36,525, which is no day, where the cover has none
+unfoldable pub nextTradingDay : Calendar → ℕ → ℕ
+nextTradingDay cal d = firstFrom (tradingDay cal) 36525 (coverEnd (cal .cover) - suc d) (suc d)
+
+-- 'the n-th trading day after a given .. day' (01, Due day, tick, cash); 36,525 where the cover has none
+unfoldable pub nthTradingDay : Calendar → ℕ → ℕ → ℕ
+nthTradingDay cal zero d = d
+nthTradingDay cal (suc n) d = nextTradingDay cal (nthTradingDay cal n d)
+
+-- 'Weekend bits, bits after the year's end .. are zero': day n of the year y is one of the year's, and a Monday to Friday
+unfoldable pub mayClose : ℕ → ℕ → Bool
+mayClose y n = ltb (yearStart y + n) (yearStart (y + 1)) && ltb (weekdayOf (yearStart y + n)) 5
+
+-- the slot belongs to a year of the cover, and to a Monday to Friday of that year
+unfoldable pub mayBeClosed : Cover → ℕ → Bool
+mayBeClosed c slot = ltb (slot / 368) (c .years) && mayClose (c .«first_year» + slot / 368) (slot % 368)
+
+-- 5, of bit j of byte number `at` of the maps: it is 0, or may be 1
+abbrev pub cleanBit : Cover → ℕ → ℕ → ℕ → Bool
+cleanBit c at byte j = not (byteBit byte j) || mayBeClosed c (8 * at + j)
+
+-- 5, of byte number `at` of the maps
+unfoldable pub cleanByte : Cover → ℕ → ℕ → Bool
+cleanByte c at byte = every 8 (cleanBit c at byte)
+
+-- 5, of a slot of the maps: its bit is 0, or may be 1
+abbrev pub cleanSlot : Calendar → ℕ → Bool
+cleanSlot cal slot = not (bitAt (cal .closed) slot) || mayBeClosed (cal .cover) slot
+
+-- 5, of a calendar: in its 16 maps each bit is 0, or may be 1; so the maps after the last year's are zero
+unfoldable pub clean : Calendar → Bool
+clean cal = every 5888 (cleanSlot cal)
+
+-- one of the n days from s on is a trading day
+abbrev pub someTrades : Calendar → ℕ → ℕ → Bool
+someTrades cal s n = some n (λ i. tradingDay cal (s + i))
+
+-- 6: 'Does every run of seven days in the cover hold a trading day?' A run is given by its first day
+unfoldable pub everyWeek : Calendar → Bool
+everyWeek cal =
+    every (coverEnd (cal .cover) - coverStart (cal .cover) - 6) (λ k. someTrades cal (coverStart (cal .cover) + k) 7)
+
+-- 'Close marks one day closed' (01, The table); a day outside the cover changes nothing
+unfoldable pub closeDay : Calendar → ℕ → Calendar
+closeDay cal d =
+    record {
+      cover = cal .cover;
+      closed = cond (inCover (cal .cover) d) (setBit (cal .closed) (slotOf (cal .cover) d)) (cal .closed);
+    }

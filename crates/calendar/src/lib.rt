@@ -1,0 +1,282 @@
+// The cover, its closed days and its trading days.
+ghost use mathlib.Core.Path.{_≡_};
+ghost use mathlib.Core.Bool.{true};
+ghost use Prim.Native.Nat.{_≤_, _<_};
+ghost use Rattle.questions.specs.Search.{latest};
+ghost use Rattle.calendar.specs.Trading.{validCover, coverStart, coverEnd, inCover, slotOf, closedOn, tradingDay, nextTradingDay, nthTradingDay, mayClose, mayBeClosed, cleanBit, cleanByte, clean, everyWeek, closeDay};
+
+// A run of whole years.
+pub struct Cover {
+    pub first_year: u16,
+    pub years: u16,
+}
+
+// Year k of the cover has the 46 bytes from 46 · k on, in the bit order of the file.
+pub struct Calendar {
+    pub cover: Cover,
+    pub closed: [u8; 736],
+}
+
+// 1 to 16 years from 2000 to 2099.
+pub fn is_valid_cover(cover: Cover) -> bool
+    ensures { λ r. ⌜ r ≡ validCover cover ⌝ }
+{
+    let first = cover.first_year;
+    let years = cover.years;
+    if years < 1 {
+        return false;
+    }
+    if 16 < years {
+        return false;
+    }
+    if first < 2000 {
+        return false;
+    }
+    if 2100 < first {
+        return false;
+    }
+    first + years <= 2100
+}
+
+// The first day of the cover.
+pub fn cover_start(cover: Cover) -> u16
+    ensures { λ r. ⌜ (r ≡ coverStart cover) × (r ≤ 36525) ⌝ }
+{
+    days::year_start(cover.first_year)
+}
+
+// The day after the cover's last.
+pub fn cover_end(cover: Cover) -> u16
+    ensures { λ r. ⌜ (r ≡ coverEnd cover) × (r ≤ 36525) ⌝ }
+{
+    let first = cover.first_year;
+    let years = cover.years;
+    if 2100 <= first {
+        return 36525;
+    }
+    if 2100 - first <= years {
+        return 36525;
+    }
+    days::year_start(first + years)
+}
+
+pub fn in_cover(cover: Cover, day: u16) -> bool
+    ensures { λ r. ⌜ r ≡ inCover cover day ⌝ }
+{
+    if day < cover_start(cover) {
+        return false;
+    }
+    day < cover_end(cover)
+}
+
+// The place of a day's bit in the maps of the years.
+fn slot_of(cover: Cover, day: u16) -> usize
+    requires { ⌜ inCover cover day ≡ true ⌝ }
+    ensures { λ r. ⌜ r ≡ slotOf cover day ⌝ }
+{
+    let year = days::year_of(day) - cover.first_year;
+    368 * (year as usize) + (days::day_in_year(day) as usize)
+}
+
+// A day outside the cover is not closed.
+pub fn is_closed(cal: Calendar, day: u16) -> bool
+    ensures { λ r. ⌜ r ≡ closedOn cal day ⌝ }
+{
+    let cover = cal.cover;
+    if !in_cover(cover, day) {
+        return false;
+    }
+    let slot = slot_of(cover, day);
+    let at = slot / 8;
+    if 736 <= at {
+        return false;
+    }
+    let byte = cal.closed[at];
+    (byte >> (7 - slot % 8)) % 2 == 1
+}
+
+pub fn is_trading_day(cal: Calendar, day: u16) -> bool
+    ensures { λ r. ⌜ r ≡ tradingDay cal day ⌝ }
+{
+    let cover = cal.cover;
+    if !in_cover(cover, day) {
+        return false;
+    }
+    if 5 <= days::weekday(day) {
+        return false;
+    }
+    !is_closed(cal, day)
+}
+
+// The latest trading day at or before a day; 0, a Saturday, where there is none.
+pub fn latest_trading_day(cal: Calendar, day: u16) -> u16
+    ensures { λ r. ⌜ r ≡ latest (tradingDay cal) day ⌝ }
+{
+    let mut d = day;
+    while 0 < d {
+        if is_trading_day(cal, d) {
+            return d;
+        }
+        d -= 1;
+    }
+    0
+}
+
+// The first trading day after a day; 36,525 where the cover has none.
+pub fn next_trading_day(cal: Calendar, day: u16) -> u16
+    ensures { λ r. ⌜ r ≡ nextTradingDay cal day ⌝ }
+{
+    let end = cover_end(cal.cover);
+    if end <= day {
+        return 36525;
+    }
+    let mut d = day + 1;
+    while d < end {
+        if is_trading_day(cal, d) {
+            return d;
+        }
+        d += 1;
+    }
+    36525
+}
+
+// The n-th trading day after a day; 36,525 where the cover has none.
+pub fn nth_trading_day(cal: Calendar, day: u16, n: u16) -> u16
+    ensures { λ r. ⌜ r ≡ nthTradingDay cal n day ⌝ }
+{
+    let mut d = day;
+    let mut i: u16 = 0;
+    while i < n {
+        d = next_trading_day(cal, d);
+        i += 1;
+    }
+    d
+}
+
+// Whether the year has a day n, from 0, and it is a Monday to Friday.
+pub fn may_close(year: u16, n: u16) -> bool
+    ensures { λ r. ⌜ r ≡ mayClose year n ⌝ }
+{
+    if 2100 <= year {
+        return false;
+    }
+    let start = days::year_start(year);
+    let end = days::year_start(year + 1);
+    if end <= n {
+        return false;
+    }
+    if end - n <= start {
+        return false;
+    }
+    days::weekday(start + n) < 5
+}
+
+// Whether a slot of the maps belongs to a Monday to Friday of the cover.
+fn may_be_closed(cover: Cover, slot: u16) -> bool
+    requires { ⌜ slot < 5888 ⌝ }
+    ensures { λ r. ⌜ r ≡ mayBeClosed cover slot ⌝ }
+{
+    let first = cover.first_year;
+    let years = cover.years;
+    let k = slot / 368;
+    if years <= k {
+        return false;
+    }
+    if 2100 <= first {
+        return false;
+    }
+    may_close(first + k, slot % 368)
+}
+
+// Whether bit j of one byte of the maps is 0, or belongs to a Monday to Friday of the cover.
+fn bit_is_clean(cover: Cover, at: u16, byte: u8, j: u16) -> bool
+    requires { ⌜ (at < 736) × (j < 8) ⌝ }
+    ensures { λ r. ⌜ r ≡ cleanBit cover at byte j ⌝ }
+{
+    if (byte >> (7 - j)) % 2 != 1 {
+        return true;
+    }
+    may_be_closed(cover, 8 * at + j)
+}
+
+// The same of all bits of the byte. Most bytes are zero.
+fn byte_is_clean(cover: Cover, at: u16, byte: u8) -> bool
+    requires { ⌜ at < 736 ⌝ }
+    ensures { λ r. ⌜ r ≡ cleanByte cover at byte ⌝ }
+{
+    if byte == 0 {
+        return true;
+    }
+    let mut j: u16 = 0;
+    while j < 8 {
+        if !bit_is_clean(cover, at, byte, j) {
+            return false;
+        }
+        j += 1;
+    }
+    true
+}
+
+// Question 5, of a calendar: only Mondays to Fridays of the cover are closed.
+pub fn is_clean(cal: Calendar) -> bool
+    ensures { λ r. ⌜ r ≡ clean cal ⌝ }
+{
+    let cover = cal.cover;
+    let mut i: u16 = 0;
+    while i < 736 {
+        let byte = cal.closed[i as usize];
+        if !byte_is_clean(cover, i, byte) {
+            return false;
+        }
+        i += 1;
+    }
+    true
+}
+
+// Question 6: every run of seven days in the cover holds a trading day.
+pub fn every_week_trades(cal: Calendar) -> bool
+    ensures { λ r. ⌜ r ≡ everyWeek cal ⌝ }
+{
+    let start = cover_start(cal.cover);
+    let end = cover_end(cal.cover);
+    let mut idle: u16 = 0;
+    let mut d = start;
+    while d < end {
+        if is_trading_day(cal, d) {
+            idle = 0;
+        } else {
+            idle += 1;
+        }
+        if idle == 7 {
+            return false;
+        }
+        d += 1;
+    }
+    true
+}
+
+// The calendar with one day closed; a day outside the cover changes nothing.
+pub fn close_day(cal: Calendar, day: u16) -> Calendar
+    ensures { λ r. ⌜ r ≡ closeDay cal day ⌝ }
+{
+    let cover = cal.cover;
+    if !in_cover(cover, day) {
+        return cal;
+    }
+    let slot = slot_of(cover, day);
+    let at = slot / 8;
+    if 736 <= at {
+        return cal;
+    }
+    let bit: u8 = 1 << (7 - slot % 8);
+    let mut next = cal;
+    next.closed[at] = next.closed[at] | bit;
+    next
+}
+
+// Question 15: with the day closed, every run of seven days still holds a trading day.
+pub fn trades_with_closed(cal: Calendar, day: u16) -> bool
+    ensures { λ r. ⌜ r ≡ everyWeek (closeDay cal day) ⌝ }
+{
+    every_week_trades(close_day(cal, day))
+}

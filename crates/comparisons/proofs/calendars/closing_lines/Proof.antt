@@ -1,0 +1,61 @@
+use Prim.Native.Nat.{_-_, _+_, _<_}
+use borrow.Author.Needs.{needs}
+use Rattle.comparisons.proofs.calendars.closing_lines.Statement.{statement}
+use Rattle.comparisons.proofs.calendars.closing_lines.Tie as tie
+
+abbrev Inv-loop : tie.InvT-loop
+Inv-loop cal from to step day₀ t6 day = day < 65536
+
+abbrev μ-loop : tie.MeasureT-loop
+μ-loop cal from to step day₀ t6 day = to + 1 - day
+
+loop-holds : tie.Need-loop-holds Inv-loop μ-loop
+loop-holds c = search needs
+
+slice-aggregate-start-line : tie.Need-slice-aggregate-start-line Inv-loop μ-loop
+slice-aggregate-start-line c = search needs
+
+start-line-requires : tie.Need-start-line-requires Inv-loop μ-loop
+start-line-requires c κs = search needs
+
+put-requires : tie.Need-put-requires Inv-loop μ-loop
+put-requires c κs = search needs
+
+trades-with-closed-requires : tie.Need-trades-with-closed-requires Inv-loop μ-loop
+trades-with-closed-requires c κs = search needs
+
+put-answer-requires : tie.Need-put-answer-requires Inv-loop μ-loop
+put-answer-requires c κs = search needs
+
+end-line-requires : tie.Need-end-line-requires Inv-loop μ-loop
+end-line-requires c κs = search needs
+
+add-day : tie.Need-add-day Inv-loop μ-loop
+add-day c = search needs
+
+loop-less : tie.Need-loop-less Inv-loop μ-loop
+loop-less c = search needs
+
+loop-again : tie.Need-loop-again Inv-loop μ-loop
+loop-again c = search needs
+
+returns : tie.Need-returns Inv-loop μ-loop
+returns c = search needs
+
+pub closing-lines-spec : {M : Type 1} → statement M
+closing-lines-spec =
+    tie.close
+    (tie.spec
+    Inv-loop
+    μ-loop
+    loop-holds
+    slice-aggregate-start-line
+    start-line-requires
+    put-requires
+    trades-with-closed-requires
+    put-answer-requires
+    end-line-requires
+    add-day
+    loop-less
+    loop-again
+    returns)

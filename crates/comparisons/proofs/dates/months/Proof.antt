@@ -1,0 +1,85 @@
+use Prim.Native.Nat.{_-_, _≤_}
+use borrow.Author.Needs.{needs}
+use Rattle.comparisons.proofs.dates.months.Statement.{statement}
+use Rattle.comparisons.proofs.dates.months.Tie as tie
+
+abbrev Inv-loop : tie.InvT-loop
+Inv-loop k₀ t3 k = k ≤ 1200
+
+abbrev μ-loop : tie.MeasureT-loop
+μ-loop k₀ t3 k = 1200 - k
+
+loop-holds : tie.Need-loop-holds Inv-loop μ-loop
+loop-holds c = search needs
+
+first-day-requires : tie.Need-first-day-requires Inv-loop μ-loop
+first-day-requires c κs = search needs
+
+slice-aggregate-start-line : tie.Need-slice-aggregate-start-line Inv-loop μ-loop
+slice-aggregate-start-line c = search needs
+
+start-line-requires : tie.Need-start-line-requires Inv-loop μ-loop
+start-line-requires c κs = search needs
+
+put-requires : tie.Need-put-requires Inv-loop μ-loop
+put-requires c κs = search needs
+
+put-requires-2 : tie.Need-put-requires-2 Inv-loop μ-loop
+put-requires-2 c κs = search needs
+
+weekday-requires : tie.Need-weekday-requires Inv-loop μ-loop
+weekday-requires c κs = search needs
+
+put-requires-3 : tie.Need-put-requires-3 Inv-loop μ-loop
+put-requires-3 c κs = search needs
+
+add-month-length : tie.Need-add-month-length Inv-loop μ-loop
+add-month-length c = search needs
+
+add-month-length-2 : tie.Need-add-month-length-2 Inv-loop μ-loop
+add-month-length-2 c = search needs
+
+month-length-requires : tie.Need-month-length-requires Inv-loop μ-loop
+month-length-requires c κs = search needs
+
+put-requires-4 : tie.Need-put-requires-4 Inv-loop μ-loop
+put-requires-4 c κs = search needs
+
+end-line-requires : tie.Need-end-line-requires Inv-loop μ-loop
+end-line-requires c κs = search needs
+
+add-k : tie.Need-add-k Inv-loop μ-loop
+add-k c = search needs
+
+loop-less : tie.Need-loop-less Inv-loop μ-loop
+loop-less c = search needs
+
+loop-again : tie.Need-loop-again Inv-loop μ-loop
+loop-again c = search needs
+
+returns : tie.Need-returns Inv-loop μ-loop
+returns c = search needs
+
+pub months-spec : {M : Type 1} → statement M
+months-spec =
+    tie.close
+    (tie.spec
+    Inv-loop
+    μ-loop
+    loop-holds
+    first-day-requires
+    slice-aggregate-start-line
+    start-line-requires
+    put-requires
+    put-requires-2
+    weekday-requires
+    put-requires-3
+    add-month-length
+    add-month-length-2
+    month-length-requires
+    put-requires-4
+    end-line-requires
+    add-k
+    loop-less
+    loop-again
+    returns)

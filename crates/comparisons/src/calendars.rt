@@ -1,0 +1,132 @@
+// The calendar functions on covers of several lengths with patterns of closures.
+use crate::text::end_line;
+use crate::text::put;
+use crate::text::put_answer;
+use crate::text::start_line;
+use calendar::Calendar;
+use calendar::Cover;
+ghost use Prim.Native.Nat.{_<_, _≤_};
+
+// Whether a pattern of closures has the day, a Monday to Friday.
+fn in_pattern(cover: Cover, pattern: u16, day: u16) -> bool
+    requires { ⌜ day < 36525 ⌝ }
+{
+    if pattern == 1 {
+        return day % 11 == 3;
+    }
+    if pattern == 2 {
+        let n = days::day_in_year(day);
+        return (70 <= n) & (n <= 79);
+    }
+    if pattern == 3 {
+        return (day < calendar::cover_start(cover) + 4) | (calendar::cover_end(cover) <= day + 4);
+    }
+    false
+}
+
+fn closed_if(cal: Calendar, pattern: u16, day: u16) -> Calendar
+    requires { ⌜ day < 36525 ⌝ }
+{
+    if 5 <= days::weekday(day) {
+        return cal;
+    }
+    if in_pattern(cal.cover, pattern, day) {
+        return calendar::close_day(cal, day);
+    }
+    cal
+}
+
+// The calendar of a cover with a pattern of closures.
+fn closed_by(cover: Cover, pattern: u16) -> Calendar {
+    let closed = [0u8; 736];
+    let mut cal = Calendar { cover, closed };
+    let end = calendar::cover_end(cover);
+    let mut day = calendar::cover_start(cover);
+    while day < end {
+        cal = closed_if(cal, pattern, day);
+        day += 1;
+    }
+    cal
+}
+
+// What is asked of one day.
+fn day_line(cal: Calendar, day: u16) {
+    start_line(b"T");
+    put(day);
+    put_answer(calendar::in_cover(cal.cover, day));
+    put_answer(calendar::is_closed(cal, day));
+    put_answer(calendar::is_trading_day(cal, day));
+    put(calendar::latest_trading_day(cal, day));
+    put(calendar::nth_trading_day(cal, day, 1));
+    put(calendar::nth_trading_day(cal, day, 3));
+    end_line();
+}
+
+fn day_lines(cal: Calendar, from: u16, to: u16, step: u16)
+    requires { ⌜ (1 ≤ step) × (step < 100) × (to < 40000) ⌝ }
+{
+    let mut day = from;
+    while day <= to {
+        day_line(cal, day);
+        day += step;
+    }
+}
+
+// Question 15 of one day.
+fn closing_lines(cal: Calendar, from: u16, to: u16, step: u16)
+    requires { ⌜ (1 ≤ step) × (step < 100) × (to < 40000) ⌝ }
+{
+    let mut day = from;
+    while day <= to {
+        start_line(b"X");
+        put(day);
+        put_answer(calendar::trades_with_closed(cal, day));
+        end_line();
+        day += step;
+    }
+}
+
+fn header(cal: Calendar, index: u16) {
+    let cover = cal.cover;
+    start_line(b"K");
+    put(index);
+    put(cover.first_year);
+    put(cover.years);
+    put_answer(calendar::is_valid_cover(cover));
+    put_answer(calendar::is_clean(cal));
+    put_answer(calendar::every_week_trades(cal));
+    end_line();
+}
+
+fn ten_before(day: u16) -> u16 {
+    if day < 10 { 0 } else { day - 10 }
+}
+
+fn one(cover: Cover, index: u16, pattern: u16, step: u16)
+    requires { ⌜ (1 ≤ step) × (step < 10) ⌝ }
+{
+    let cal = closed_by(cover, pattern);
+    let from = ten_before(calendar::cover_start(cover));
+    let to = calendar::cover_end(cover) + 9;
+    header(cal, index);
+    day_lines(cal, from, to, 5 * step);
+    closing_lines(cal, from, to, 7 * step);
+}
+
+// The four patterns of a cover.
+fn cover(first_year: u16, years: u16, index: u16, step: u16)
+    requires { ⌜ (index < 100) × (1 ≤ step) × (step < 10) ⌝ }
+{
+    let c = Cover { first_year, years };
+    for pattern in 0..4u16 {
+        one(c, index + pattern, pattern, step);
+    }
+}
+
+pub fn print() {
+    cover(2000, 1, 0, 1);
+    cover(2008, 3, 4, 1);
+    cover(2015, 1, 8, 1);
+    cover(2084, 16, 12, 9);
+    cover(2099, 1, 16, 1);
+}

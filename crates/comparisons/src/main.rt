@@ -1,0 +1,9 @@
+// Prints what the libraries answer to many inputs, section by section. The second program writes the same text.
+mod calendars;
+mod dates;
+mod text;
+
+fn main() {
+    dates::print();
+    calendars::print();
+}

@@ -1,0 +1,21 @@
+use Rattle.days.proofs.Table.{first-at}
+use Rattle.days.proofs.Months.{first-in, first-out}
+use mathlib.Core.Path.{_∙_, sym}
+use borrow.Author.Needs.{needs}
+use Rattle.days.proofs.first_day.Statement.{statement}
+use Rattle.days.proofs.first_day.Tie as tie
+
+returns : tie.Need-returns
+returns c = sym (first-out _ (c .if1 .taken))
+
+mul-result : tie.Need-mul-result
+mul-result c = search needs
+
+array-read-result : tie.Need-array-read-result
+array-read-result c = search needs
+
+returns-2 : tie.Need-returns-2
+returns-2 c = first-at _ (c .if1 .left) ∙ sym (first-in _ (c .if1 .left))
+
+pub first-day-spec : {M : Type 1} → statement M
+first-day-spec = tie.close (tie.spec returns mul-result array-read-result returns-2)

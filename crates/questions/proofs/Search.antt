@@ -1,0 +1,155 @@
+-- Laws of the tests over runs of numbers.
+-- Assumes nothing.
+use mathlib.Core.Path.{_≡_, refl, _∙_, sym, ap}
+use mathlib.Core.Bool.{Bool, true, false, _&&_, cond}
+use mathlib.Core.Logic.{_⊎_, inl, inr}
+use Prim.Native.Nat.{ℕ, zero, suc, _+_, _-_, _≤_, _<_}
+use native.Mathlib.Nat.{le-refl, eq-or-lt-of-le, le-of-suc-le-suc}
+use native.Mathlib.Numerals.{add-one}
+use native.Mathlib.Omega.{arith}
+use Rattle.questions.specs.Search.{every, some, latest, firstFrom}
+use Rattle.questions.proofs.Bools.{clash, both, and-both, or-left, or-right, or-either, is-false, lt-or-ge}
+
+module _ (f : ℕ → Bool) where
+  pub every-none : every 0 f ≡ true
+  unfolding every
+  every-none = refl
+
+  pub every-more : (n : ℕ) → every n f ≡ true → f n ≡ true → every (n + 1) f ≡ true
+  unfolding every
+  every-more n a b = rw (add-one, a, b)
+
+  pub every-at : (n k : ℕ) → every n f ≡ true → k < n → f k ≡ true
+  unfolding every
+  every-at zero k e h = absurd (omega arith)
+  every-at (suc n) k e h = go (eq-or-lt-of-le (le-of-suc-le-suc h)) (λ l. every-at n k (both (every n f) (f n) e .0) l)
+    where
+      go : (k ≡ n) ⊎ (k < n) → (k < n → f k ≡ true) → f k ≡ true
+      go (inl q) ih = ap f q ∙ both (every n f) (f n) e .1
+      go (inr l) ih = ih l
+
+  -- one that fails
+  pub every-not : (n k : ℕ) → f k ≡ false → k < n → every n f ≡ false
+  every-not n k e h = is-false (every n f) (λ t. clash (every-at n k t h) e)
+
+  pub every-all : (n : ℕ) → ((k : ℕ) → k < n → f k ≡ true) → every n f ≡ true
+  unfolding every
+  every-all zero h = refl
+  every-all (suc n) h = and-both (every-all n (λ k l. h k (omega arith))) (h n (le-refl (suc n)))
+
+  pub some-at : (n k : ℕ) → f k ≡ true → k < n → some n f ≡ true
+  unfolding some
+  some-at zero k e h = absurd (omega arith)
+  some-at (suc n) k e h = go (eq-or-lt-of-le (le-of-suc-le-suc h)) (λ l. some-at n k e l)
+    where
+      go : (k ≡ n) ⊎ (k < n) → (k < n → some n f ≡ true) → some (suc n) f ≡ true
+      go (inl q) ih = or-right (some n f) (ap f (sym q) ∙ e)
+      go (inr l) ih = or-left (f n) (ih l)
+
+  -- a number that passes
+  pub record Passing (n : ℕ) : Type 0 where
+    pub at : ℕ
+    pub below : at < n
+    pub passes : f at ≡ true
+
+  pub some-one : (n : ℕ) → some n f ≡ true → Passing n
+  unfolding some
+  some-one zero e = clash e refl
+  some-one (suc n) e = go (or-either (some n f) (f n) e) (λ q. some-one n q)
+    where
+      go : (some n f ≡ true) ⊎ (f n ≡ true) → (some n f ≡ true → Passing n) → Passing (suc n)
+      go (inl q) ih = let p = ih q in record { at = p .at; below = omega arith; passes = p .passes }
+      go (inr q) ih = record { at = n; below = le-refl (suc n); passes = q }
+
+  pub latest-here : (d : ℕ) → f d ≡ true → latest f d ≡ d
+  unfolding latest
+  latest-here zero e = refl
+  latest-here (suc d) e = rw e
+
+  pub latest-zero : (d : ℕ) → d ≤ 0 → latest f d ≡ 0
+  unfolding latest
+  latest-zero zero h = refl
+  latest-zero (suc d) h = absurd (omega arith)
+
+  below : (d : ℕ) → f (suc d) ≡ false → latest f (suc d) ≡ latest f d
+  unfolding latest
+  below d e = rw e
+
+  pub latest-back : (d : ℕ) → 0 < d → f d ≡ false → latest f (d - 1) ≡ latest f d
+  latest-back zero l e = absurd (omega arith)
+  latest-back (suc d) l e =
+      let q : suc d - 1 ≡ d = omega arith in
+      ap (latest f) q ∙ sym (below d e)
+
+  pub latest-le : (d : ℕ) → latest f d ≤ d
+  unfolding latest
+  latest-le zero = le-refl 0
+  latest-le (suc d) = go (f (suc d)) (latest-le d)
+    where
+      go : (b : Bool) → latest f d ≤ d → cond b (suc d) (latest f d) ≤ suc d
+      go true h = le-refl (suc d)
+      go false h = omega arith
+
+  -- none that passes, up to d, is later
+  pub latest-ge : (d t : ℕ) → t ≤ d → f t ≡ true → t ≤ latest f d
+  latest-ge zero t h e = omega arith
+  latest-ge (suc d) t h e = go (f (suc d)) refl (eq-or-lt-of-le h) (λ k. latest-ge d t k e)
+    where
+      go : (b : Bool) → f (suc d) ≡ b → (t ≡ suc d) ⊎ (t < suc d) → (t ≤ d → t ≤ latest f d) → t ≤ latest f (suc d)
+      go true q s ih = omega (arith, latest-here (suc d) q)
+      go false q (inl s) ih = clash (ap f (sym s) ∙ e) q
+      go false q (inr s) ih = omega (arith, below d q, ih (le-of-suc-le-suc s))
+
+  -- the latest passes, where it is not 0
+  pub latest-passes : (d : ℕ) → 0 < latest f d → f (latest f d) ≡ true
+  latest-passes zero h = absurd (omega (arith, latest-zero 0 (le-refl 0)))
+  latest-passes (suc d) h = go (f (suc d)) refl (latest-passes d)
+    where
+      go : (b : Bool) → f (suc d) ≡ b → (0 < latest f d → f (latest f d) ≡ true) → f (latest f (suc d)) ≡ true
+      go true q ih = ap f (latest-here (suc d) q) ∙ q
+      go false q ih = ap f (below d q) ∙ ih (omega (arith, below d q))
+
+  module _ (none : ℕ) where
+    pub first-none : (d : ℕ) → firstFrom f none 0 d ≡ none
+    unfolding firstFrom
+    first-none d = refl
+
+    pub first-here : (n d : ℕ) → 0 < n → f d ≡ true → firstFrom f none n d ≡ d
+    unfolding firstFrom
+    first-here zero d h e = absurd (omega arith)
+    first-here (suc n) d h e = rw e
+
+    pub first-next : (n d : ℕ) → 0 < n → f d ≡ false → firstFrom f none n d ≡ firstFrom f none (n - 1) (d + 1)
+    unfolding firstFrom
+    first-next zero d h e = absurd (omega arith)
+    first-next (suc n) d h e =
+        let q : suc n - 1 ≡ n = omega arith in
+        rw (e, q, add-one)
+
+-- a number that does not pass
+pub record Failing (f : ℕ → Bool) (n : ℕ) : Type 0 where
+  pub at : ℕ
+  pub below : at < n
+  pub fails : f at ≡ false
+
+pub every-one : (f : ℕ → Bool) (n : ℕ) → every n f ≡ false → Failing f n
+unfolding every
+every-one f zero e = clash refl e
+every-one f (suc n) e = go (every n f) refl e (every-one f n)
+  where
+    go : (b : Bool) → every n f ≡ b → (b && f n) ≡ false → (every n f ≡ false → Failing f n) → Failing f (suc n)
+    go true q e ih = record { at = n; below = le-refl (suc n); fails = e }
+    go false q e ih = let p = ih q in record { at = p .at; below = omega arith; fails = p .fails }
+
+-- one run after another
+pub every-add : (f : ℕ → Bool) (m n : ℕ) → every m f ≡ true → every n (λ j. f (m + j)) ≡ true → every (m + n) f ≡ true
+every-add f m n a b = every-all f (m + n) each
+  where
+    each : (k : ℕ) → k < m + n → f k ≡ true
+    each k h = side (lt-or-ge k m)
+      where
+        side : (k < m) ⊎ (m ≤ k) → f k ≡ true
+        side (inl l) = every-at f m k a l
+        side (inr l) =
+            let e : k ≡ m + (k - m) = omega arith in
+            ap f e ∙ every-at (λ j. f (m + j)) n (k - m) b (omega arith)

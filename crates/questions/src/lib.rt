@@ -1,0 +1,1 @@
+// Definitions and laws only: numbered questions, and tests over runs of numbers.

@@ -1,0 +1,75 @@
+"""The book of demand 3 (01, "The table"). It knows nothing of table.py."""
+
+from second import listing, trading
+
+
+# 01, The table: "It holds a calendar, a date, maturities (month, day, number),
+# the count given and the months that left."
+class Book:
+
+    # 01, The table: "fed the opened product's kind and group, the file's
+    # calendar and the opening's date"; "It starts with the fresh listing,
+    # numbered 1, 2, .. by rising month; given is its length, and no month has
+    # left."
+    def __init__(self, kind, group, calendar, date):
+        self.kind = kind
+        self.group = group
+        self.calendar = calendar
+        self.date = date
+        fresh = listing.fresh_listing(calendar, group, kind, date)
+        self.maturities = [(month, day, place + 1)
+                           for place, (month, day) in enumerate(fresh)]
+        self.given = len(fresh)
+        self.left = []
+
+    # 01, question 16, "asked with the date and calendar that the call would
+    # leave".
+    def _fits(self, calendar, date):
+        return listing.listing_in_cover(calendar, self.group, self.kind, date)
+
+    # 01, The table: "The fresh listing then replaces the old. A month in both
+    # keeps its number; a new one has entered and takes the next number after
+    # given, by rising month; given grows by the entered. A month only in the
+    # old one joins those that left." The accepted call's answer: (0, entered,
+    # left).
+    def _accept(self, calendar, date):
+        fresh = dict(listing.fresh_listing(calendar, self.group, self.kind, date))
+        numbers = {month: number for month, _, number in self.maturities}
+        entered = sorted(fresh.keys() - numbers.keys())
+        left = sorted(numbers.keys() - fresh.keys())
+        for place, month in enumerate(entered):
+            numbers[month] = self.given + 1 + place
+        self.calendar = calendar
+        self.date = date
+        self.maturities = [(month, fresh[month], numbers[month])
+                           for month in sorted(fresh)]
+        self.given += len(entered)
+        self.left += left
+        return 0, len(entered), len(left)
+
+    # 01, The table: "A roll or close asks the book its questions except 10 [..]
+    # At a no, the book stays as it is and answers that question's number,
+    # counts 0 and 0." Roll: 11, 12, 16; "roll sets the date".
+    def roll(self, date):
+        if not trading.in_cover(self.calendar, date):
+            return 11, 0, 0
+        if date < self.date:
+            return 12, 0, 0
+        if not self._fits(self.calendar, date):
+            return 16, 0, 0
+        return self._accept(self.calendar, date)
+
+    # The same for close: 11, 13 to 16; "close marks the day closed".
+    def close(self, day):
+        if not trading.in_cover(self.calendar, day):
+            return 11, 0, 0
+        if not day > self.date:
+            return 13, 0, 0
+        if not trading.is_trading_day(self.calendar, day):
+            return 14, 0, 0
+        if not trading.every_week_trades_without(self.calendar, day):
+            return 15, 0, 0
+        closed = trading.close_day(self.calendar, day)
+        if not self._fits(closed, self.date):
+            return 16, 0, 0
+        return self._accept(closed, self.date)

@@ -1,0 +1,93 @@
+"""Last trading days and listed months (01, "Last trading day", "Listed
+months", question 16)."""
+
+from second import dates, product, trading
+
+# 01, Listed months: the months of the year that each of the four steps takes.
+SETS = (
+    (1, 2, 3, 4, 5, 6, 7, 8, 9, 10, 11, 12),
+    (3, 6, 9, 12),
+    (6, 12),
+    (12,),
+)
+
+# 01, Listed months: "the counts stand in four rows of four", one row for each
+# kind, one count for each step.
+COUNTS = (
+    (13, 0, 0, 2),
+    (3, 3, 0, 0),
+    (3, 3, 2, 0),
+    (3, 3, 4, 2),
+)
+
+
+# 01, Last trading day: the "third Friday" of a month: the Friday from the 15th
+# to the 21st.
+def third_friday(month):
+    fifteenth = dates.first_day_of_month(month) + 14
+    for day in range(fifteenth, fifteenth + 7):
+        if dates.weekday(day) == dates.FRIDAY:
+            return day
+
+
+# 01, Last trading day: "The anchor of a month is its third Friday; for the
+# groups IT01 and IT11 the day before that".
+def anchor(group, month):
+    if product.is_italian(group):
+        return third_friday(month) - 1
+    return third_friday(month)
+
+
+# 01, Last trading day: "The last trading day is the anchor if it is a trading
+# day, else the latest trading day before it." The month lies in the cover.
+def last_trading_day(calendar, group, month):
+    return trading.latest_trading_day(calendar, anchor(group, month))
+
+
+# Whether a month lies beyond the cover.
+def is_beyond(calendar, month):
+    return month > trading.last_month(calendar)
+
+
+# 01, Listed months: "The front month on a date is the first month, from the
+# date's own month on, whose last trading day is not before the date." The
+# answer may be the month after the cover's last one.
+def front_month(calendar, group, date):
+    month = dates.month_of(date)
+    while not is_beyond(calendar, month):
+        day = last_trading_day(calendar, group, month)
+        if day is not None and day >= date:
+            return month
+        month += 1
+    return month
+
+
+# 01, Listed months: "Step one takes the front month and those after it; each
+# later step takes the next months of its set that follow the last month taken.
+# Listing stops [..] as soon as a month lies beyond the cover". The answer: the
+# months taken, and whether no month lay beyond the cover.
+def listed_months(calendar, group, kind, date):
+    taken = []
+    month = front_month(calendar, group, date)
+    for months_of_set, count in zip(SETS, COUNTS[kind]):
+        left = count
+        while left > 0:
+            if is_beyond(calendar, month):
+                return taken, False
+            if month % 12 + 1 in months_of_set:
+                taken.append(month)
+                left -= 1
+            month += 1
+    return taken, True
+
+
+# 01, The table: "the fresh listing": pairs of month and last trading day by
+# rising month; months beyond the cover are left out.
+def fresh_listing(calendar, group, kind, date):
+    months, _ = listed_months(calendar, group, kind, date)
+    return [(month, last_trading_day(calendar, group, month)) for month in months]
+
+
+# 01, question 16: "Are all months of the fresh listing in the cover?"
+def listing_in_cover(calendar, group, kind, date):
+    return listed_months(calendar, group, kind, date)[1]

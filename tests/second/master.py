@@ -1,0 +1,334 @@
+"""The master file: building it, with damage for tests, judging it (questions 1
+to 9) and reading it (01, "Master file")."""
+
+import csv
+from functools import lru_cache
+
+from second import dates, product, trading
+from second.product import Product
+from second.trading import Calendar
+
+BLOCK = 512
+FILE_AT_LEAST = 1024
+FILE_AT_MOST = 65536
+CALENDAR = 1
+PRODUCTS = 2
+VERSION = 1
+HEADER = 16
+RECORD = 32
+RECORDS_AT_MOST = 15
+RECORDS_END = 496
+CHECK = 510
+CHECK_MODULUS = 65521
+MAP_END = HEADER + trading.BYTES_PER_YEAR
+
+
+# ---- Building a file ----
+
+# 01, Master file: "the check, the sum of (i + 1) × byte i over i = 0..509, mod
+# 65,521".
+def check_of(block):
+    return sum((i + 1) * block[i] for i in range(CHECK)) % CHECK_MODULUS
+
+
+# Two bytes, big-endian.
+def two_bytes(number):
+    return number.to_bytes(2, 'big')
+
+
+# 01, Master file: a block of a kind, with the header's number (year or count of
+# records), its index and the bytes from 16 on; the check is written last.
+def block_of(kind, number, index, content):
+    block = bytearray(BLOCK)
+    block[0] = kind
+    block[1] = VERSION
+    block[2:4] = two_bytes(number)
+    block[4:6] = two_bytes(index)
+    block[HEADER:HEADER + len(content)] = content
+    block[CHECK:] = two_bytes(check_of(block))
+    return bytes(block)
+
+
+# 01, Master file: the 32 bytes of a record.
+def record_of(item):
+    fields = (item.id + item.group + item.market + bytes([item.kind])
+              + two_bytes(item.size) + two_bytes(item.tick) + item.currency)
+    return fields + bytes(RECORD - len(fields))
+
+
+# A whole file from a calendar and a list of products, per_block records in each
+# product block but perhaps the last; then the damages are done to it in order,
+# each a tuple of a name in DAMAGES and its arguments.
+def build(calendar, products, per_block=RECORDS_AT_MOST, damages=()):
+    file = bytearray()
+    rows = calendar.to_map()
+    for k in range(calendar.years):
+        row = rows[trading.BYTES_PER_YEAR * k:trading.BYTES_PER_YEAR * (k + 1)]
+        file += block_of(CALENDAR, calendar.first_year + k, k, row)
+    for start in range(0, len(products), per_block):
+        part = products[start:start + per_block]
+        content = b''.join(record_of(item) for item in part)
+        file += block_of(PRODUCTS, len(part), len(file) // BLOCK, content)
+    for name, *arguments in damages:
+        DAMAGES[name](file, *arguments)
+    return bytes(file)
+
+
+# Writes the right check into a block of a file.
+def seal(file, index):
+    start = BLOCK * index
+    block = file[start:start + BLOCK]
+    file[start + CHECK:start + BLOCK] = two_bytes(check_of(block))
+
+
+# Writes the right index and check into every block of a file.
+def renumber(file):
+    for index in range(len(file) // BLOCK):
+        file[BLOCK * index + 4:BLOCK * index + 6] = two_bytes(index)
+        seal(file, index)
+
+
+# Damage: other bytes from a place in a block on, the check made right again.
+def damage_bytes(file, index, offset, data):
+    damage_bytes_only(file, index, offset, data)
+    seal(file, index)
+
+
+# Damage: other bytes from a place in a block on, the check left as it is.
+def damage_bytes_only(file, index, offset, data):
+    start = BLOCK * index + offset
+    file[start:start + len(data)] = data
+
+
+# Damage: a number is added to the stored check; the sum fits in two bytes.
+def damage_check(file, index, added):
+    start = BLOCK * index + CHECK
+    stored = int.from_bytes(file[start:start + 2], 'big')
+    file[start:start + 2] = two_bytes(stored + added)
+
+
+# Damage: the file is cut to a length, or filled up to it with zeros.
+def damage_length(file, length):
+    file[length:] = bytes(max(0, length - len(file)))
+
+
+# Damage: two blocks change places; indices and checks are made right again.
+def damage_exchange(file, one, other):
+    first = bytes(file[BLOCK * one:BLOCK * (one + 1)])
+    file[BLOCK * one:BLOCK * (one + 1)] = file[BLOCK * other:BLOCK * (other + 1)]
+    file[BLOCK * other:BLOCK * (other + 1)] = first
+    renumber(file)
+
+
+# Damage: a block is left out; indices and checks are made right again.
+def damage_drop(file, index):
+    del file[BLOCK * index:BLOCK * (index + 1)]
+    renumber(file)
+
+
+# Damage: a block stands twice; indices and checks are made right again.
+def damage_repeat(file, index):
+    end = BLOCK * (index + 1)
+    file[end:end] = file[BLOCK * index:end]
+    renumber(file)
+
+
+DAMAGES = {
+    'bytes': damage_bytes,
+    'bytes only': damage_bytes_only,
+    'check': damage_check,
+    'length': damage_length,
+    'exchange': damage_exchange,
+    'drop': damage_drop,
+    'repeat': damage_repeat,
+}
+
+
+# The calendar of a cover from a list of closed days in CSV (one column, date);
+# days outside the cover are left out.
+def calendar_from_csv(lines, first_year, years):
+    empty = Calendar(first_year, years, frozenset())
+    days = [dates.day_of(*map(int, row['date'].split('-')))
+            for row in csv.DictReader(lines)]
+    return Calendar(first_year, years,
+                    frozenset(day for day in days if trading.in_cover(empty, day)))
+
+
+# The products of a list in CSV (id, group, market, kind, size, tick, currency).
+def products_from_csv(lines):
+    return [Product(row['id'].encode('ascii').ljust(4), row['group'].encode('ascii'),
+                    row['market'].encode('ascii'), int(row['kind']),
+                    int(row['size']), int(row['tick']), row['currency'].encode('ascii'))
+            for row in csv.DictReader(lines)]
+
+
+# ---- Reading a file ----
+
+# 01, Master file: "Blocks of 512 bytes".
+def blocks_of(file):
+    return [file[start:start + BLOCK] for start in range(0, len(file), BLOCK)]
+
+
+# 01, Master file: "Bytes 2–3: the year, or the count of records".
+def number_of(block):
+    return int.from_bytes(block[2:4], 'big')
+
+
+# The blocks of a kind, in the file's order.
+def blocks_of_kind(file, kind):
+    return [block for block in blocks_of(file) if block[0] == kind]
+
+
+# 01, Master file: a record's place, "record k (from 0) at 16 + 32 × k".
+def record_at(block, k):
+    return block[HEADER + RECORD * k:HEADER + RECORD * (k + 1)]
+
+
+# The fields of a record.
+def product_of(record):
+    return Product(record[0:4], record[4:8], record[8:12], record[12],
+                   int.from_bytes(record[13:15], 'big'),
+                   int.from_bytes(record[15:17], 'big'), record[17:20])
+
+
+# The calendar of a file that questions 1 to 4 accept.
+def read_calendar(file):
+    blocks = blocks_of_kind(file, CALENDAR)
+    rows = b''.join(block[HEADER:MAP_END] for block in blocks)
+    return Calendar.from_map(number_of(blocks[0]), len(blocks), rows)
+
+
+# The used records of a file that questions 1 to 4 accept, in the file's order.
+def read_records(file):
+    return [record_at(block, k) for block in blocks_of_kind(file, PRODUCTS)
+            for k in range(number_of(block))]
+
+
+# The products of a file that questions 1 to 4 accept, in the file's order.
+def read_products(file):
+    return [product_of(record) for record in read_records(file)]
+
+
+# ---- Judging a file ----
+
+# 01, question 1: "Is the length a multiple of 512, from 1,024 to 65,536?"
+def length_is_right(file):
+    return len(file) % BLOCK == 0 and FILE_AT_LEAST <= len(file) <= FILE_AT_MOST
+
+
+# 01, question 2: "Is every check right?"
+def checks_are_right(file):
+    return all(int.from_bytes(block[CHECK:], 'big') == check_of(block)
+               for block in blocks_of(file))
+
+
+# 01, Master file, bytes 0 to 15 of one block.
+def header_is_right(block, index):
+    if block[0] == CALENDAR:
+        number_is_right = dates.FIRST_YEAR <= number_of(block) <= dates.LAST_YEAR
+    else:
+        number_is_right = 1 <= number_of(block) <= RECORDS_AT_MOST
+    return (block[0] in (CALENDAR, PRODUCTS) and block[1] == VERSION
+            and number_is_right
+            and int.from_bytes(block[4:6], 'big') == index
+            and not any(block[6:HEADER]))
+
+
+# 01, question 3: "Is every header, bytes 0–15, right (year 2000–2099)?"
+def headers_are_right(file):
+    return all(header_is_right(block, index)
+               for index, block in enumerate(blocks_of(file)))
+
+
+# 01, question 4: "Do 1 to 16 calendar blocks of consecutive rising years come
+# first, then at least one product block and no other kind?"
+def order_is_right(file):
+    kinds = [block[0] for block in blocks_of(file)]
+    years = [number_of(block) for block in blocks_of_kind(file, CALENDAR)]
+    products = len(kinds) - len(years)
+    return (1 <= len(years) <= trading.YEARS_AT_MOST
+            and products >= 1
+            and kinds == [CALENDAR] * len(years) + [PRODUCTS] * products
+            and years == list(range(years[0], years[0] + len(years))))
+
+
+# 01, question 5: "Is every calendar block clean as stated?": "Weekend bits,
+# bits after the year's end and bytes 62–509 are zero."
+def calendar_blocks_are_clean(file):
+    return all(trading.map_is_clean(number_of(block), 1, block[HEADER:MAP_END])
+               and not any(block[MAP_END:CHECK])
+               for block in blocks_of_kind(file, CALENDAR))
+
+
+# 01, question 6: "Does every run of seven days in the cover hold a trading
+# day?"
+def weeks_are_right(file):
+    return trading.every_week_trades(read_calendar(file))
+
+
+# 01, question 7, for one used record: its fields, and bytes "20–31 zero".
+def record_is_right(record):
+    return product.fields_are_right(product_of(record)) and not any(record[20:])
+
+
+# 01, question 7: "Is every record, and all that must be zero in its block, as
+# stated?": "Unused records and bytes 496–509 are zero."
+def product_blocks_are_right(file):
+    return (all(record_is_right(record) for record in read_records(file))
+            and not any(any(block[HEADER + RECORD * number_of(block):CHECK])
+                        for block in blocks_of_kind(file, PRODUCTS)))
+
+
+# 01, question 8: "Do the ids strictly rise, byte by byte, over the file?"
+def ids_rise(file):
+    ids = [item.id for item in read_products(file)]
+    return all(one < next_one for one, next_one in zip(ids, ids[1:]))
+
+
+FILE_QUESTIONS = (
+    (1, length_is_right),
+    (2, checks_are_right),
+    (3, headers_are_right),
+    (4, order_is_right),
+    (5, calendar_blocks_are_clean),
+    (6, weeks_are_right),
+    (7, product_blocks_are_right),
+    (8, ids_rise),
+)
+
+
+# 01, Questions: "Load [..] asks 1–8, each over the whole file"; "the number of
+# the first answered no", or 0.
+@lru_cache(maxsize=64)
+def file_refusal(file):
+    for number, question in FILE_QUESTIONS:
+        if not question(file):
+            return number
+    return 0
+
+
+# 01, Questions: "Load (returns the counts of years and of records)": (number,
+# years, records).
+def load(file):
+    number = file_refusal(file)
+    if number:
+        return number, 0, 0
+    return 0, len(blocks_of_kind(file, CALENDAR)), len(read_records(file))
+
+
+# The calendar and the products of an accepted file, the products by id.
+@lru_cache(maxsize=64)
+def contents(file):
+    return read_calendar(file), {item.id: item for item in read_products(file)}
+
+
+# 01, Questions 1 to 9 of open: (number, calendar, product); "Open finds its
+# record by id, given as a record's four bytes".
+def find(file, code):
+    number = file_refusal(file)
+    if number:
+        return number, None, None
+    calendar, products = contents(file)
+    if code not in products:
+        return 9, None, None
+    return 0, calendar, products[code]

@@ -1,0 +1,109 @@
+"""Kinds, product fields, settlement days, tick and cash (01, "Master file",
+"Due day, tick, cash", question 7)."""
+
+from dataclasses import dataclass
+
+FUTURE = 0
+OPTION_12 = 1
+OPTION_24 = 2
+OPTION_60 = 3
+KINDS = (FUTURE, OPTION_12, OPTION_24, OPTION_60)
+
+LETTERS = frozenset(b'ABCDEFGHIJKLMNOPQRSTUVWXYZ')
+DIGITS = frozenset(b'0123456789')
+TICKS = (1, 5, 10, 100)
+CURRENCIES = (b'EUR', b'CHF', b'USD', b'GBP', b'GBX')
+PRICE_AT_MOST = 999_999_999
+CONTRACTS_AT_MOST = 100_000
+
+
+# 01, Master file: the fields of a record. id, group and market are 4 bytes,
+# currency is 3 bytes, kind, size and tick are numbers.
+@dataclass(frozen=True)
+class Product:
+    id: bytes
+    group: bytes
+    market: bytes
+    kind: int
+    size: int
+    tick: int
+    currency: bytes
+
+
+NO_PRODUCT = Product(bytes(4), bytes(4), bytes(4), 0, 0, 0, bytes(3))
+
+
+# 01, Listed months: "A product's kind is either a future or an option with one
+# of three terms." Question 21.
+def is_future(product):
+    return product.kind == FUTURE
+
+
+# 01, Master file: "product id, 1 to 4 of A–Z and 0–9, then spaces".
+def id_is_right(code):
+    name = code.rstrip(b' ')
+    return (len(code) == 4 and 1 <= len(name)
+            and all(byte in LETTERS or byte in DIGITS for byte in name))
+
+
+# 01, Master file: "group, two letters A–Z and two digits, the first digit 0 for
+# futures and 1 for options".
+def group_is_right(group, kind):
+    return (len(group) == 4
+            and group[0] in LETTERS and group[1] in LETTERS
+            and group[2:3] == (b'0' if kind == FUTURE else b'1')
+            and group[3] in DIGITS)
+
+
+# 01, Master file: "cash market, four letters A–Z".
+def market_is_right(market):
+    return len(market) == 4 and all(byte in LETTERS for byte in market)
+
+
+# 01, question 7, for the fields of one product.
+def fields_are_right(product):
+    return (id_is_right(product.id)
+            and product.kind in KINDS
+            and group_is_right(product.group, product.kind)
+            and market_is_right(product.market)
+            and 1 <= product.size <= 65_535
+            and product.tick in TICKS
+            and product.currency in CURRENCIES)
+
+
+# 01, Last trading day: "for the groups IT01 and IT11".
+def is_italian(group):
+    return group in (b'IT01', b'IT11')
+
+
+# 01, Due day: "Futures: n = 1. Options: n = 2 for DE11 to DE14; 4 for FI11 to
+# FI14, GB11, IE11; else 3."
+def days_to_settlement(product):
+    if is_future(product):
+        return 1
+    if product.group in (b'DE11', b'DE12', b'DE13', b'DE14'):
+        return 2
+    if product.group in (b'FI11', b'FI12', b'FI13', b'FI14', b'GB11', b'IE11'):
+        return 4
+    return 3
+
+
+# 01, question 19: "Is the order or agreed price 1 to 999,999,999?"
+def price_in_range(price):
+    return 1 <= price <= PRICE_AT_MOST
+
+
+# 01, question 20: "Is it a multiple of the tick?"
+def is_multiple_of_tick(product, price):
+    return price % product.tick == 0
+
+
+# 01, question 22: "Is the final price 0 to 999,999,999 and are the contracts 1
+# to 100,000?"
+def final_and_contracts_in_range(final, contracts):
+    return 0 <= final <= PRICE_AT_MOST and 1 <= contracts <= CONTRACTS_AT_MOST
+
+
+# 01, Due day, tick, cash: "contracts × size × (final − agreed), signed".
+def cash_amount(product, contracts, final, agreed):
+    return contracts * product.size * (final - agreed)

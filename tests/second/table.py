@@ -1,0 +1,209 @@
+"""The table of listed maturities and its calls (01, "The table", "Questions").
+
+Every call answers first the number of the question that refused it, or 0.
+"""
+
+from dataclasses import dataclass, replace
+
+from second import listing, master, product, trading
+from second.product import NO_PRODUCT, Product
+from second.trading import Calendar
+
+PLACES = 15
+UNUSED = (0, 0, 0)
+
+
+# 01, The table: "It holds the product's fields, the calendar, the date, up to
+# 15 maturities by rising month (month, last trading day, listing number; unused
+# places zero) and the count of numbers given."
+@dataclass(frozen=True)
+class Table:
+    product: Product
+    calendar: Calendar
+    date: int
+    places: tuple
+    given: int
+
+
+# 01, Questions: "open: a table of zeros".
+ZERO_TABLE = Table(NO_PRODUCT, Calendar(0, 0, frozenset()), 0, (UNUSED,) * PLACES, 0)
+
+
+# The used places of a table.
+def maturities(table):
+    return [place for place in table.places if place != UNUSED]
+
+
+# The fresh listing of a table's product for its calendar and date.
+def fresh_listing(table):
+    return listing.fresh_listing(table.calendar, table.product.group,
+                                 table.product.kind, table.date)
+
+
+# 01, question 16, for a table's product, calendar and date.
+def listing_in_cover(table):
+    return listing.listing_in_cover(table.calendar, table.product.group,
+                                    table.product.kind, table.date)
+
+
+# 01, The table: "Both then hold the fresh listing; a month that was there keeps
+# its number, and months that enter take the next numbers by rising month. A
+# month left if the old table had it and the new has not." The table comes with
+# its new calendar and date and its old maturities. (table, entered, left).
+def relist(table):
+    old = {month: number for month, _, number in maturities(table)}
+    fresh = fresh_listing(table)
+    given = table.given
+    places = []
+    for month, day in fresh:
+        if month in old:
+            places.append((month, day, old[month]))
+        else:
+            given += 1
+            places.append((month, day, given))
+    left = len(set(old) - {month for month, _ in fresh})
+    entered = given - table.given
+    places += [UNUSED] * (PLACES - len(places))
+    return replace(table, places=tuple(places), given=given), entered, left
+
+
+# ---- Soundness ----
+
+# 01, The table: "its product fields and calendar satisfy questions 5, 6 and 7,
+# with 1 to 16 years from 2000 to 2099".
+def fields_are_sound(table):
+    calendar = table.calendar
+    return (trading.cover_fits(calendar)
+            and trading.is_clean(calendar)
+            and trading.every_week_trades(calendar)
+            and product.fields_are_right(table.product))
+
+
+# 01, The table: "its months and days are the fresh listing, all of it in the
+# cover, and unused places are zero".
+def places_are_sound(table):
+    fresh = fresh_listing(table)
+    used = [(month, day) for month, day, _ in table.places[:len(fresh)]]
+    unused = table.places[len(fresh):]
+    return (len(table.places) == PLACES and listing_in_cover(table)
+            and used == fresh and all(place == UNUSED for place in unused))
+
+
+# 01, The table: "its numbers are distinct, from 1 to the count given; and given
+# − listed is at least 0 and at most the number of cover months before the front
+# month".
+def numbers_are_sound(table):
+    fresh = fresh_listing(table)
+    numbers = [number for _, _, number in table.places[:len(fresh)]]
+    months_before = fresh[0][0] - trading.first_month(table.calendar)
+    return (len(set(numbers)) == len(numbers)
+            and all(1 <= number <= table.given for number in numbers)
+            and 0 <= table.given - len(fresh) <= months_before)
+
+
+# 01, question 10: "Is the table sound?"
+def is_sound(table):
+    return (fields_are_sound(table)
+            and trading.in_cover(table.calendar, table.date)
+            and places_are_sound(table)
+            and numbers_are_sound(table))
+
+
+# ---- Calls that give the table back: (number, table, entered, left) ----
+
+# 01, Questions: "Open: 1–9, 11, 16." "Open numbers the listed months 1, 2, ..
+# by rising month; entered is the months listed and left is 0."
+def open_table(file, code, date):
+    number, calendar, item = master.find(file, code)
+    if number:
+        return number, ZERO_TABLE, 0, 0
+    if not trading.in_cover(calendar, date):
+        return 11, ZERO_TABLE, 0, 0
+    empty = Table(item, calendar, date, (UNUSED,) * PLACES, 0)
+    if not listing_in_cover(empty):
+        return 16, ZERO_TABLE, 0, 0
+    return (0, *relist(empty))
+
+
+# 01, Questions: "Roll: 10, 11, 12, 16." "Roll sets the date it is given, a
+# later or equal one."
+def roll(table, date):
+    if not is_sound(table):
+        return 10, table, 0, 0
+    if not trading.in_cover(table.calendar, date):
+        return 11, table, 0, 0
+    if date < table.date:
+        return 12, table, 0, 0
+    moved = replace(table, date=date)
+    if not listing_in_cover(moved):
+        return 16, table, 0, 0
+    return (0, *relist(moved))
+
+
+# 01, Questions: "Close: 10, 11, 13–16." "Close marks one day closed."
+def close(table, day):
+    if not is_sound(table):
+        return 10, table, 0, 0
+    if not trading.in_cover(table.calendar, day):
+        return 11, table, 0, 0
+    if day <= table.date:
+        return 13, table, 0, 0
+    if not trading.is_trading_day(table.calendar, day):
+        return 14, table, 0, 0
+    if not trading.every_week_trades_without(table.calendar, day):
+        return 15, table, 0, 0
+    closed = replace(table, calendar=trading.close_day(table.calendar, day))
+    if not listing_in_cover(closed):
+        return 16, table, 0, 0
+    return (0, *relist(closed))
+
+
+# ---- Calls that give values ----
+
+# 01, Questions: "Last trading day of a listed month: 10, 18." (number, day).
+def last_trading_day(table, month):
+    if not is_sound(table):
+        return 10, 0
+    for listed, day, _ in maturities(table):
+        if listed == month:
+            return 0, day
+    return 18, 0
+
+
+# 01, Questions: "Due: 10, 11, 14, 17." "Due day: the n-th trading day after a
+# given trading day." (number, day).
+def due(table, day):
+    if not is_sound(table):
+        return 10, 0
+    if not trading.in_cover(table.calendar, day):
+        return 11, 0
+    if not trading.is_trading_day(table.calendar, day):
+        return 14, 0
+    n = product.days_to_settlement(table.product)
+    due_day = trading.nth_trading_day_after(table.calendar, day, n)
+    if due_day is None:
+        return 17, 0
+    return 0, due_day
+
+
+# 01, Questions: "Tick: 10, 19, 20." The number alone.
+def tick(table, price):
+    if not is_sound(table):
+        return 10
+    if not product.price_in_range(price):
+        return 19
+    if not product.is_multiple_of_tick(table.product, price):
+        return 20
+    return 0
+
+
+# 01, Questions: "Cash: 10, 19–22." (number, amount in 1/10,000 of the currency).
+def cash(table, contracts, agreed, final):
+    number = tick(table, agreed)
+    if number:
+        return number, 0
+    if not product.is_future(table.product):
+        return 21, 0
+    if not product.final_and_contracts_in_range(final, contracts):
+        return 22, 0
+    return 0, product.cash_amount(table.product, contracts, final, agreed)

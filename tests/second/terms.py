@@ -1,0 +1,105 @@
+"""The program `terms` (01, "March 2008 and its neighbours").
+
+python3 tests/second/terms.py reads master.bin in the current folder and
+commands from standard input, and prints the answers.
+"""
+
+import os
+import re
+import sys
+
+if __name__ == '__main__':
+    sys.path.insert(0, os.path.dirname(os.path.dirname(os.path.abspath(__file__))))
+
+from second import dates, master, table  # noqa: E402
+
+# 01: "`O id date`, `R date`, `C date`. An id is 1 to 4 characters as in a
+# record; a date is year, month, day in 4, 2 and 2 digits joined by hyphens".
+DATE = rb'([0-9]{4})-([0-9]{2})-([0-9]{2})'
+OPEN = re.compile(rb'O ([A-Z0-9]{1,4}) ' + DATE)
+MOVE = re.compile(rb'([RC]) ' + DATE)
+
+
+# 01: "A `master.bin` that can't be read counts as empty, and one of more than
+# 65,536 bytes gets 1."
+def read_master(path):
+    try:
+        with open(path, 'rb') as file:
+            return file.read(master.FILE_AT_MOST + 1)
+    except OSError:
+        return b''
+
+
+# 01: "a line [..] ends with a line feed or with the input". A final line feed
+# starts no further line.
+def lines_of(commands):
+    lines = commands.split(b'\n')
+    if lines[-1] == b'':
+        lines.pop()
+    return lines
+
+
+# The letter, the id (empty for R and C) and the day number of a command; None
+# for another line, such as one with a date "that 23 refuses".
+def parse(line):
+    match = OPEN.fullmatch(line)
+    if match:
+        letter, code, date = 'O', match.group(1), match.groups()[1:]
+    else:
+        match = MOVE.fullmatch(line)
+        if not match:
+            return None
+        letter, code, date = match.group(1).decode('ascii'), b'', match.groups()[1:]
+    number, day = dates.date_to_day(*map(int, date))
+    return None if number else (letter, code, day)
+
+
+# A command's call: (number, table, entered, left).
+def call(file, held, letter, code, day):
+    if letter == 'O':
+        return table.open_table(file, code.ljust(4), day)
+    if letter == 'R':
+        return table.roll(held, day)
+    return table.close(held, day)
+
+
+# A day as year, month and day in 4, 2 and 2 digits joined by hyphens.
+def day_text(day):
+    return '%04d-%02d-%02d' % dates.date_of(day)
+
+
+# A month as year and month in 4 and 2 digits joined by a hyphen.
+def month_text(month):
+    return '%04d-%02d' % dates.year_and_month(month)
+
+
+# 01: "It prints the call's letter, the table's date after the call, entered,
+# left, given; then number, month, last trading day for each maturity".
+def report(letter, held, entered, left):
+    lines = ['%s %s %d %d %d' % (letter, day_text(held.date), entered, left, held.given)]
+    for month, day, number in table.maturities(held):
+        lines.append('%d %s %s' % (number, month_text(month), day_text(day)))
+    return lines
+
+
+# 01: "or `NO` and the number, keeping the table of the last accepted call; or
+# `BAD` for another line, or R or C before an accepted O".
+def answers(file, commands):
+    printed = []
+    held = None
+    for line in lines_of(commands):
+        command = parse(line)
+        if command is None or (command[0] != 'O' and held is None):
+            printed.append('BAD')
+            continue
+        number, after, entered, left = call(file, held, *command)
+        if number:
+            printed.append('NO %d' % number)
+        else:
+            held = after
+            printed += report(command[0], held, entered, left)
+    return ''.join(line + '\n' for line in printed).encode('ascii')
+
+
+if __name__ == '__main__':
+    sys.stdout.buffer.write(answers(read_master('master.bin'), sys.stdin.buffer.read()))

@@ -1,0 +1,181 @@
+"""The cover, closed days and trading days (01, "Days and months", questions
+5, 6 and 15)."""
+
+from dataclasses import dataclass
+from functools import lru_cache
+
+from second import dates
+
+YEARS_AT_MOST = 16
+BYTES_PER_YEAR = 46
+MAP_BYTES = YEARS_AT_MOST * BYTES_PER_YEAR
+BITS_PER_YEAR = 8 * BYTES_PER_YEAR
+
+
+# The calendar: the cover as first year and number of years, and the day
+# numbers of the closed days. A negative entry stands for a bit of a map that
+# belongs to no day of the cover (see from_map).
+@dataclass(frozen=True)
+class Calendar:
+    first_year: int
+    years: int
+    closed: frozenset
+
+    # 01, Master file: "day n of the year (from 0) is the bit of value
+    # 2^(7 − n mod 8)"; 46 bytes for each year. A bit set outside every year of
+    # the cover is kept as −1 − its position, so that question 5 answers no.
+    @classmethod
+    def from_map(cls, first_year, years, data):
+        closed = set()
+        for position in bits_set(data):
+            day = day_at(first_year, years, position)
+            closed.add(-1 - position if day is None else day)
+        return cls(first_year, years, frozenset(closed))
+
+    # The same map as bytes; bytes past the last year are zero.
+    def to_map(self):
+        data = bytearray(MAP_BYTES)
+        for day in self.closed:
+            position = -1 - day if day < 0 else position_of(self.first_year, day)
+            data[position // 8] |= 1 << (7 - position % 8)
+        return bytes(data)
+
+
+# The positions of the bits set in a map, the highest bit of a byte first.
+def bits_set(data):
+    return [8 * place + bit for place, byte in enumerate(data) if byte
+            for bit in range(8) if byte & (1 << (7 - bit))]
+
+
+# The day number at a position of the map, or None where no day of the cover is.
+def day_at(first_year, years, position):
+    index, day_of_year = divmod(position, BITS_PER_YEAR)
+    year = first_year + index
+    if index >= years or not dates.FIRST_YEAR <= year <= dates.LAST_YEAR:
+        return None
+    if day_of_year >= dates.year_length(year):
+        return None
+    return dates.first_day_of_year(year) + day_of_year
+
+
+# The position in the map of a day of the cover.
+def position_of(first_year, day):
+    year = dates.date_of(day)[0]
+    return BITS_PER_YEAR * (year - first_year) + day - dates.first_day_of_year(year)
+
+
+# 01, question 5, for the bytes of a map: "Weekend bits, bits after the year's
+# end [..] are zero"; bytes past the last year are zero too.
+def map_is_clean(first_year, years, data):
+    for position in bits_set(data):
+        day = day_at(first_year, years, position)
+        if day is None or not dates.is_weekday(day):
+            return False
+    return True
+
+
+# 01, The table: "with 1 to 16 years from 2000 to 2099".
+def cover_fits(calendar):
+    return (1 <= calendar.years <= YEARS_AT_MOST
+            and calendar.first_year >= dates.FIRST_YEAR
+            and calendar.first_year + calendar.years - 1 <= dates.LAST_YEAR)
+
+
+# 01, Days and months: "The cover is a run of whole years." Its first day.
+def first_day(calendar):
+    return dates.first_day_of_year(calendar.first_year)
+
+
+# The last day of the cover.
+def last_day(calendar):
+    year = calendar.first_year + calendar.years - 1
+    return dates.first_day_of_year(year) + dates.year_length(year) - 1
+
+
+# The first month of the cover.
+def first_month(calendar):
+    return dates.month_number(calendar.first_year, 1)
+
+
+# The last month of the cover.
+def last_month(calendar):
+    return first_month(calendar) + 12 * calendar.years - 1
+
+
+# 01, question 11: "Is the day in the cover?"
+def in_cover(calendar, day):
+    if not dates.is_day(day):
+        return False
+    year = dates.date_of(day)[0]
+    return calendar.first_year <= year < calendar.first_year + calendar.years
+
+
+# A closed day: a day of the cover whose bit is 1.
+def is_closed(calendar, day):
+    return day in calendar.closed and in_cover(calendar, day)
+
+
+# 01, Days and months: "A trading day is a Monday to Friday in the cover that is
+# not closed." Question 14.
+def is_trading_day(calendar, day):
+    return (dates.is_weekday(day) and day not in calendar.closed
+            and in_cover(calendar, day))
+
+
+# 01, question 5: only Mondays to Fridays of the cover are closed.
+def is_clean(calendar):
+    return all(dates.is_weekday(day) and in_cover(calendar, day)
+               for day in calendar.closed)
+
+
+# 01, question 6: "Does every run of seven days in the cover hold a trading
+# day?" Runs lie wholly in the cover.
+@lru_cache(maxsize=256)
+def every_week_trades(calendar):
+    without = 0
+    for day in range(first_day(calendar), last_day(calendar) + 1):
+        if dates.is_weekday(day) and day not in calendar.closed:
+            without = 0
+        else:
+            without += 1
+        if without == 7:
+            return False
+    return True
+
+
+# 01, The table: "Close marks one day closed." A day outside the cover changes
+# nothing.
+def close_day(calendar, day):
+    if not in_cover(calendar, day):
+        return calendar
+    return Calendar(calendar.first_year, calendar.years, calendar.closed | {day})
+
+
+# 01, question 15: "With it closed, does every seven-day run still hold a
+# trading day?"
+def every_week_trades_without(calendar, day):
+    return every_week_trades(close_day(calendar, day))
+
+
+# 01, Last trading day: a day "if it is a trading day, else the latest trading
+# day before it"; None if there is none in the cover.
+def latest_trading_day(calendar, day):
+    day = min(day, last_day(calendar))
+    while day >= first_day(calendar):
+        if is_trading_day(calendar, day):
+            return day
+        day -= 1
+    return None
+
+
+# 01, Due day: "the n-th trading day after a given trading day"; None if it is
+# not in the cover. The given day may be any day here.
+def nth_trading_day_after(calendar, day, n):
+    day = max(day, first_day(calendar) - 1)
+    while n > 0:
+        day += 1
+        if day > last_day(calendar):
+            return None
+        if is_trading_day(calendar, day):
+            n -= 1
+    return day

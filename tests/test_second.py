@@ -1,0 +1,656 @@
+"""Tests of the second program itself: python3 tests/test_second.py"""
+
+import ast
+import datetime
+import os
+import random
+import subprocess
+import sys
+import tempfile
+import unittest
+from dataclasses import replace
+
+TESTS = os.path.dirname(os.path.abspath(__file__))
+sys.path.insert(0, TESTS)
+
+from second import dates, listing, master, product, table, terms, trading  # noqa: E402
+from second.book import Book  # noqa: E402
+from second.product import Product  # noqa: E402
+from second.trading import Calendar  # noqa: E402
+
+DATA = '/work/shared/data'
+FRIDAY_21 = dates.day_of(2008, 3, 21)
+THURSDAY_20 = dates.day_of(2008, 3, 20)
+PLAIN = Calendar(2008, 3, frozenset())
+EASTER = Calendar(2008, 3, frozenset([FRIDAY_21]))
+AXA = Product(b'AXA ', b'FR11', b'XPAR', 1, 100, 100, b'EUR')
+SESSION_INPUT = b'O AXA 2008-03-20\nR 2008-03-21\nC 2008-03-20\n'
+SESSION_OUTPUT = b"""\
+O 2008-03-20 6 0 6
+1 2008-03 2008-03-20
+2 2008-04 2008-04-18
+3 2008-05 2008-05-16
+4 2008-06 2008-06-20
+5 2008-09 2008-09-19
+6 2008-12 2008-12-19
+R 2008-03-21 1 1 7
+2 2008-04 2008-04-18
+3 2008-05 2008-05-16
+4 2008-06 2008-06-20
+5 2008-09 2008-09-19
+6 2008-12 2008-12-19
+7 2009-03 2009-03-20
+NO 13
+"""
+
+
+def item(code, group=b'FR11', kind=1, size=100, tick=100):
+    return Product(code.ljust(4), group, b'XPAR', kind, size, tick, b'EUR')
+
+
+def opened(products, calendar, date, code=None):
+    file = master.build(calendar, products)
+    number, held, _, _ = table.open_table(file, code or products[0].id, date)
+    assert number == 0, number
+    return held
+
+
+def weekdays_between(first, last):
+    return frozenset(day for day in range(first, last + 1) if dates.is_weekday(day))
+
+
+class Dates(unittest.TestCase):
+
+    def test_every_day_against_datetime(self):
+        start = datetime.date(2000, 1, 1)
+        for day in range(dates.DAYS):
+            date = start + datetime.timedelta(day)
+            self.assertEqual(dates.day_to_date(day), (0, date.year, date.month, date.day))
+            self.assertEqual(dates.date_to_day(date.year, date.month, date.day), (0, day))
+            self.assertEqual(dates.weekday(day), date.weekday())
+        self.assertEqual(date, datetime.date(2099, 12, 31))
+
+    def test_question_23_against_datetime(self):
+        for year in range(1996, 2104):
+            for month in range(0, 14):
+                for day in range(0, 33):
+                    try:
+                        datetime.date(year, month, day)
+                        number = 0 if 2000 <= year <= 2099 else 23
+                    except ValueError:
+                        number = 23
+                    self.assertEqual(dates.date_to_day(year, month, day)[0], number)
+        for day in (-1, 36525, 65535):
+            self.assertEqual(dates.day_to_date(day), (23, 0, 0, 0))
+
+    def test_months(self):
+        self.assertEqual(dates.month_number(2000, 1), 0)
+        self.assertEqual(dates.month_number(2099, 12), 1199)
+        for month in range(dates.MONTHS):
+            self.assertEqual(dates.month_number(*dates.year_and_month(month)), month)
+            self.assertEqual(dates.month_of(dates.first_day_of_month(month)), month)
+
+
+class Examples(unittest.TestCase):
+    """01, "March 2008 and its neighbours", line by line."""
+
+    def test_days(self):
+        self.assertEqual(dates.date_to_day(2008, 3, 21), (0, 3002))
+        self.assertEqual(dates.weekday(3002), dates.FRIDAY)
+        self.assertEqual(dates.date_to_day(2008, 1, 1), (0, 2922))
+        self.assertEqual(dates.date_to_day(2000, 2, 29), (0, 59))
+        self.assertEqual(dates.date_to_day(2001, 2, 29), (23, 0))
+
+    def test_last_trading_day(self):
+        march = dates.month_number(2008, 3)
+        both = trading.close_day(EASTER, THURSDAY_20)
+        for group in (b'FR11', b'IT11'):
+            self.assertEqual(dates.date_of(listing.last_trading_day(EASTER, group, march)),
+                             (2008, 3, 20))
+            self.assertEqual(dates.date_of(listing.last_trading_day(both, group, march)),
+                             (2008, 3, 19))
+
+    def test_third_friday(self):
+        for month, day in ((8, 15), (3, 21)):
+            friday = listing.third_friday(dates.month_number(2008, month))
+            self.assertEqual(dates.date_of(friday), (2008, month, day))
+
+    def test_listing(self):
+        for day, months in ((20, [(2008, 3), (2008, 4), (2008, 5), (2008, 6), (2008, 9),
+                                  (2008, 12)]),
+                            (21, [(2008, 4), (2008, 5), (2008, 6), (2008, 9), (2008, 12),
+                                  (2009, 3)])):
+            fresh = listing.fresh_listing(EASTER, b'FR11', 1, dates.day_of(2008, 3, day))
+            self.assertEqual([dates.year_and_month(month) for month, _ in fresh], months)
+
+    def test_cash_and_tick(self):
+        future = opened([item(b'F', b'FR01', 0)], Calendar(2008, 5, frozenset()), THURSDAY_20)
+        self.assertEqual(table.cash(future, 3, 123400, 125000), (0, 480000))
+        five = opened([item(b'G', tick=5)], PLAIN, THURSDAY_20)
+        self.assertEqual(table.tick(five, 5), 0)
+        self.assertEqual(table.tick(five, 6), 20)
+
+    def test_session(self):
+        file = master.build(EASTER, [AXA])
+        self.assertEqual(terms.answers(file, SESSION_INPUT), SESSION_OUTPUT)
+        with tempfile.TemporaryDirectory() as folder:
+            with open(os.path.join(folder, 'master.bin'), 'wb') as out:
+                out.write(file)
+            ran = subprocess.run([sys.executable, os.path.join(TESTS, 'second', 'terms.py')],
+                                 cwd=folder, input=SESSION_INPUT[:-1], capture_output=True)
+        self.assertEqual((ran.returncode, ran.stdout), (0, SESSION_OUTPUT))
+
+
+class Trading(unittest.TestCase):
+
+    def random_calendar(self, chance, years=2):
+        rest = random.Random(chance)
+        empty = Calendar(2008, years, frozenset())
+        days = weekdays_between(trading.first_day(empty), trading.last_day(empty))
+        return replace(empty, closed=frozenset(
+            day for day in days if rest.random() < chance))
+
+    def test_week_rule_against_its_sentence(self):
+        seen = set()
+        for chance in (0, 0.02, 0.05, 0.1, 0.2, 0.3, 0.4, 0.5):
+            calendar = self.random_calendar(chance)
+            first, last = trading.first_day(calendar), trading.last_day(calendar)
+            direct = all(any(trading.is_trading_day(calendar, day)
+                             for day in range(start, start + 7))
+                         for start in range(first, last - 5))
+            self.assertEqual(trading.every_week_trades(calendar), direct)
+            seen.add(direct)
+        self.assertEqual(seen, {True, False})
+
+    def test_edges_of_the_cover(self):
+        first, last = trading.first_day(PLAIN), trading.last_day(PLAIN)
+        for days, passes in ((range(first, first + 6), True), (range(first, first + 7), False),
+                             (range(last - 3, last + 1), True),
+                             (range(last - 4, last + 1), False)):
+            closed = frozenset(day for day in days if dates.is_weekday(day))
+            self.assertEqual(trading.every_week_trades(replace(PLAIN, closed=closed)), passes)
+
+    def test_searches_against_lists(self):
+        calendar = self.random_calendar(0.3)
+        trades = [day for day in range(dates.DAYS) if trading.is_trading_day(calendar, day)]
+        for day in range(trading.first_day(calendar) - 9, trading.last_day(calendar) + 9):
+            before = [other for other in trades if other <= day]
+            after = [other for other in trades if other > day]
+            self.assertEqual(trading.latest_trading_day(calendar, day),
+                             before[-1] if before else None)
+            for n in (1, 2, 3, 4):
+                self.assertEqual(trading.nth_trading_day_after(calendar, day, n),
+                                 after[n - 1] if len(after) >= n else None)
+
+    def test_question_15(self):
+        week = weekdays_between(dates.day_of(2008, 4, 7), dates.day_of(2008, 4, 10))
+        calendar = replace(PLAIN, closed=week)
+        friday = dates.day_of(2008, 4, 11)
+        self.assertTrue(trading.every_week_trades(calendar))
+        self.assertFalse(trading.every_week_trades_without(calendar, friday))
+        self.assertTrue(trading.every_week_trades_without(calendar, friday + 3))
+        self.assertTrue(trading.every_week_trades_without(calendar, 36524))
+
+
+class Maps(unittest.TestCase):
+
+    def test_map_and_set_agree(self):
+        rest = random.Random(1)
+        clean = 0
+        for _ in range(400):
+            first_year = rest.choice((1999, 2000, 2007, 2083, 2084, 2085, 2099, 2100))
+            years = rest.choice((0, 1, 3, 16, 17))
+            data = bytearray(trading.MAP_BYTES)
+            for _ in range(rest.randrange(3)):
+                data[rest.randrange(trading.MAP_BYTES)] |= 1 << rest.randrange(8)
+            calendar = Calendar.from_map(first_year, years, data)
+            answer = trading.map_is_clean(first_year, years, data)
+            self.assertEqual(trading.is_clean(calendar), answer)
+            self.assertEqual(calendar.to_map(), bytes(data))
+            clean += answer
+        self.assertTrue(0 < clean < 400)
+
+    def test_bits(self):
+        data = bytearray(trading.MAP_BYTES)
+        data[46 + 79 // 8] |= 1 << (7 - 79 % 8)
+        calendar = Calendar.from_map(2007, 3, data)
+        self.assertEqual({dates.date_of(day) for day in calendar.closed}, {(2008, 3, 20)})
+        for position, first_year in ((365, 2007), (366, 2008), (367, 2008), (16 * 368 - 1, 2007)):
+            data = bytearray(trading.MAP_BYTES)
+            data[position // 8] |= 1 << (7 - position % 8)
+            self.assertFalse(trading.map_is_clean(first_year, 3, data))
+
+    def test_cover(self):
+        for first_year, years, fits in ((2000, 16, True), (2084, 16, True), (2085, 16, False),
+                                        (2099, 1, True), (1999, 2, False), (2008, 0, False),
+                                        (2008, 17, False), (2100, 1, False)):
+            self.assertEqual(trading.cover_fits(Calendar(first_year, years, frozenset())), fits)
+
+
+class Listings(unittest.TestCase):
+
+    def test_months_of_each_kind(self):
+        calendar = Calendar(2008, 8, frozenset())
+        date = dates.day_of(2008, 7, 19)
+        expected = {
+            0: ['2008-08', '2008-09', '2008-10', '2008-11', '2008-12', '2009-01', '2009-02',
+                '2009-03', '2009-04', '2009-05', '2009-06', '2009-07', '2009-08', '2009-12',
+                '2010-12'],
+            1: ['2008-08', '2008-09', '2008-10', '2008-12', '2009-03', '2009-06'],
+            2: ['2008-08', '2008-09', '2008-10', '2008-12', '2009-03', '2009-06', '2009-12',
+                '2010-06'],
+            3: ['2008-08', '2008-09', '2008-10', '2008-12', '2009-03', '2009-06', '2009-12',
+                '2010-06', '2010-12', '2011-06', '2011-12', '2012-12'],
+        }
+        for kind, months in expected.items():
+            fresh = listing.fresh_listing(calendar, b'FR11', kind, date)
+            self.assertEqual([terms.month_text(month) for month, _ in fresh], months)
+            self.assertTrue(listing.listing_in_cover(calendar, b'FR11', kind, date))
+
+    def test_month_beyond_the_cover(self):
+        last_december = dates.day_of(2099, 12, 18)
+        calendar = Calendar(2099, 1, frozenset())
+        self.assertEqual(listing.front_month(calendar, b'FR11', last_december), 1199)
+        self.assertEqual(listing.front_month(calendar, b'FR11', last_december + 1), 1200)
+        self.assertEqual(listing.fresh_listing(calendar, b'FR11', 1, last_december + 1), [])
+        self.assertEqual(listing.listed_months(calendar, b'FR11', 1, last_december),
+                         ([1199], False))
+
+    def test_steps_back_from_the_anchor(self):
+        month = dates.month_number(2008, 8)
+        friday = listing.third_friday(month)
+        for group, steps in ((b'FR11', {0, 1, 2, 3, 4}), (b'IT11', {0, 1, 2, 3, 6})):
+            seen = set()
+            for mask in range(2 ** 7):
+                days = frozenset(friday - k for k in range(7) if mask >> k & 1
+                                 and dates.is_weekday(friday - k))
+                calendar = replace(PLAIN, closed=days)
+                if trading.every_week_trades(calendar):
+                    seen.add(listing.anchor(group, month)
+                             - listing.last_trading_day(calendar, group, month))
+            self.assertEqual(seen, steps)
+
+
+class MasterFiles(unittest.TestCase):
+
+    PRODUCTS = [item(b'A'), item(b'A1'), item(b'AB'), item(b'B', b'IT01', 0, 1, 1),
+                item(b'ZZZZ', b'DE11', 3, 65535, 5)]
+
+    def refusal(self, *damages, products=PRODUCTS, calendar=EASTER, per_block=2):
+        return master.load(master.build(calendar, products, per_block, damages))
+
+    def test_accepted(self):
+        self.assertEqual(self.refusal(), (0, 3, 5))
+        file = master.build(EASTER, self.PRODUCTS, 2)
+        self.assertEqual(master.read_calendar(file), EASTER)
+        self.assertEqual(master.read_products(file), self.PRODUCTS)
+        self.assertEqual(len(file), 6 * 512)
+
+    def test_damages(self):
+        cases = [
+            (1, ('length', 0)), (1, ('length', 512)), (1, ('length', 3071)),
+            (1, ('length', 66048)), (3, ('length', 3584)),
+            (2, ('bytes only', 4, 300, b'A')), (2, ('check', 5, 1)),
+            (3, ('bytes', 0, 0, b'\3')), (3, ('bytes', 3, 0, b'\0')),
+            (3, ('bytes', 2, 1, b'\2')), (3, ('bytes', 1, 4, b'\1')),
+            (3, ('bytes', 1, 2, b'\x07\xcf')), (3, ('bytes', 1, 2, b'\x08\x34')),
+            (3, ('bytes', 3, 2, b'\0\0')), (3, ('bytes', 3, 2, b'\0\x10')),
+            (3, ('bytes', 0, 6, b'\1')), (3, ('bytes', 5, 15, b'\1')),
+            (4, ('exchange', 0, 1)), (4, ('exchange', 2, 3)), (4, ('repeat', 1)),
+            (4, ('drop', 1)), (4, ('exchange', 0, 5)),
+            (5, ('bytes', 0, 16 + 0, b'\x08')),
+            (5, ('bytes', 0, 16 + 45, b'\x02')), (5, ('bytes', 0, 62, b'\1')),
+            (5, ('bytes', 2, 509, b'\1')), (5, ('bytes', 1, 16 + 45, b'\x04')),
+            (7, ('bytes', 3, 16, b' ')), (7, ('bytes', 3, 16, b'a')),
+            (7, ('bytes', 3, 17, b' A')), (7, ('bytes', 3, 20, b'F1')),
+            (7, ('bytes', 3, 22, b'0')), (7, ('bytes', 3, 23, b'A')),
+            (7, ('bytes', 3, 24, b'1')), (7, ('bytes', 3, 28, b'\4')),
+            (7, ('bytes', 3, 28, b'\0')), (7, ('bytes', 3, 29, b'\0\0')),
+            (7, ('bytes', 3, 31, b'\0\2')), (7, ('bytes', 3, 33, b'EUX')),
+            (7, ('bytes', 3, 36, b'\1')), (7, ('bytes', 3, 47, b'\1')),
+            (7, ('bytes', 3, 80, b'\1')), (7, ('bytes', 5, 48, b'\1')),
+            (7, ('bytes', 4, 496, b'\1')), (7, ('bytes', 4, 509, b'\1')),
+            (8, ('exchange', 3, 4)), (8, ('bytes', 4, 16, b'A1  ')),
+            (0, ('bytes', 3, 23, b'9')), (0, ('bytes', 3, 33, b'GBX')),
+        ]
+        for number, damage in cases:
+            years, records = (3, 5) if number == 0 else (0, 0)
+            self.assertEqual(self.refusal(damage), (number, years, records), damage)
+
+    def test_other_refusals(self):
+        self.assertEqual(self.refusal(products=[])[0], 4)
+        self.assertEqual(self.refusal(calendar=Calendar(2008, 0, frozenset()))[0], 4)
+        week = weekdays_between(dates.day_of(2009, 4, 6), dates.day_of(2009, 4, 10))
+        self.assertEqual(self.refusal(calendar=replace(PLAIN, closed=week))[0], 6)
+        turn = weekdays_between(dates.day_of(2008, 12, 29), dates.day_of(2009, 1, 2))
+        self.assertEqual(self.refusal(calendar=replace(PLAIN, closed=turn))[0], 6)
+        edge = weekdays_between(dates.day_of(2008, 1, 1), dates.day_of(2008, 1, 6))
+        self.assertEqual(self.refusal(calendar=replace(PLAIN, closed=edge))[0], 0)
+        many = [item(b'%04d' % k) for k in range(120)]
+        long = Calendar(2000, 16, frozenset())
+        self.assertEqual(self.refusal(products=many, calendar=long, per_block=15), (0, 16, 120))
+        self.assertEqual(self.refusal(products=many[:112], calendar=long, per_block=1),
+                         (0, 16, 112))
+        self.assertEqual(self.refusal(products=many[:113], calendar=long, per_block=1)[0], 1)
+        seventeen = master.build(long, self.PRODUCTS)
+        extra = master.block_of(master.CALENDAR, 2016, 16, b'')
+        joined = bytearray(seventeen[:16 * 512] + extra + seventeen[16 * 512:])
+        master.renumber(joined)
+        self.assertEqual(master.load(bytes(joined))[0], 4)
+
+    def test_check_plus_modulus(self):
+        # The size of the fifteenth record stands in bytes 477 and 478.
+        many = [item(b'%04d' % k, size=1 if k < 14 else 0) for k in range(15)]
+        check = master.check_of(master.build(PLAIN, many)[3 * 512:])
+        size = next(size for size in range(1, 65536)
+                    if (check + 478 * (size // 256) + 479 * (size % 256)) % 65521 < 15)
+        good = many[:14] + [replace(many[14], size=size)]
+        self.assertEqual(self.refusal(products=good, per_block=15), (0, 3, 15))
+        self.assertEqual(self.refusal(('check', 3, 65521), products=good, per_block=15),
+                         (2, 0, 0))
+
+    def test_lower_number_wins(self):
+        eight, seven = ('exchange', 3, 4), ('bytes', 4, 509, b'\1')
+        five, three = ('bytes', 2, 509, b'\1'), ('bytes', 5, 6, b'\1')
+        two = ('bytes only', 0, 62, b'\1')
+        week = weekdays_between(dates.day_of(2009, 4, 6), dates.day_of(2009, 4, 10))
+        closed = replace(PLAIN, closed=week)
+        self.assertEqual(self.refusal(eight, seven)[0], 7)
+        self.assertEqual(self.refusal(eight, seven, calendar=closed)[0], 6)
+        self.assertEqual(self.refusal(seven, five, calendar=closed)[0], 5)
+        self.assertEqual(self.refusal(five, three)[0], 3)
+        self.assertEqual(self.refusal(five, three, two)[0], 2)
+        self.assertEqual(self.refusal(two, ('length', 3073))[0], 1)
+
+    @unittest.skipUnless(os.path.isdir(DATA), 'no data folder')
+    def test_data(self):
+        with open(os.path.join(DATA, 'closures-2000-2099.csv')) as lines:
+            calendar = master.calendar_from_csv(lines, 2008, 16)
+        with open(os.path.join(DATA, 'products-2008.csv')) as lines:
+            products = master.products_from_csv(lines)
+        file = master.build(calendar, products)
+        self.assertEqual(master.load(file), (0, 16, len(products)))
+        for one in products[::50]:
+            number, held, entered, left = table.open_table(file, one.id, THURSDAY_20)
+            self.assertEqual((number, entered, left), (0, sum(listing.COUNTS[one.kind]), 0))
+            self.assertTrue(table.is_sound(held))
+
+
+class Tables(unittest.TestCase):
+
+    def test_open_refusals(self):
+        file = master.build(EASTER, [AXA])
+        for code, date, number in ((b'AXA ', THURSDAY_20, 0), (b'AXB ', THURSDAY_20, 9),
+                                   (b'AXA\0', THURSDAY_20, 9), (b'    ', 0, 9),
+                                   (b'AXA ', 2921, 11), (b'AXA ', 36525, 11),
+                                   (b'AXA ', dates.day_of(2010, 12, 31), 16)):
+            answer = table.open_table(file, code, date)
+            self.assertEqual(answer[0], number)
+            if number:
+                self.assertEqual(answer[1:], (table.ZERO_TABLE, 0, 0))
+        self.assertEqual(table.open_table(b'', b'AXA ', 0)[0], 1)
+        self.assertEqual(table.roll(table.ZERO_TABLE, 0), (10, table.ZERO_TABLE, 0, 0))
+
+    def test_call_refusals(self):
+        held = opened([AXA], EASTER, THURSDAY_20)
+        saturday = dates.day_of(2008, 3, 22)
+        for call, day, number in ((table.roll, 2921, 11), (table.roll, THURSDAY_20 - 1, 12),
+                                  (table.roll, dates.day_of(2010, 6, 1), 16),
+                                  (table.close, 36525, 11), (table.close, THURSDAY_20, 13),
+                                  (table.close, FRIDAY_21, 14), (table.close, saturday, 14)):
+            self.assertEqual(call(held, day), (number, held, 0, 0))
+        for day in range(24, 27):
+            number, held, _, _ = table.close(held, dates.day_of(2008, 3, day))
+            self.assertEqual(number, 0)
+        self.assertEqual(table.close(held, dates.day_of(2008, 3, 27)), (15, held, 0, 0))
+
+    # The front month's day, Friday 21 March, moves before the date, Thursday 20
+    # March; April 2008 needs March 2009, which lies beyond the cover.
+    def test_close_refused_by_16(self):
+        calendar = Calendar(2008, 1, frozenset([THURSDAY_20]))
+        held = opened([AXA], calendar, THURSDAY_20)
+        self.assertEqual(table.close(held, FRIDAY_21), (16, held, 0, 0))
+        self.assertEqual(table.roll(held, FRIDAY_21)[0], 0)
+        self.assertEqual(table.roll(held, FRIDAY_21 + 1), (16, held, 0, 0))
+
+    def test_values(self):
+        held = opened([AXA], EASTER, THURSDAY_20)
+        march = dates.month_number(2008, 3)
+        self.assertEqual(table.last_trading_day(held, march), (0, THURSDAY_20))
+        for month in (march - 1, march + 4, 1200, 0):
+            self.assertEqual(table.last_trading_day(held, month), (18, 0))
+        self.assertEqual(table.due(held, THURSDAY_20), (0, dates.day_of(2008, 3, 26)))
+        self.assertEqual(table.due(held, FRIDAY_21), (14, 0))
+        self.assertEqual(table.due(held, 2921), (11, 0))
+        self.assertEqual(table.due(held, dates.day_of(2010, 12, 28)), (0, dates.day_of(2010, 12, 31)))
+        self.assertEqual(table.due(held, dates.day_of(2010, 12, 29)), (17, 0))
+        for price, number in ((0, 19), (1_000_000_000, 19), (150, 20), (999_999_900, 0)):
+            self.assertEqual(table.tick(held, price), number)
+        self.assertEqual(table.cash(held, 1, 100, 100), (21, 0))
+        self.assertEqual(table.cash(held, 1, 101, 100), (20, 0))
+
+    def test_cash(self):
+        held = opened([item(b'F', b'FR01', 0, 65535, 1)], Calendar(2008, 5, frozenset()),
+                      THURSDAY_20)
+        for contracts, agreed, final, answer in (
+                (100_000, 1, 999_999_999, (0, 6553499986893000000)),
+                (100_000, 999_999_999, 0, (0, -6553499993446500000)),
+                (0, 1, 1, (22, 0)), (100_001, 1, 1, (22, 0)),
+                (1, 1, 1_000_000_000, (22, 0)), (1, 1, -1, (22, 0)), (1, 0, 1, (19, 0))):
+            self.assertEqual(table.cash(held, contracts, agreed, final), answer)
+        self.assertEqual(table.due(held, THURSDAY_20), (0, FRIDAY_21))
+
+    def test_days_to_settlement(self):
+        days = {b'DE11': 2, b'DE14': 2, b'DE15': 3, b'DE10': 3, b'FI11': 4, b'FI14': 4,
+                b'FI15': 3, b'GB11': 4, b'GB12': 3, b'IE11': 4, b'IE12': 3, b'FR11': 3}
+        for group, n in days.items():
+            self.assertEqual(product.days_to_settlement(item(b'A', group)), n)
+        for group in (b'DE01', b'FI01', b'GB01'):
+            self.assertEqual(product.days_to_settlement(item(b'A', group, 0)), 1)
+
+    def months_of(self, held):
+        return [terms.month_text(month) for month, _, _ in table.maturities(held)]
+
+    # 01, "Where loaders go astray", in its order.
+    def test_where_loaders_go_astray(self):
+        held = opened([AXA], EASTER, THURSDAY_20)
+        self.assertEqual(table.maturities(held)[0][:2], (dates.month_of(FRIDAY_21), THURSDAY_20))
+        self.assertEqual(table.roll(held, THURSDAY_20)[2:], (0, 0))
+        july = dates.month_number(2008, 7)
+        thursday = listing.third_friday(july) - 1
+        calendar = replace(PLAIN, closed=frozenset([thursday + 1]))
+        self.assertEqual(listing.last_trading_day(calendar, b'FR11', july), thursday)
+        self.assertEqual(listing.last_trading_day(calendar, b'IT11', july), thursday)
+        self.assertEqual(listing.last_trading_day(calendar, b'IT12', july), thursday)
+        self.assertEqual(self.months_of(opened([AXA], PLAIN, dates.day_of(2008, 4, 1))),
+                         ['2008-04', '2008-05', '2008-06', '2008-09', '2008-12', '2009-03'])
+        later = table.roll(table.roll(held, FRIDAY_21)[1], dates.day_of(2008, 4, 19))[1]
+        self.assertEqual(self.months_of(later),
+                         ['2008-05', '2008-06', '2008-07', '2008-09', '2008-12', '2009-03'])
+        self.assertEqual([number for _, _, number in table.maturities(later)],
+                         [3, 4, 8, 5, 6, 7])
+        held = opened([AXA], replace(PLAIN, closed=frozenset([THURSDAY_20])), THURSDAY_20)
+        number, held, entered, left = table.close(held, FRIDAY_21)
+        self.assertEqual((number, entered, left, held.given), (0, 1, 1, 7))
+        self.assertEqual(self.months_of(held)[0], '2008-04')
+
+
+class Soundness(unittest.TestCase):
+
+    def test_damages(self):
+        held = table.roll(opened([AXA], EASTER, THURSDAY_20), FRIDAY_21)[1]
+        self.assertTrue(table.is_sound(held))
+        places = list(held.places)
+
+        def with_place(index, place):
+            return replace(held, places=tuple(places[:index] + [place] + places[index + 1:]))
+
+        month, day, number = places[1]
+        bad = [
+            replace(held, date=2921), replace(held, date=36525),
+            replace(held, date=THURSDAY_20), replace(held, date=dates.day_of(2008, 4, 19)),
+            with_place(1, (month + 1, day, number)), with_place(1, (month, day + 1, number)),
+            with_place(1, (month, day, 0)), with_place(1, (month, day, 8)),
+            with_place(1, (month, day, places[0][2])), with_place(14, (0, 0, 1)),
+            with_place(6, (0, 1, 0)), replace(held, places=tuple(places[:14])),
+            replace(held, given=6), replace(held, given=10),
+            replace(held, calendar=replace(EASTER, closed=frozenset())),
+            replace(held, calendar=replace(EASTER, closed=EASTER.closed | {dates.day_of(2008, 3, 22)})),
+            replace(held, calendar=replace(EASTER, closed=EASTER.closed | {-1})),
+            replace(held, calendar=replace(EASTER, years=0)),
+            replace(held, calendar=replace(EASTER, years=17)),
+            replace(held, product=replace(AXA, kind=2)), replace(held, product=replace(AXA, kind=4)),
+            replace(held, product=replace(AXA, size=0)), replace(held, product=replace(AXA, tick=2)),
+            replace(held, product=replace(AXA, id=b' AXA')),
+            replace(held, product=replace(AXA, market=b'XPA1')),
+            replace(held, product=replace(AXA, group=b'FR01')),
+            replace(held, product=replace(AXA, currency=b'EUX')),
+        ]
+        for index, damaged in enumerate(bad):
+            self.assertFalse(table.is_sound(damaged), index)
+            self.assertEqual(table.roll(damaged, damaged.date), (10, damaged, 0, 0))
+            self.assertEqual(table.close(damaged, damaged.date + 1), (10, damaged, 0, 0))
+            self.assertEqual(table.last_trading_day(damaged, month), (10, 0))
+            self.assertEqual(table.due(damaged, damaged.date), (10, 0))
+            self.assertEqual(table.tick(damaged, 0), 10)
+            self.assertEqual(table.cash(damaged, 0, 0, 0), (10, 0))
+
+    def test_still_sound(self):
+        held = table.roll(opened([AXA], EASTER, THURSDAY_20), FRIDAY_21)[1]
+        self.assertTrue(table.is_sound(replace(held, given=9)))
+        self.assertTrue(table.is_sound(replace(held, calendar=replace(EASTER, years=2))))
+        self.assertTrue(table.is_sound(replace(held, product=replace(AXA, group=b'DE19'))))
+
+
+class Histories(unittest.TestCase):
+
+    def test_book_does_not_import_table(self):
+        with open(os.path.join(TESTS, 'second', 'book.py')) as source:
+            tree = ast.parse(source.read())
+        names = [name.name for node in ast.walk(tree)
+                 if isinstance(node, (ast.Import, ast.ImportFrom)) for name in node.names]
+        self.assertEqual(names, ['listing', 'trading'])
+
+    def day_near(self, rest, date, calendar):
+        if rest.random() < 0.05:
+            return rest.choice((0, 36524, 36525, trading.first_day(calendar),
+                                trading.last_day(calendar), trading.last_day(calendar) + 1))
+        if rest.random() < 0.4:
+            return date + rest.randrange(1, 9)
+        month = min(dates.month_of(date) + rest.randrange(4), dates.MONTHS - 1)
+        if rest.random() < 0.5:
+            return listing.third_friday(month) - rest.randrange(-1, 6)
+        return date + rest.randrange(-1, 40)
+
+    # One call on the table and on the book; both must agree.
+    def one_call(self, held, book, name, day, numbers):
+        number, held, entered, left = getattr(table, name)(held, day)
+        self.assertEqual((number, entered, left), getattr(book, name)(day))
+        numbers.append(number)
+        self.assertTrue(table.is_sound(held))
+        self.assertEqual((held.calendar, held.date, table.maturities(held), held.given),
+                         (book.calendar, book.date, book.maturities, book.given))
+        self.assertEqual(held.given, len(book.left) + len(book.maturities))
+        return held
+
+    def history(self, seed, numbers):
+        rest = random.Random(seed)
+        kind = rest.randrange(4)
+        group = rest.choice((b'FR', b'IT')) + (b'01' if kind == 0 else b'11')
+        first_year = rest.choice((2000, 2008, 2092))
+        years = rest.choice((4, 8)) if kind in (0, 1) else 8
+        empty = Calendar(first_year, years, frozenset())
+        days = sorted(weekdays_between(trading.first_day(empty), trading.last_day(empty)))
+        calendar = replace(empty, closed=frozenset(rest.sample(days, 12 * years)))
+        if not trading.every_week_trades(calendar):
+            calendar = empty
+        date = trading.first_day(calendar) + rest.randrange(60)
+        held = opened([item(b'A', group, kind)], calendar, date)
+        book = Book(kind, group, calendar, date)
+        for _ in range(rest.randrange(40)):
+            day = self.day_near(rest, book.date, calendar)
+            name = rest.choice(('roll', 'close', 'close', 'week'))
+            if name == 'week':
+                for later in range(7):
+                    held = self.one_call(held, book, 'close', day + later, numbers)
+            else:
+                held = self.one_call(held, book, name, day, numbers)
+
+    def test_table_equals_book(self):
+        numbers = []
+        for seed in range(60):
+            self.history(seed, numbers)
+        self.assertEqual(set(numbers), {0, 11, 12, 13, 14, 15, 16})
+
+
+class Terms(unittest.TestCase):
+
+    FILE = master.build(EASTER, [AXA])
+
+    def first_words(self, commands, file=FILE):
+        lines = terms.answers(file, commands).decode().splitlines()
+        return [line for line in lines if line[0] in 'ORCNB']
+
+    def test_lines(self):
+        self.assertEqual(terms.answers(self.FILE, b''), b'')
+        for line in (b'', b' ', b'O', b'O AXA', b'O AXA 2008-03-20 ', b' O AXA 2008-03-20',
+                     b'O  AXA 2008-03-20', b'O AXA 2008-03-20\r', b'O axa 2008-03-20',
+                     b'O AXAAA 2008-03-20', b'O AXA 2008-02-30', b'O AXA 2100-01-01',
+                     b'O AXA 1999-12-31', b'O AXA 2008-3-20', b'O AXA 2008/03/20',
+                     b'o AXA 2008-03-20', b'O\tAXA 2008-03-20', b'O AXA +008-03-20',
+                     b'R 2008-03-20', b'C 2008-03-20', b'\xff', b'\0', b'X 2008-03-20'):
+            self.assertEqual(terms.answers(self.FILE, line + b'\n'), b'BAD\n', line)
+        self.assertEqual(terms.answers(self.FILE, b'\n\n'), b'BAD\nBAD\n')
+        self.assertEqual(terms.answers(self.FILE, b'\nX'), b'BAD\nBAD\n')
+
+    def test_refused_open_keeps_the_table(self):
+        self.assertEqual(
+            self.first_words(b'O AXA 2011-01-01\nR 2008-03-20\nO AXA 2008-03-20\nO X 2008-03-20\n'
+                             b'O AXA 2010-12-31\nR 2008-03-21\nR 2008-03-20\nC 2008-04-18\n'
+                             b'R 2010-12-31\nC 2008-03-22'),
+            ['NO 11', 'BAD', 'O 2008-03-20 6 0 6', 'NO 9', 'NO 16', 'R 2008-03-21 1 1 7',
+             'NO 12', 'C 2008-03-21 0 0 7', 'NO 16', 'NO 14'])
+
+    def test_new_open_forgets_closures(self):
+        commands = b'O AXA 2008-03-20\nC 2008-04-18\nO AXA 2008-03-20\nC 2008-04-18\n'
+        self.assertEqual(self.first_words(commands),
+                         ['O 2008-03-20 6 0 6', 'C 2008-03-20 0 0 6'] * 2)
+
+    def test_files(self):
+        command = b'O AXA 2008-03-20\n'
+        for file, number in ((b'', 1), (bytes(1024), 3), (bytes(65537), 1), (self.FILE[:-1], 1)):
+            self.assertEqual(terms.answers(file, command), b'NO %d\n' % number)
+        with tempfile.TemporaryDirectory() as folder:
+            self.assertEqual(terms.read_master(folder), b'')
+            self.assertEqual(terms.read_master(os.path.join(folder, 'master.bin')), b'')
+
+
+class Expected(unittest.TestCase):
+
+    def lines(self, name):
+        ran = subprocess.run([sys.executable, os.path.join(TESTS, 'expected.py'), name],
+                             capture_output=True)
+        self.assertEqual(ran.returncode, 0)
+        self.assertTrue(ran.stdout.endswith(b'\n'))
+        return ran.stdout.decode('ascii').splitlines()
+
+    def test_print_days(self):
+        lines = self.lines('print_days')
+        self.assertEqual(len(lines), 1200 + 108 * 14 * 7 + 1772 + 71)
+        for line in ('M 0 0 5 31', 'M 1199 36494 1 31', 'D 2008 1 1 0 2922',
+                     'D 2001 2 29 23 0', 'D 2000 13 1 23 0', 'N 0 0 2000 1 1',
+                     'N 36524 0 2099 12 31', 'N 36525 23 0 0 0', 'N 65527 23 0 0 0'):
+            self.assertIn(line, lines)
+
+    def test_print_calendar(self):
+        lines = self.lines('print_calendar')
+        heads = [line for line in lines if line[0] == 'K']
+        self.assertEqual(len(heads), 20)
+        self.assertEqual(heads[0], 'K 0 2000 1 1 1 1')
+        self.assertEqual(heads[14], 'K 14 2084 16 1 1 0')
+        self.assertEqual(lines[1:3], ['T 0 1 0 0 0 2 4', 'T 5 1 0 1 5 6 10'])
+        self.assertEqual(lines[-1][0], 'X')
+
+
+if __name__ == '__main__':
+    unittest.main()
