@@ -14,6 +14,12 @@ pub both : (a b : Bool) → (a && b) ≡ true → (a ≡ true) × (b ≡ true)
 both true b e = (refl, e)
 both false b e = clash e refl
 
+pub and-fst : (a b : Bool) → (a && b) ≡ true → a ≡ true
+and-fst a b e = both a b e .0
+
+pub and-snd : (a b : Bool) → (a && b) ≡ true → b ≡ true
+and-snd a b e = both a b e .1
+
 pub and-both : {a b : Bool} → a ≡ true → b ≡ true → (a && b) ≡ true
 and-both p q = rw (p, q)
 

@@ -1,0 +1,30 @@
+use Rattle.product.specs.Prices.{cashAdmitted}
+use borrow.Author.Needs.{needs}
+use Rattle.product.proofs.cash_admitted.Statement.{statement}
+use Rattle.product.proofs.cash_admitted.Tie as tie
+
+price-right-requires : tie.Need-price-right-requires
+price-right-requires c κs = search needs
+
+final-right-requires : tie.Need-final-right-requires
+final-right-requires c κs = search needs
+
+contracts-right-requires : tie.Need-contracts-right-requires
+contracts-right-requires c κs = search needs
+
+size-right-requires : tie.Need-size-right-requires
+size-right-requires c κs = search needs
+
+returns : tie.Need-returns
+unfolding cashAdmitted
+returns c = cc
+
+pub cash-admitted-spec : {M : Type 1} → statement M
+cash-admitted-spec =
+    tie.close
+    (tie.spec
+    price-right-requires
+    final-right-requires
+    contracts-right-requires
+    size-right-requires
+    returns)

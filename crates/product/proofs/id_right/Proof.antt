@@ -1,0 +1,24 @@
+use Rattle.product.specs.Fields.{idRight}
+use borrow.Author.Needs.{needs}
+use Rattle.product.proofs.id_right.Statement.{statement}
+use Rattle.product.proofs.id_right.Tie as tie
+
+id-of-requires : tie.Need-id-of-requires
+id-of-requires c κs = search needs
+
+id-of-requires-2 : tie.Need-id-of-requires-2
+id-of-requires-2 c κs = search needs
+
+id-of-requires-3 : tie.Need-id-of-requires-3
+id-of-requires-3 c κs = search needs
+
+id-of-requires-4 : tie.Need-id-of-requires-4
+id-of-requires-4 c κs = search needs
+
+returns : tie.Need-returns
+unfolding idRight
+returns c = cc
+
+pub id-right-spec : {M : Type 1} → statement M
+id-right-spec =
+    tie.close (tie.spec id-of-requires id-of-requires-2 id-of-requires-3 id-of-requires-4 returns)

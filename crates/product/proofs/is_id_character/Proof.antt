@@ -1,0 +1,15 @@
+use borrow.Author.Needs.{needs}
+use Rattle.product.proofs.is_id_character.Statement.{statement}
+use Rattle.product.proofs.is_id_character.Tie as tie
+
+is-letter-requires : tie.Need-is-letter-requires
+is-letter-requires c κs = search needs
+
+is-digit-requires : tie.Need-is-digit-requires
+is-digit-requires c κs = search needs
+
+returns : tie.Need-returns
+returns c = cc
+
+pub is-id-character-spec : {M : Type 1} → statement M
+is-id-character-spec = tie.close (tie.spec is-letter-requires is-digit-requires returns)

@@ -1,0 +1,142 @@
+-- The kinds, and what question 7 says of each field of a product record (01, Listed months; Master file; Questions, 7).
+-- Assumes nothing.
+use Prim.Native.Nat.{ℕ}
+use mathlib.Core.Bool.{Bool, true, false, _&&_, _||_, cond}
+use mathlib.Core.List.{List, [], _∷_}
+use lib.ListN.{length, getD}
+use lib.Dec.{eqb, leb, ltb}
+use Rattle.questions.specs.Search.{every, oneOf}
+use Rattle.product.specs.declared.Term.{Term}
+use Rattle.product.specs.declared.Term.the-variants.{Months12, Months24, Months60}
+use Rattle.product.specs.declared.Kind.{Kind}
+use Rattle.product.specs.declared.Kind.the-variants.{Future, Option}
+use Rattle.product.specs.declared.KindAnswer.{KindAnswer}
+use Rattle.product.specs.declared.KindAnswer.the-variants.{Is, NotAKind}
+use Rattle.product.specs.declared.Product.{Product}
+
+-- 'an option with one of three terms': '1 option, 12 months', '2 option, 24 months', '3 option, 60 months'
+abbrev pub termNumber : Term → ℕ
+termNumber Months12 = 1
+termNumber Months24 = 2
+termNumber Months60 = 3
+
+-- 'A product's kind is either a future or an option with one of three terms': '0 future', else the term's number
+abbrev pub kindNumber : Kind → ℕ
+kindNumber Future = 0
+kindNumber (Option term) = termNumber term
+
+-- the kind with a number, where there is one: '0 future', '1 option, 12 months', '2 option, 24 months', '3 option, 60 months'
+unfoldable pub kindOf : ℕ → KindAnswer
+kindOf number =
+    cond (eqb number 0) (Is Future)
+    (cond (eqb number 1) (Is (Option Months12))
+    (cond (eqb number 2) (Is (Option Months24))
+    (cond (eqb number 3) (Is (Option Months60)) NotAKind)))
+
+-- 21 'Is it a future?'
+abbrev pub isFuture : Kind → Bool
+isFuture Future = true
+isFuture (Option term) = false
+
+-- 'A–Z', in ASCII
+abbrev pub letter : ℕ → Bool
+letter byte = leb 65 byte && leb byte 90
+
+-- '0–9', in ASCII
+abbrev pub digit : ℕ → Bool
+digit byte = leb 48 byte && leb byte 57
+
+-- 'A–Z and 0–9'
+abbrev pub idCharacter : ℕ → Bool
+idCharacter byte = letter byte || digit byte
+
+-- a byte of an id: one of 'A–Z and 0–9' within its characters, a space, 32, after them
+abbrev pub idByte : Bool → ℕ → Bool
+idByte true byte = idCharacter byte
+idByte false byte = eqb byte 32
+
+-- '.. of A–Z and 0–9, then spaces', for a given count of characters
+unfoldable pub idOf : List ℕ → ℕ → Bool
+idOf id count = every 4 (λ i. idByte (ltb i count) (getD id i 0))
+
+-- 'product id, 1 to 4 of A–Z and 0–9, then spaces'
+unfoldable pub idRight : List ℕ → Bool
+idRight id = idOf id 1 || idOf id 2 || idOf id 3 || idOf id 4
+
+-- 'the first digit 0 for futures and 1 for options', in ASCII, by the kind's number; a number that is no kind fails 'kind 0–3'
+abbrev pub firstDigit : ℕ → ℕ
+firstDigit kind = cond (eqb kind 0) 48 49
+
+-- 'group, two letters A–Z and two digits, the first digit 0 for futures and 1 for options'
+unfoldable pub groupRight : List ℕ → ℕ → Bool
+groupRight group kind =
+    letter (getD group 0 0)
+    && letter (getD group 1 0)
+    && digit (getD group 2 0)
+    && digit (getD group 3 0)
+    && eqb (getD group 2 0) (firstDigit kind)
+
+-- 'cash market, four letters A–Z'
+unfoldable pub marketRight : List ℕ → Bool
+marketRight market = every 4 (λ i. letter (getD market i 0))
+
+-- 'kind 0–3'
+abbrev pub kindRight : ℕ → Bool
+kindRight kind = leb kind 3
+
+-- 'contract size in shares, 1–65,535'
+abbrev pub sizeRight : ℕ → Bool
+sizeRight size = leb 1 size && leb size 65535
+
+-- 'tick in 1/10,000 of the currency, one of 1, 5, 10, 100'
+unfoldable pub tickRight : ℕ → Bool
+tickRight tick = oneOf (1 ∷ 5 ∷ 10 ∷ 100 ∷ []) tick
+
+-- the bytes are, one by one, the characters of a code, as 'EUR' or 'IT01'
+unfoldable pub isCode : List ℕ → List ℕ → Bool
+isCode code bytes = every (length code) (λ i. eqb (getD bytes i 0) (getD code i 0))
+
+-- the bytes are one of some codes, as 'EUR, CHF, USD, GBP or GBX'
+unfoldable pub oneOfCodes : List (List ℕ) → List ℕ → Bool
+oneOfCodes [] bytes = false
+oneOfCodes (code ∷ codes) bytes = isCode code bytes || oneOfCodes codes bytes
+
+-- 'EUR', in ASCII
+abbrev pub EUR : List ℕ
+EUR = 69 ∷ 85 ∷ 82 ∷ []
+
+-- 'CHF', in ASCII
+abbrev pub CHF : List ℕ
+CHF = 67 ∷ 72 ∷ 70 ∷ []
+
+-- 'USD', in ASCII
+abbrev pub USD : List ℕ
+USD = 85 ∷ 83 ∷ 68 ∷ []
+
+-- 'GBP', in ASCII
+abbrev pub GBP : List ℕ
+GBP = 71 ∷ 66 ∷ 80 ∷ []
+
+-- 'GBX', in ASCII
+abbrev pub GBX : List ℕ
+GBX = 71 ∷ 66 ∷ 88 ∷ []
+
+-- 'EUR, CHF, USD, GBP or GBX'
+unfoldable pub currencyRight : List ℕ → Bool
+currencyRight currency = oneOfCodes (EUR ∷ CHF ∷ USD ∷ GBP ∷ GBX ∷ []) currency
+
+-- 7 'Is every record .. as stated?', of the fields in the record's order: id, group, cash market, kind, contract size, tick, currency
+unfoldable pub fieldsRight : List ℕ → List ℕ → List ℕ → ℕ → ℕ → ℕ → List ℕ → Bool
+fieldsRight id group market kind size tick currency =
+    idRight id
+    && groupRight group kind
+    && marketRight market
+    && kindRight kind
+    && sizeRight size
+    && tickRight tick
+    && currencyRight currency
+
+-- 7 'Is every record .. as stated?', of a product
+unfoldable pub productRight : Product → Bool
+productRight p =
+    fieldsRight (p .id) (p .group) (p .market) (kindNumber (p .kind)) (p .size) (p .tick) (p .currency)
