@@ -4,7 +4,7 @@ program: python3 tests/expected.py NAME
 
 import sys
 
-from second import dates, trading
+from second import dates, listing, product, trading
 from second.trading import Calendar
 
 NO_DAY = 36525
@@ -120,12 +120,138 @@ def calendar_section():
         yield from calendar_lines(index, calendar)
 
 
+# ---- products ----
+
+COUNTRIES = ('DE', 'FI', 'FR', 'GB', 'IE', 'IT', 'US')
+PRICES = (0, 1, 5, 6, 12345, 999999900, 999999999, 1000000000)
+TICKS = (0, 1, 5, 10, 100)
+
+
+# A product with these fields, the others as in document 01's example.
+def product_with(group=b'FR11', size=100, tick=100):
+    return product.Product(b'AXA ', group, b'XPAR', 1, size, tick, b'EUR')
+
+
+# For each group: is it Italian, and the days to settlement of an option.
+def group_lines():
+    numbers = [b'%02d' % n for n in range(100)] + [b'1:', b' 1']
+    for country in COUNTRIES:
+        for digits in numbers:
+            group = country.encode() + digits
+            days = product.days_to_settlement(product_with(group=group))
+            codes = ' '.join(str(byte) for byte in group)
+            yield f'G {codes} {product.is_italian(group):d} {days}'
+
+
+# Questions 19 and 20 of a price.
+def price_lines():
+    for price in PRICES:
+        for tick in TICKS:
+            multiple = tick > 0 and product.is_multiple_of_tick(product_with(tick=tick), price)
+            yield f'P {price} {tick} {product.price_in_range(price):d} {multiple:d}'
+
+
+# Cash, 0 where 19, 22 or the size's range says no.
+def cash_lines():
+    for contracts in (0, 1, 3, 100000, 100001):
+        for size in (0, 1, 100, 65535):
+            for agreed in (0, 1, 123400, 999999999, 1000000000):
+                for final in (0, 125000, 999999999, 1000000000):
+                    admitted = (product.price_in_range(agreed) and size > 0
+                                and product.final_and_contracts_in_range(final, contracts))
+                    amount = 0
+                    if admitted:
+                        amount = product.cash_amount(product_with(size=size), contracts, final, agreed)
+                    yield f'Q {contracts} {size} {agreed} {final} {amount}'
+
+
+# The section on products: groups, prices, cash.
+def product_section():
+    yield from group_lines()
+    yield from price_lines()
+    yield from cash_lines()
+
+
+# ---- listings ----
+
+LISTING_COVERS = ((2000, 2), (2008, 3), (2020, 6), (2098, 2))
+
+
+# Thursday and Friday of the third week in three months of four, Wednesday too
+# in one of five.
+def close_near_third_fridays(cover, day):
+    month = dates.month_of(day)
+    week = dates.date_of(day)[2] - 1
+    if not 12 <= week <= 20:
+        return False
+    if dates.weekday(day) == 2:
+        return month % 5 == 0
+    return dates.weekday(day) >= 3 and month % 4 != 0
+
+
+# Christmas and the turn of the year, and a Friday and the Monday after it in
+# the third week of March or April.
+def close_holidays(cover, day):
+    year, month, day_of_month = dates.date_of(day)
+    if month == 1:
+        return day_of_month == 1
+    if month == 12:
+        return day_of_month in (24, 25, 26, 31)
+    if month == 3 + year % 2:
+        return ((dates.weekday(day) == 4 and 15 <= day_of_month <= 21)
+                or (dates.weekday(day) == 0 and 18 <= day_of_month <= 24))
+    return False
+
+
+LISTING_PATTERNS = ((3, close_the_edges), (4, close_near_third_fridays), (5, close_holidays))
+
+
+# A calendar with a pattern of closures.
+def closed_by(first_year, years, pattern):
+    cover = Calendar(first_year, years, frozenset())
+    days = range(trading.first_day(cover), trading.last_day(cover) + 1)
+    return Calendar(first_year, years, frozenset(
+        day for day in days if dates.is_weekday(day) and pattern(cover, day)))
+
+
+# The third Friday and the last trading day of each month of the cover.
+def last_day_lines(calendar, group):
+    for month in range(trading.first_month(calendar), trading.last_month(calendar) + 1):
+        last = listing.last_trading_day(calendar, group, month)
+        yield f'A {month} {listing.third_friday(month)} {0 if last is None else last}'
+
+
+# The front month and the listing on every 41st date of the cover: complete or
+# not, then month, day and number 0 for each of 15 places.
+def listing_lines(calendar, group, kind):
+    for date in range(trading.first_day(calendar), trading.last_day(calendar) + 1, 41):
+        front = listing.front_month(calendar, group, date)
+        fresh = listing.fresh_listing(calendar, group, kind, date)
+        complete = listing.listing_in_cover(calendar, group, kind, date)
+        places = [f'{month} {day} 0' for month, day in fresh] + ['0 0 0'] * (15 - len(fresh))
+        yield f'L {date} {front} {complete:d} ' + ' '.join(places)
+
+
+# The section on listings: every cover and pattern, an Italian group and another.
+def listing_section():
+    for first_year, years in LISTING_COVERS:
+        for number, pattern in LISTING_PATTERNS:
+            calendar = closed_by(first_year, years, pattern)
+            yield f'S {first_year} {years} {number}'
+            for group in (b'FR11', b'IT01'):
+                yield from last_day_lines(calendar, group)
+                for kind in range(4):
+                    yield from listing_lines(calendar, group, kind)
+
+
 # ---- All programs ----
 
 # The program comparisons: its sections in turn.
 def comparisons():
     yield from date_section()
     yield from calendar_section()
+    yield from product_section()
+    yield from listing_section()
 
 
 PROGRAMS = {

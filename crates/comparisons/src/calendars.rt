@@ -1,4 +1,5 @@
 // The calendar functions on covers of several lengths with patterns of closures.
+use crate::closures::closed_by;
 use crate::text::end_line;
 use crate::text::put;
 use crate::text::put_answer;
@@ -6,48 +7,6 @@ use crate::text::start_line;
 use calendar::Calendar;
 use calendar::Cover;
 ghost use Prim.Native.Nat.{_<_, _≤_};
-
-// Whether a pattern of closures has the day, a Monday to Friday.
-fn in_pattern(cover: Cover, pattern: u16, day: u16) -> bool
-    requires { ⌜ day < 36525 ⌝ }
-{
-    if pattern == 1 {
-        return day % 11 == 3;
-    }
-    if pattern == 2 {
-        let n = days::day_in_year(day);
-        return (70 <= n) & (n <= 79);
-    }
-    if pattern == 3 {
-        return (day < calendar::cover_start(cover) + 4) | (calendar::cover_end(cover) <= day + 4);
-    }
-    false
-}
-
-fn closed_if(cal: Calendar, pattern: u16, day: u16) -> Calendar
-    requires { ⌜ day < 36525 ⌝ }
-{
-    if 5 <= days::weekday(day) {
-        return cal;
-    }
-    if in_pattern(cal.cover, pattern, day) {
-        return calendar::close_day(cal, day);
-    }
-    cal
-}
-
-// The calendar of a cover with a pattern of closures.
-fn closed_by(cover: Cover, pattern: u16) -> Calendar {
-    let closed = [0u8; 736];
-    let mut cal = Calendar { cover, closed };
-    let end = calendar::cover_end(cover);
-    let mut day = calendar::cover_start(cover);
-    while day < end {
-        cal = closed_if(cal, pattern, day);
-        day += 1;
-    }
-    cal
-}
 
 // What is asked of one day.
 fn day_line(cal: Calendar, day: u16) {

@@ -1,9 +1,14 @@
 // Prints what the libraries answer to many inputs, section by section. The second program writes the same text.
 mod calendars;
+mod closures;
 mod dates;
+mod listings;
+mod products;
 mod text;
 
 fn main() {
     dates::print();
     calendars::print();
+    products::print();
+    listings::print();
 }

@@ -217,3 +217,10 @@ month-here k d r h a q l =
     let e : firstOf (suc k) ≡ firstDay (suc k) = first-to (suc k) h in
     let s : r ≡ firstOf (suc k) = rw (add-one k) at q in
     sym (month-is k d (omega arith) a (omega arith))
+
+pub month-most : (d : ℕ) → monthOf d ≤ 1200
+month-most d = go (lt-or-ge d 36525)
+  where
+    go : (d < 36525) ⊎ (36525 ≤ d) → monthOf d ≤ 1200
+    go (inl l) = omega (arith, month-holds d l)
+    go (inr l) = omega (arith, month-past d l)

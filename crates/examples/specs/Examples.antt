@@ -1,19 +1,65 @@
 -- The worked examples marked P, as one table of tests (01, March 2008 and its neighbours).
 -- Assumes nothing.
 use Prim.Native.Nat.{ℕ}
-use mathlib.Core.Bool.{Bool, true, _&&_}
+use mathlib.Core.Bool.{Bool, true, false, _&&_}
 use mathlib.Core.List.{List, [], _∷_}
 use lib.Dec.{eqb}
+use lib.IntN.{ℤ, pos, negsuc}
+use lib.ListN.{replicate}
 use Rattle.questions.specs.Questions.{Answer}
 use Rattle.days.specs.Gregorian.{weekdayOf}
-use Rattle.days.specs.Dates.{dayCall}
+use Rattle.days.specs.Dates.{dayCall, dayOf}
+use Rattle.calendar.specs.declared.Calendar.{Calendar}
+use Rattle.calendar.specs.Trading.{closeDay}
+use Rattle.product.specs.declared.Kind.the-variants.{Option}
+use Rattle.product.specs.declared.Term.the-variants.{Months12}
+use Rattle.product.specs.Settlement.{IT, groupCode}
+use Rattle.product.specs.Prices.{cashOf}
+use Rattle.listing.specs.Rules.{freshKeys}
+use Rattle.listing.specs.Months.{thirdFriday, lastTradingDay, ruleOf}
 
 -- a call's refusal and value
 abbrev pub answers : Answer ℕ → ℕ → ℕ → Bool
 answers a refusal value = eqb (a .refusal) refusal && eqb (a .value) value
 
+-- the same numbers in the same order
+abbrev pub sameList : List ℕ → List ℕ → Bool
+sameList [] [] = true
+sameList [] (y ∷ ys) = false
+sameList (x ∷ xs) [] = false
+sameList (x ∷ xs) (y ∷ ys) = eqb x y && sameList xs ys
+
+-- a positive amount, or zero
+abbrev pub isAmount : ℤ → ℕ → Bool
+isAmount (pos n) amount = eqb n amount
+isAmount (negsuc n) amount = false
+
+-- the group FR11
+abbrev pub FR11 : List ℕ
+FR11 = groupCode (70 ∷ 82 ∷ []) 11
+
+-- the group IT11
+abbrev pub IT11 : List ℕ
+IT11 = groupCode IT 11
+
+-- 2008 to 2010 with no closed day
+abbrev pub open2008 : Calendar
+open2008 = record { cover = record { «first_year» = 2008; years = 3 }; closed = replicate 736 0 }
+
+-- 'With only 21 March 2008 closed'
+unfoldable pub only21 : Calendar
+only21 = closeDay open2008 3002
+
+-- 'With 20 March closed too'
+unfoldable pub also20 : Calendar
+also20 = closeDay only21 3001
+
+-- 'kind 1 of FR11', on a date
+unfoldable pub monthsOn : ℕ → List ℕ
+monthsOn date = freshKeys (ruleOf only21 (Option Months12) FR11) only21 date
+
 -- the rows, each under its sentence
-abbrev pub rows : List Bool
+unfoldable pub rows : List Bool
 rows =
     -- '21 March 2008 is day 3,002, a Friday'
     answers (dayCall 2008 3 21) 0 3002 ∷ eqb (weekdayOf 3002) 4 ∷
@@ -21,6 +67,17 @@ rows =
     answers (dayCall 2008 1 1) 0 2922 ∷
     -- '29 February 2000 is 59; 29 February 2001: 23'
     answers (dayCall 2000 2 29) 0 59 ∷ answers (dayCall 2001 2 29) 23 0 ∷
+    -- 'With only 21 March 2008 closed, March 2008 ends on 20 March for FR11 and for IT11'
+    eqb (lastTradingDay only21 FR11 98) (dayOf 2008 3 20) ∷ eqb (lastTradingDay only21 IT11 98) (dayOf 2008 3 20) ∷
+    -- 'With 20 March closed too: 19 March for both'
+    eqb (lastTradingDay also20 FR11 98) (dayOf 2008 3 19) ∷ eqb (lastTradingDay also20 IT11 98) (dayOf 2008 3 19) ∷
+    -- 'A third Friday on the 15th (August 2008) and on the 21st (March 2008)'
+    eqb (thirdFriday 103) (dayOf 2008 8 15) ∷ eqb (thirdFriday 98) (dayOf 2008 3 21) ∷
+    -- 'With only 21 March closed, kind 1 of FR11 on 20 March 2008: Mar, Apr, May, Jun, Sep, Dec; on 21 March: Apr, May, Jun, Sep, Dec, Mar 2009'
+    sameList (monthsOn 3001) (98 ∷ 99 ∷ 100 ∷ 101 ∷ 104 ∷ 107 ∷ []) ∷
+    sameList (monthsOn 3002) (99 ∷ 100 ∷ 101 ∷ 104 ∷ 107 ∷ 110 ∷ []) ∷
+    -- '3 contracts of 100, agreed 12.3400, final 12.5000: +480,000'
+    isAmount (cashOf 3 100 123400 125000) 480000 ∷
     []
 
 -- every row of a table holds

@@ -1,10 +1,10 @@
 -- Laws of the tests over runs of numbers.
 -- Assumes nothing.
-use mathlib.Core.Path.{_≡_, refl, _∙_, sym, ap}
+use mathlib.Core.Path.{_≡_, refl, _∙_, sym, ap, fun-ext}
 use mathlib.Core.Bool.{Bool, true, false, _&&_, cond}
 use mathlib.Core.Logic.{_⊎_, inl, inr}
 use Prim.Native.Nat.{ℕ, zero, suc, _+_, _-_, _≤_, _<_}
-use native.Mathlib.Nat.{le-refl, eq-or-lt-of-le, le-of-suc-le-suc}
+use native.Mathlib.Nat.{add-zero, le-refl, eq-or-lt-of-le, le-of-suc-le-suc}
 use native.Mathlib.Numerals.{add-one}
 use native.Mathlib.Omega.{arith}
 use Rattle.questions.specs.Search.{every, some, latest, firstFrom}
@@ -125,6 +125,37 @@ module _ (f : ℕ → Bool) where
     first-next (suc n) d h e =
         let q : suc n - 1 ≡ n = omega arith in
         rw (e, q, add-one)
+
+-- a search of the numbers from d on, below e
+module _ (f : ℕ → Bool) (none e : ℕ) where
+  pub search-none : (d : ℕ) → e ≤ d → firstFrom f none (e - d) d ≡ none
+  search-none d h =
+      let z : e - d ≡ 0 = omega arith in
+      ap (λ (n : ℕ). firstFrom f none n d) z ∙ first-none f none d
+
+  pub search-here : (d : ℕ) → d < e → f d ≡ true → firstFrom f none (e - d) d ≡ d
+  search-here d h t = first-here f none (e - d) d (omega arith) t
+
+  pub search-next : (d : ℕ) → d < e → f d ≡ false → firstFrom f none (e - (d + 1)) (d + 1) ≡ firstFrom f none (e - d) d
+  search-next d h t =
+      let s : e - (d + 1) ≡ e - d - 1 = omega arith in
+      ap (λ (n : ℕ). firstFrom f none n (d + 1)) s ∙ sym (first-next f none (e - d) d (omega arith) t)
+
+-- the first of n that passes is the j-th after d where none before it passes
+pub first-is : (f : ℕ → Bool) (none n d j : ℕ) → j < n → ((i : ℕ) → i < j → f (d + i) ≡ false) → f (d + j) ≡ true → firstFrom f none n d ≡ d + j
+first-is f none n d zero h a b = first-here f none n d (omega arith) (ap f (sym (add-zero d)) ∙ b) ∙ sym (add-zero d)
+first-is f none n d (suc j) h a b =
+    let e : d + 0 ≡ d = add-zero d in
+    let s : d + 1 + j ≡ d + suc j = omega arith in
+    first-next f none n d (omega arith) (ap f (sym e) ∙ a 0 (omega arith)) ∙
+    first-is f none (n - 1) (d + 1) j (omega arith) (λ i l. ap f (next i) ∙ a (suc i) (omega arith)) (ap f s ∙ b) ∙ s
+  where
+    next : (i : ℕ) → d + 1 + i ≡ d + suc i
+    next i = omega arith
+
+-- two tests that agree find the same
+pub first-same : (f g : ℕ → Bool) (none n d : ℕ) → ((k : ℕ) → f k ≡ g k) → firstFrom f none n d ≡ firstFrom g none n d
+first-same f g none n d e = ap (λ (t : ℕ → Bool). firstFrom t none n d) (fun-ext e)
 
 -- a number that does not pass
 pub record Failing (f : ℕ → Bool) (n : ℕ) : Type 0 where

@@ -1,4 +1,5 @@
-use Rattle.calendar.proofs.Next.{next-start, rest-none, rest-here, rest-next}
+use Rattle.questions.proofs.Search.{search-none, search-here, search-next}
+use Rattle.calendar.proofs.Next.{next-start}
 use Rattle.questions.specs.Search.{firstFrom}
 use Rattle.calendar.specs.Trading.{tradingDay, nextTradingDay}
 use Prim.Native.Nat.{_+_, _-_, _≤_}
@@ -21,7 +22,7 @@ returns : tie.Need-returns Inv-loop μ-loop
 returns c =
     let q = c .before .cover-end .ensures .0 in
     let day = c .before .before .args .day in
-    sym (sym (next-start _ day _ q) ∙ rest-none _ day _ q (day + 1) (omega arith))
+    sym (sym (next-start _ day _ q) ∙ search-none _ _ _ (day + 1) (omega arith))
 
 add-d : tie.Need-add-d Inv-loop μ-loop
 add-d c = omega arith
@@ -33,7 +34,7 @@ is-trading-day-requires : tie.Need-is-trading-day-requires Inv-loop μ-loop
 is-trading-day-requires c κs = search needs
 
 returns-2 : tie.Need-returns-2 Inv-loop μ-loop
-returns-2 c = sym (rest-here _ (c .before .before .before .before .before .before .args .day) _ (c .before .before .before .before .before .cover-end .ensures .0) _ (c .before .before .loop-test .taken) (sym (c .before .is-trading-day .ensures) ∙ c .if2 .taken)) ∙ c .before .before .before .loop .inv .1
+returns-2 c = sym (search-here _ _ _ _ (c .before .before .loop-test .taken) (sym (c .before .is-trading-day .ensures) ∙ c .if2 .taken)) ∙ c .before .before .before .loop .inv .1
 
 add-d-2 : tie.Need-add-d-2 Inv-loop μ-loop
 add-d-2 c = omega arith
@@ -42,10 +43,10 @@ loop-less : tie.Need-loop-less Inv-loop μ-loop
 loop-less c = omega arith
 
 loop-again : tie.Need-loop-again Inv-loop μ-loop
-loop-again c = (omega arith, rest-next _ (c .before .before .before .before .before .before .args .day) _ (c .before .before .before .before .before .cover-end .ensures .0) _ (c .before .before .loop-test .taken) (sym (c .before .is-trading-day .ensures) ∙ c .if2 .left) ∙ c .before .before .before .loop .inv .1)
+loop-again c = (omega arith, search-next _ _ _ _ (c .before .before .loop-test .taken) (sym (c .before .is-trading-day .ensures) ∙ c .if2 .left) ∙ c .before .before .before .loop .inv .1)
 
 returns-3 : tie.Need-returns-3 Inv-loop μ-loop
-returns-3 c = sym (rest-none _ (c .before .before .before .before .args .day) _ (c .before .before .before .cover-end .ensures .0) _ (c .loop-test .left)) ∙ c .before .loop .inv .1
+returns-3 c = sym (search-none _ _ _ _ (c .loop-test .left)) ∙ c .before .loop .inv .1
 
 pub next-trading-day-spec : {M : Type 1} → statement M
 next-trading-day-spec =

@@ -1,0 +1,73 @@
+use Prim.Native.Nat.{_-_, _≤_}
+use borrow.Author.Needs.{needs}
+use Rattle.comparisons.proofs.listings.cover.Statement.{statement}
+use Rattle.comparisons.proofs.listings.cover.Tie as tie
+
+abbrev Inv-loop : tie.InvT-loop
+Inv-loop first-year years c pattern₀ t6 pattern = pattern ≤ 6
+
+abbrev μ-loop : tie.MeasureT-loop
+μ-loop first-year years c pattern₀ t6 pattern = 6 - pattern
+
+loop-holds : tie.Need-loop-holds Inv-loop μ-loop
+loop-holds c = search needs
+
+closed-by-requires : tie.Need-closed-by-requires Inv-loop μ-loop
+closed-by-requires c κs = search needs
+
+slice-aggregate-start-line : tie.Need-slice-aggregate-start-line Inv-loop μ-loop
+slice-aggregate-start-line c = search needs
+
+start-line-requires : tie.Need-start-line-requires Inv-loop μ-loop
+start-line-requires c κs = search needs
+
+put-requires : tie.Need-put-requires Inv-loop μ-loop
+put-requires c κs = search needs
+
+put-requires-2 : tie.Need-put-requires-2 Inv-loop μ-loop
+put-requires-2 c κs = search needs
+
+put-requires-3 : tie.Need-put-requires-3 Inv-loop μ-loop
+put-requires-3 c κs = search needs
+
+end-line-requires : tie.Need-end-line-requires Inv-loop μ-loop
+end-line-requires c κs = search needs
+
+group-lines-requires : tie.Need-group-lines-requires Inv-loop μ-loop
+group-lines-requires c κs = search needs
+
+group-lines-requires-2 : tie.Need-group-lines-requires-2 Inv-loop μ-loop
+group-lines-requires-2 c κs = search needs
+
+add-pattern : tie.Need-add-pattern Inv-loop μ-loop
+add-pattern c = search needs
+
+loop-less : tie.Need-loop-less Inv-loop μ-loop
+loop-less c = search needs
+
+loop-again : tie.Need-loop-again Inv-loop μ-loop
+loop-again c = search needs
+
+returns : tie.Need-returns Inv-loop μ-loop
+returns c = search needs
+
+pub cover-spec : {M : Type 1} → statement M
+cover-spec =
+    tie.close
+    (tie.spec
+    Inv-loop
+    μ-loop
+    loop-holds
+    closed-by-requires
+    slice-aggregate-start-line
+    start-line-requires
+    put-requires
+    put-requires-2
+    put-requires-3
+    end-line-requires
+    group-lines-requires
+    group-lines-requires-2
+    add-pattern
+    loop-less
+    loop-again
+    returns)

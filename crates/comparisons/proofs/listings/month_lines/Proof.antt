@@ -1,0 +1,90 @@
+use native.Mathlib.Omega.{arith}
+use Rattle.days.proofs.Months.{month-most}
+use Prim.Native.Nat.{_-_, _≤_}
+use borrow.Author.Needs.{needs}
+use Rattle.comparisons.proofs.listings.month_lines.Statement.{statement}
+use Rattle.comparisons.proofs.listings.month_lines.Tie as tie
+
+abbrev Inv-loop : tie.InvT-loop
+Inv-loop cal group first end month₀ t6 month = (end ≤ 1200) × (month ≤ 1200)
+
+abbrev μ-loop : tie.MeasureT-loop
+μ-loop cal group first end month₀ t6 month = end - month
+
+cover-start-requires : tie.Need-cover-start-requires Inv-loop μ-loop
+cover-start-requires c κs = search needs
+
+month-of-requires : tie.Need-month-of-requires Inv-loop μ-loop
+month-of-requires c κs = search needs
+
+cover-end-requires : tie.Need-cover-end-requires Inv-loop μ-loop
+cover-end-requires c κs = search needs
+
+month-of-requires-2 : tie.Need-month-of-requires-2 Inv-loop μ-loop
+month-of-requires-2 c κs = search needs
+
+loop-holds : tie.Need-loop-holds Inv-loop μ-loop
+loop-holds c = (
+  omega (arith, c .month-of2 .ensures, month-most (c .before .cover-end .result)),
+  omega (arith, c .before .before .month-of .ensures, month-most (c .before .before .before .cover-start .result)),
+)
+
+slice-aggregate-start-line : tie.Need-slice-aggregate-start-line Inv-loop μ-loop
+slice-aggregate-start-line c = search needs
+
+start-line-requires : tie.Need-start-line-requires Inv-loop μ-loop
+start-line-requires c κs = search needs
+
+put-requires : tie.Need-put-requires Inv-loop μ-loop
+put-requires c κs = search needs
+
+third-friday-requires : tie.Need-third-friday-requires Inv-loop μ-loop
+third-friday-requires c κs = search needs
+
+put-requires-2 : tie.Need-put-requires-2 Inv-loop μ-loop
+put-requires-2 c κs = search needs
+
+last-trading-day-requires : tie.Need-last-trading-day-requires Inv-loop μ-loop
+last-trading-day-requires c κs = search needs
+
+put-requires-3 : tie.Need-put-requires-3 Inv-loop μ-loop
+put-requires-3 c κs = search needs
+
+end-line-requires : tie.Need-end-line-requires Inv-loop μ-loop
+end-line-requires c κs = search needs
+
+add-month : tie.Need-add-month Inv-loop μ-loop
+add-month c = search needs
+
+loop-less : tie.Need-loop-less Inv-loop μ-loop
+loop-less c = search needs
+
+loop-again : tie.Need-loop-again Inv-loop μ-loop
+loop-again c = search needs
+
+returns : tie.Need-returns Inv-loop μ-loop
+returns c = search needs
+
+pub month-lines-spec : {M : Type 1} → statement M
+month-lines-spec =
+    tie.close
+    (tie.spec
+    Inv-loop
+    μ-loop
+    cover-start-requires
+    month-of-requires
+    cover-end-requires
+    month-of-requires-2
+    loop-holds
+    slice-aggregate-start-line
+    start-line-requires
+    put-requires
+    third-friday-requires
+    put-requires-2
+    last-trading-day-requires
+    put-requires-3
+    end-line-requires
+    add-month
+    loop-less
+    loop-again
+    returns)

@@ -1,0 +1,87 @@
+// Last trading days and listings of every kind, for an Italian group and another, on covers with clusters of closures.
+use crate::closures::closed_by;
+use crate::text::end_line;
+use crate::text::put;
+use crate::text::put_answer;
+use crate::text::start_line;
+use calendar::Calendar;
+use calendar::Cover;
+use listing::Maturity;
+use product::Kind;
+use product::KindAnswer;
+ghost use Prim.Native.Nat.{_<_};
+
+// The last trading day of each month of the cover.
+fn month_lines(cal: Calendar, group: [u8; 4]) {
+    let first = days::month_of(calendar::cover_start(cal.cover));
+    let end = days::month_of(calendar::cover_end(cal.cover));
+    for month in first..end {
+        start_line(b"A");
+        put(month);
+        put(listing::third_friday(month));
+        put(listing::last_trading_day(cal, group, month));
+        end_line();
+    }
+}
+
+fn put_maturities(maturities: [Maturity; 15]) {
+    for i in 0..15usize {
+        let m = maturities[i];
+        put(m.month);
+        put(m.day);
+        put(m.number);
+    }
+}
+
+// The listing of one kind on one date.
+fn listing_line(cal: Calendar, kind: Kind, group: [u8; 4], date: u16) {
+    let l = listing::list(cal, kind, group, date);
+    let maturities = l.maturities;
+    start_line(b"L");
+    put(date);
+    put(listing::front_month(cal, group, date));
+    put_answer(l.complete);
+    put_maturities(maturities);
+    end_line();
+}
+
+fn kind_lines(cal: Calendar, number: u8, group: [u8; 4]) {
+    let KindAnswer::Is(kind) = product::kind_of(number) else {
+        return;
+    };
+    let end = calendar::cover_end(cal.cover);
+    let mut date = calendar::cover_start(cal.cover);
+    while date < end {
+        listing_line(cal, kind, group, date);
+        date += 41;
+    }
+}
+
+fn group_lines(cal: Calendar, group: [u8; 4]) {
+    month_lines(cal, group);
+    kind_lines(cal, 0, group);
+    kind_lines(cal, 1, group);
+    kind_lines(cal, 2, group);
+    kind_lines(cal, 3, group);
+}
+
+fn cover(first_year: u16, years: u16) {
+    let c = Cover { first_year, years };
+    for pattern in 3..6u16 {
+        let cal = closed_by(c, pattern);
+        start_line(b"S");
+        put(first_year);
+        put(years);
+        put(pattern);
+        end_line();
+        group_lines(cal, [70, 82, 49, 49]);
+        group_lines(cal, [73, 84, 48, 49]);
+    }
+}
+
+pub fn print() {
+    cover(2000, 2);
+    cover(2008, 3);
+    cover(2020, 6);
+    cover(2098, 2);
+}

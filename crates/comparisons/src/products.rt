@@ -1,0 +1,100 @@
+// Groups, days to settlement, ticks and cash.
+use crate::text::end_line;
+use crate::text::put;
+use crate::text::put_answer;
+use crate::text::put_signed;
+use crate::text::start_line;
+ghost use Prim.Native.Nat.{_<_};
+
+// Whether a group is Italian, and an option's days to settlement.
+fn group_line(a: u8, b: u8, tens: u8, ones: u8) {
+    let group = [a, b, tens, ones];
+    start_line(b"G");
+    put(a as u16);
+    put(b as u16);
+    put(tens as u16);
+    put(ones as u16);
+    put_answer(product::is_italian(group));
+    put(product::option_days(group) as u16);
+    end_line();
+}
+
+fn country(a: u8, b: u8) {
+    for i in 0..100u8 {
+        group_line(a, b, 48 + i / 10, 48 + i % 10);
+    }
+    group_line(a, b, 49, 58);
+    group_line(a, b, 32, 49);
+}
+
+fn tick_line(price: u32, tick: u16) {
+    start_line(b"P");
+    put_signed(price as i64);
+    put(tick);
+    put_answer(product::price_right(price));
+    put_answer(product::is_multiple(price, tick));
+    end_line();
+}
+
+fn ticks(price: u32) {
+    tick_line(price, 0);
+    tick_line(price, 1);
+    tick_line(price, 5);
+    tick_line(price, 10);
+    tick_line(price, 100);
+}
+
+fn cash_line(contracts: u32, size: u16, agreed: u32, last: u32) {
+    start_line(b"Q");
+    put_signed(contracts as i64);
+    put(size);
+    put_signed(agreed as i64);
+    put_signed(last as i64);
+    put_signed(product::cash(contracts, size, agreed, last));
+    end_line();
+}
+
+fn final_prices(contracts: u32, size: u16, agreed: u32) {
+    cash_line(contracts, size, agreed, 0);
+    cash_line(contracts, size, agreed, 125000);
+    cash_line(contracts, size, agreed, 999999999);
+    cash_line(contracts, size, agreed, 1000000000);
+}
+
+fn agreed_prices(contracts: u32, size: u16) {
+    final_prices(contracts, size, 0);
+    final_prices(contracts, size, 1);
+    final_prices(contracts, size, 123400);
+    final_prices(contracts, size, 999999999);
+    final_prices(contracts, size, 1000000000);
+}
+
+fn sizes(contracts: u32) {
+    agreed_prices(contracts, 0);
+    agreed_prices(contracts, 1);
+    agreed_prices(contracts, 100);
+    agreed_prices(contracts, 65535);
+}
+
+pub fn print() {
+    country(68, 69);
+    country(70, 73);
+    country(70, 82);
+    country(71, 66);
+    country(73, 69);
+    country(73, 84);
+    country(85, 83);
+    ticks(0);
+    ticks(1);
+    ticks(5);
+    ticks(6);
+    ticks(12345);
+    ticks(999999900);
+    ticks(999999999);
+    ticks(1000000000);
+    sizes(0);
+    sizes(1);
+    sizes(3);
+    sizes(100000);
+    sizes(100001);
+}

@@ -1,0 +1,41 @@
+-- The third Friday by arithmetic, and the last trading day as the latest trading day.
+-- Assumes nothing.
+use mathlib.Core.Path.{_≡_, refl, sym, ap}
+use mathlib.Core.Bool.{Bool, true, false, cond}
+use Prim.Native.Nat.{ℕ, zero, suc, _+_, _-_, _%_}
+use native.Mathlib.Omega.{arith}
+use borrow.Author.Tests.{eq-eqb, ne-eqb}
+use Rattle.questions.specs.Search.{latest, firstFrom}
+use Rattle.questions.proofs.Search.{first-is, latest-here, latest-back, latest-zero}
+use Rattle.days.specs.Gregorian.{weekdayOf}
+use Rattle.days.specs.Dates.{firstOf}
+use Rattle.calendar.specs.declared.Calendar.{Calendar}
+use Rattle.calendar.specs.Trading.{tradingDay}
+use Rattle.listing.specs.Rules.{lastDay}
+use Rattle.listing.specs.Months.{friday, thirdFriday}
+
+-- the days from d to the next Friday
+abbrev wait : ℕ → ℕ
+wait d = (11 - weekdayOf d) % 7
+
+first-friday : (d : ℕ) → firstFrom friday d 7 d ≡ d + wait d
+first-friday d =
+    first-is friday d 7 d (wait d) (omega arith) (λ i h. ne-eqb (weekdayOf (d + i)) 4 (omega arith)) (eq-eqb (weekdayOf (d + wait d)) 4 (omega arith))
+
+pub third-is : (m : ℕ) → thirdFriday m ≡ firstOf m + wait (firstOf m) + 14
+unfolding thirdFriday
+third-is m = ap (λ (d : ℕ). d + 14) (first-friday (firstOf m))
+
+-- the anchor, if it is a trading day, else the latest before it: the latest at or before it
+pub last-is : (cal : Calendar) (a : ℕ) → lastDay cal a ≡ latest (tradingDay cal) a
+unfolding lastDay
+last-is cal zero = go (tradingDay cal 0)
+  where
+    go : (b : Bool) → cond b 0 (latest (tradingDay cal) 0) ≡ latest (tradingDay cal) 0
+    go true = sym (latest-zero (tradingDay cal) 0 (omega arith))
+    go false = refl
+last-is cal (suc a) = go (tradingDay cal (suc a)) refl
+  where
+    go : (b : Bool) → tradingDay cal (suc a) ≡ b → cond b (suc a) (latest (tradingDay cal) (suc a - 1)) ≡ latest (tradingDay cal) (suc a)
+    go true e = sym (latest-here (tradingDay cal) (suc a) e)
+    go false e = latest-back (tradingDay cal) (suc a) (omega arith) e

@@ -1,0 +1,222 @@
+-- The laws by which the two loops of `list` follow the definition of the listing.
+-- Assumes nothing.
+use mathlib.Core.Path.{_≡_, refl, _∙_, sym, ap}
+use mathlib.Core.Bool.{Bool, true, false, not, cond}
+use mathlib.Core.List.{List, [], _∷_, _++_, map}
+use Prim.Native.Nat.{ℕ, zero, suc, _+_, _-_, _%_, _≤_, _<_}
+use native.Mathlib.Nat.{zero-add, sub-zero}
+use native.Mathlib.Numerals.{add-one}
+use native.Mathlib.Omega.{arith}
+use lib.Dec.{ltb, eqb, lit≤, lit<}
+use lib.ListN.{length, getD, replicate, set, drop, drop-of-length-le, length-append, length-replicate, length-map}
+use lib.Seq.{sets, drop-cons, sets-eq}
+use borrow.Author.Tests.{lt-ltb, le-ltb, eq-eqb, ne-eqb}
+use Rattle.questions.specs.Search.{every, oneOf}
+use Rattle.questions.proofs.Search.{every-at}
+use Rattle.product.specs.declared.Kind.{Kind}
+use Rattle.product.specs.declared.Kind.the-variants.{Future, Option}
+use Rattle.product.specs.declared.Term.the-variants.{Months12, Months24, Months60}
+use Rattle.product.specs.Fields.{kindNumber}
+use Rattle.listing.specs.declared.Maturity.{Maturity}
+use Rattle.listing.specs.declared.Listing.{Listing}
+use Rattle.listing.specs.Rules.{nextOf, taken, unused, places15}
+use Rattle.listing.specs.Months.{monthSets, counts, inSet, placesOf}
+
+-- the places of the steps from s on, of row k
+unfoldable pub rest : ℕ → ℕ → List (ℕ → Bool)
+rest k s = placesOf (drop s (getD counts k [])) (drop s monthSets)
+
+-- the set of step s
+abbrev pub setOf : ℕ → ℕ → Bool
+setOf s = inSet (getD monthSets s [])
+
+-- a row has four counts, of at most fifteen months
+row-length : (k : ℕ) → k < 4 → length (getD counts k []) ≡ 4
+row-length zero h = refl
+row-length (suc zero) h = refl
+row-length (suc (suc zero)) h = refl
+row-length (suc (suc (suc zero))) h = refl
+row-length (suc (suc (suc (suc k)))) h = absurd (omega arith)
+
+pub kind-below : (kind : Kind) → kindNumber kind < 4
+kind-below Future = lit< tt
+kind-below (Option Months12) = lit< tt
+kind-below (Option Months24) = lit< tt
+kind-below (Option Months60) = lit< tt
+
+pub rest-room : (kind : Kind) → length (rest (kindNumber kind) 0) ≤ 15
+unfolding rest placesOf
+rest-room Future = lit≤ tt
+rest-room (Option Months12) = lit≤ tt
+rest-room (Option Months24) = lit≤ tt
+rest-room (Option Months60) = lit≤ tt
+
+-- the steps from s on are the step s and those after it
+rest-step : (k s : ℕ) → k < 4 → s < 4 → rest k s ≡ replicate (getD (getD counts k []) s 0) (setOf s) ++ rest k (s + 1)
+unfolding rest placesOf
+rest-step k s hk hs =
+    let l : s < length (getD counts k []) = rw row-length hs in
+    rw (drop-cons (getD counts k []) s 0 l, drop-cons monthSets s [] hs, add-one)
+
+rest-none : (k s : ℕ) → k < 4 → 4 ≤ s → rest k s ≡ []
+unfolding rest placesOf
+rest-none k s hk hs =
+    let l : length (getD counts k []) ≤ s = rw row-length hs in
+    rw (drop-of-length-le (getD counts k []) l)
+
+-- the listing once the places ps are filled from the key f on, after n places of a; it is complete if they make t
+module _ (mat : ℕ → Maturity) (e t : ℕ) where
+  unfoldable pub grown : ℕ → List Maturity → List (ℕ → Bool) → ℕ → Listing
+  grown n a ps f = record { complete = eqb (n + length (taken e ps f)) t; maturities = sets a n (map mat (taken e ps f)) }
+
+  -- nothing is left
+  pub grown-done : (n f : ℕ) (a : List Maturity) → n ≡ t → grown n a [] f ≡ record { complete = true; maturities = a }
+  unfolding grown taken
+  grown-done n f a q = rw (eq-eqb (n + 0) t (omega arith))
+
+  module _ (n c j f : ℕ) (p : ℕ → Bool) (a : List Maturity) (r : List (ℕ → Bool)) (h : j < c) where
+    one-more : replicate (c - j) p ≡ p ∷ replicate (c - (j + 1)) p
+    one-more = let q : c - j ≡ suc (c - (j + 1)) = omega arith in rw q
+
+    shift : (x : ℕ) → n + suc x ≡ suc n + x
+    shift x = omega arith
+
+    -- a key below the end is taken
+    pub grown-turn : nextOf e p f < e → grown n a (replicate (c - j) p ++ r) f ≡ grown (n + 1) (set a n (mat (nextOf e p f))) (replicate (c - (j + 1)) p ++ r) (nextOf e p f + 1)
+    unfolding grown taken
+    grown-turn l = rw (one-more, lt-ltb _ _ l, add-one n, add-one (nextOf e p f), shift)
+
+    -- a key at the end or beyond stops the walk
+    pub grown-stop : e ≤ nextOf e p f → n < t → grown n a (replicate (c - j) p ++ r) f ≡ record { complete = false; maturities = a }
+    unfolding grown taken
+    grown-stop l u = rw (one-more, le-ltb _ _ l, ne-eqb (n + 0) t (omega arith))
+
+-- a step that has taken its count
+step-done : (c j : ℕ) (p : ℕ → Bool) (r : List (ℕ → Bool)) → c ≤ j → replicate (c - j) p ++ r ≡ r
+step-done c j p r h = let q : c - j ≡ 0 = omega arith in rw q
+
+-- the walk with the places ps still to fill: the listing that they complete is the whole one
+pub record Walking (mat : ℕ → Maturity) (e k front : ℕ) (a : List Maturity) (n from : ℕ) (complete : Bool) (ps : List (ℕ → Bool)) : Type 0 where
+  pub row : k < 4
+  pub ends : e ≤ 1200
+  pub so-far : complete ≡ true
+  pub few : n + length ps ≡ length (rest k 0)
+  pub room : length (rest k 0) ≤ 15
+  pub same : grown mat e (length (rest k 0)) n a ps from ≡ grown mat e (length (rest k 0)) 0 (replicate 15 unused) (rest k 0) front
+
+pub starts : (mat : ℕ → Maturity) (e : ℕ) (kind : Kind) (k front : ℕ) → k ≡ kindNumber kind → e ≤ 1200 → Walking mat e k front (replicate 15 unused) 0 front true (rest k 0)
+starts mat e kind k front q h =
+    rw q (record { row = kind-below kind; ends = h; so-far = refl; few = omega arith; room = rest-room kind; same = refl })
+
+module _ {mat : ℕ → Maturity} {e k front : ℕ} {a : List Maturity} {n from : ℕ} {complete : Bool} where
+  -- a step begins
+  pub enters : (s : ℕ) → s < 4 → Walking mat e k front a n from complete (rest k s)
+      → Walking mat e k front a n from complete (replicate (getD (getD counts k []) s 0 - 0) (setOf s) ++ rest k (s + 1))
+      × (getD (getD counts k []) s 0 ≤ 255)
+  enters s h w = (
+    rw (sub-zero, ← rest-step k s (w .row) h) w,
+    omega (arith, w .room, simp (length-append, length-replicate) at (rw (rest-step k s (w .row) h) at (w .few))),
+  )
+
+  -- the last step has ended
+  pub finishes : (s : ℕ) → 4 ≤ s → Walking mat e k front a n from complete (rest k s)
+      → _≡_ {A = Listing} (record { complete = complete; maturities = a }) (grown mat e (length (rest k 0)) 0 (replicate 15 unused) (rest k 0) front)
+  finishes s h w =
+      let z : rest k s ≡ [] = rest-none k s (w .row) h in
+      let q : n ≡ length (rest k 0) = omega (arith, w .few, ap length z) in
+      rw (w .so-far) (sym (grown-done mat e (length (rest k 0)) n from a q) ∙ (rw z at (w .same)))
+
+  module _ (c j : ℕ) (p : ℕ → Bool) (r : List (ℕ → Bool)) (w : Walking mat e k front a n from complete (replicate (c - j) p ++ r)) where
+    -- a step ends
+    pub leaves : c ≤ j → Walking mat e k front a n from complete r
+    leaves h = rw (step-done c j p r h) at w
+
+    sizes : n + (c - j + length r) ≡ length (rest k 0)
+    sizes = simp (length-append, length-replicate) at (w .few)
+
+    pub has-room : j < c → n < 15
+    has-room h = omega (arith, sizes, w .room)
+
+    -- a key is taken
+    pub takes : (m : ℕ) → j < c → m ≡ nextOf e p from → m < e → Walking mat e k front (set a n (mat m)) (n + 1) (m + 1) complete (replicate (c - (j + 1)) p ++ r)
+    takes m h q l =
+        record {
+          row = w .row;
+          ends = w .ends;
+          so-far = w .so-far;
+          few = simp (length-append, length-replicate) (omega (arith, sizes));
+          room = w .room;
+          same = rw q (sym (grown-turn mat e (length (rest k 0)) n c j from p a r h (rw q at l)) ∙ w .same);
+        }
+
+    -- a key beyond the cover ends the walk
+    pub stops : (m : ℕ) → j < c → m ≡ nextOf e p from → e ≤ m
+        → _≡_ {A = Listing} (record { complete = false; maturities = a }) (grown mat e (length (rest k 0)) 0 (replicate 15 unused) (rest k 0) front)
+    stops m h q l = sym (grown-stop mat e (length (rest k 0)) n c j from p a r h (rw q at l) (omega (arith, sizes))) ∙ w .same
+
+-- fifteen places, of which the first hold the list
+sets-places : (ms : List Maturity) → length ms ≤ 15 → sets (replicate 15 unused) 0 ms ≡ places15 ms
+unfolding places15
+sets-places ms h = sets-eq ms (replicate 15 unused) 0 (omega arith) ∙ drops (length ms) h
+  where
+    left : (i n : ℕ) → i ≤ n → drop i (replicate n unused) ≡ replicate (n - i) unused
+    left zero n l = ap (λ (x : ℕ). replicate x unused) (sym (sub-zero n))
+    left (suc i) zero l = absurd (omega arith)
+    left (suc i) (suc n) l =
+        let q : n - i ≡ suc n - suc i = omega arith in
+        left i n (omega arith) ∙ ap (λ (x : ℕ). replicate x unused) q
+
+    drops : (i : ℕ) → i ≤ 15 → ms ++ drop (0 + i) (replicate 15 unused) ≡ ms ++ replicate (15 - i) unused
+    drops i l = ap (λ (x : List Maturity). ms ++ x) (ap (λ (x : ℕ). drop x (replicate 15 unused)) (zero-add i) ∙ left i 15 l)
+
+-- no more keys are taken than there are places
+pub taken-length : (e : ℕ) (ps : List (ℕ → Bool)) (f : ℕ) → length (taken e ps f) ≤ length ps
+unfolding taken
+taken-length e [] f = omega arith
+taken-length e (p ∷ ps) f = go (ltb (nextOf e p f) e) (taken-length e ps (suc (nextOf e p f)))
+  where
+    go : (b : Bool) → length (taken e ps (suc (nextOf e p f))) ≤ length ps → length (cond b (nextOf e p f ∷ taken e ps (suc (nextOf e p f))) []) ≤ suc (length ps)
+    go true h = omega arith
+    go false h = omega arith
+
+-- the whole listing
+pub whole-is : (mat : ℕ → Maturity) (e k front : ℕ) → length (rest k 0) ≤ 15
+    → grown mat e (length (rest k 0)) 0 (replicate 15 unused) (rest k 0) front
+    ≡ record { complete = eqb (length (taken e (rest k 0) front)) (length (rest k 0)); maturities = places15 (map mat (taken e (rest k 0) front)) }
+unfolding grown
+whole-is mat e k front h =
+    let l : length (map mat (taken e (rest k 0) front)) ≤ 15 = simp length-map (omega (arith, taken-length e (rest k 0) front)) in
+    rw (zero-add, sets-places (map mat (taken e (rest k 0) front)) l)
+
+-- the sets by arithmetic on the month's name
+same : Bool → Bool → Bool
+same a b = cond a b (not b)
+
+same-is : (a b : Bool) → same a b ≡ true → a ≡ b
+unfolding same
+same-is true true e = refl
+same-is true false e = sym e
+same-is false true e = e
+same-is false false e = refl
+
+module _ (s : ℕ) (test : ℕ → Bool) (right : every 12 (λ j. same (test (j + 1)) (oneOf (getD monthSets s []) (j + 1))) ≡ true) where
+  set-by : (m : ℕ) → test (m % 12 + 1) ≡ setOf s m
+  unfolding inSet
+  set-by m = same-is (test (m % 12 + 1)) (oneOf (getD monthSets s []) (m % 12 + 1)) (every-at (λ j. same (test (j + 1)) (oneOf (getD monthSets s []) (j + 1))) 12 (m % 12) right (omega arith))
+
+-- every month, quarters, half years, Decembers
+pub set-all : (m : ℕ) → true ≡ setOf 0 m
+unfolding every oneOf same
+set-all = set-by 0 (λ name. true) refl
+
+pub set-quarters : (m : ℕ) → eqb ((m % 12 + 1) % 3) 0 ≡ setOf 1 m
+unfolding every oneOf same
+set-quarters = set-by 1 (λ name. eqb (name % 3) 0) refl
+
+pub set-halves : (m : ℕ) → eqb ((m % 12 + 1) % 6) 0 ≡ setOf 2 m
+unfolding every oneOf same
+set-halves = set-by 2 (λ name. eqb (name % 6) 0) refl
+
+pub set-decembers : (m : ℕ) → eqb (m % 12 + 1) 12 ≡ setOf 3 m
+unfolding every oneOf same
+set-decembers = set-by 3 (λ name. eqb name 12) refl

@@ -1,0 +1,30 @@
+use Rattle.listing.proofs.Fridays.{third-is}
+use Rattle.listing.specs.Months.{anchorOf}
+use Rattle.listing.specs.Rules.{taken}
+use Prim.Native.Nat.{_-_}
+use native.Mathlib.Omega.{arith}
+use mathlib.Core.Path.{_∙_, sym}
+use borrow.Author.Needs.{needs}
+use Rattle.listing.proofs.anchor.Statement.{statement}
+use Rattle.listing.proofs.anchor.Tie as tie
+
+third-friday-requires : tie.Need-third-friday-requires
+third-friday-requires c κs = search needs
+
+is-italian-requires : tie.Need-is-italian-requires
+is-italian-requires c κs = search needs
+
+sub-result : tie.Need-sub-result
+sub-result c = omega (arith, c .before .before .third-friday .ensures, third-is (c .before .before .before .args .month))
+
+returns : tie.Need-returns
+unfolding anchorOf
+returns c = simp (sym (c .before .is-italian .ensures) ∙ c .if1 .taken, c .before .before .third-friday .ensures)
+
+returns-2 : tie.Need-returns-2
+unfolding anchorOf
+returns-2 c = simp (sym (c .before .is-italian .ensures) ∙ c .if1 .left, c .before .before .third-friday .ensures)
+
+pub anchor-spec : {M : Type 1} → statement M
+anchor-spec =
+    tie.close (tie.spec third-friday-requires is-italian-requires sub-result returns returns-2)

@@ -1,0 +1,91 @@
+-- Monthly maturities: the third Friday, the anchor, the month sets and the rows of counts (01, Last trading day; Listed months; 002, 1.6.3, 1.6.4; 000, 2.6.4).
+-- Assumes nothing.
+use Prim.Native.Nat.{ℕ, _+_, _-_}
+use mathlib.Core.Bool.{Bool, true, cond}
+use mathlib.Core.List.{List, [], _∷_, _++_, map}
+use lib.Dec.{eqb, leb}
+use lib.ListN.{getD, replicate}
+use Rattle.questions.specs.Search.{oneOf, firstFrom}
+use Rattle.days.specs.Gregorian.{weekdayOf, monthName}
+use Rattle.days.specs.Dates.{firstOf, monthOf}
+use Rattle.calendar.specs.declared.Cover.{Cover}
+use Rattle.calendar.specs.declared.Calendar.{Calendar}
+use Rattle.calendar.specs.Trading.{coverStart, coverEnd}
+use Rattle.product.specs.declared.Kind.{Kind}
+use Rattle.product.specs.Fields.{kindNumber}
+use Rattle.product.specs.Settlement.{italian}
+use Rattle.listing.specs.declared.Listing.{Listing}
+use Rattle.listing.specs.Rules.{Rule, lastDay, freshKeys, complete, maturity, places15}
+
+-- a Friday
+abbrev pub friday : ℕ → Bool
+friday d = eqb (weekdayOf d) 4
+
+-- the third Friday of a month: two weeks after the first Friday on or after its first day
+unfoldable pub thirdFriday : ℕ → ℕ
+thirdFriday m = firstFrom friday (firstOf m) 7 (firstOf m) + 14
+
+-- 'The anchor of a month is its third Friday; for the groups IT01 and IT11 the day before that'
+unfoldable pub anchorOf : List ℕ → ℕ → ℕ
+anchorOf group m = cond (italian group) (thirdFriday m - 1) (thirdFriday m)
+
+-- the last trading day of a month
+unfoldable pub lastTradingDay : Calendar → List ℕ → ℕ → ℕ
+lastTradingDay cal group m = lastDay cal (anchorOf group m)
+
+-- 'The front month on a date is the first month, from the date's own month on, whose last trading day is not before the date'; the first month beyond the cover where the cover has none
+unfoldable pub frontMonth : Calendar → List ℕ → ℕ → ℕ
+frontMonth cal group date =
+    firstFrom (λ m. leb date (lastTradingDay cal group m)) (monthOf (coverEnd (cal .cover)))
+    (monthOf (coverEnd (cal .cover)) - monthOf date) (monthOf date)
+
+-- the head of the table of counts: 'every month', 'Mar Jun Sep Dec', 'Jun Dec', 'Dec', as month names
+abbrev pub monthSets : List (List ℕ)
+monthSets =
+    (1 ∷ 2 ∷ 3 ∷ 4 ∷ 5 ∷ 6 ∷ 7 ∷ 8 ∷ 9 ∷ 10 ∷ 11 ∷ 12 ∷ [])
+    ∷ (3 ∷ 6 ∷ 9 ∷ 12 ∷ [])
+    ∷ (6 ∷ 12 ∷ [])
+    ∷ (12 ∷ [])
+    ∷ []
+
+-- 'the counts stand in four rows of four'
+abbrev pub counts : List (List ℕ)
+counts = (13 ∷ 0 ∷ 0 ∷ 2 ∷ []) ∷ (3 ∷ 3 ∷ 0 ∷ 0 ∷ []) ∷ (3 ∷ 3 ∷ 2 ∷ 0 ∷ []) ∷ (3 ∷ 3 ∷ 4 ∷ 2 ∷ []) ∷ []
+
+-- a month of one of the names
+unfoldable pub inSet : List ℕ → ℕ → Bool
+inSet names m = oneOf names (monthName m)
+
+-- a step takes so many months of its set: so many places
+unfoldable pub placesOf : List ℕ → List (List ℕ) → List (ℕ → Bool)
+placesOf [] sets = []
+placesOf (count ∷ counts) [] = []
+placesOf (count ∷ counts) (names ∷ sets) = replicate count (inSet names) ++ placesOf counts sets
+
+-- the row of counts of a kind
+abbrev pub rowOf : Kind → List ℕ
+rowOf kind = getD counts (kindNumber kind) []
+
+-- the rule of a product with monthly maturities: the months of its cover, every one of them counted
+unfoldable pub monthly : Cover → Kind → List ℕ → Rule
+monthly cover kind group =
+    record {
+      places = placesOf (rowOf kind) monthSets;
+      anchor = anchorOf group;
+      start = monthOf;
+      first = monthOf (coverStart cover);
+      beyond = monthOf (coverEnd cover);
+      counted = λ m. true;
+    }
+
+-- the rule of a product under a calendar
+abbrev pub ruleOf : Calendar → Kind → List ℕ → Rule
+ruleOf cal kind group = monthly (cal .cover) kind group
+
+-- the fresh listing of a product on a date: whether it is complete (16), and its maturities, not yet numbered
+unfoldable pub listingOf : Calendar → Kind → List ℕ → ℕ → Listing
+listingOf cal kind group date =
+    record {
+      complete = complete (ruleOf cal kind group) cal date;
+      maturities = places15 (map (maturity (ruleOf cal kind group) cal (λ k. 0)) (freshKeys (ruleOf cal kind group) cal date));
+    }

@@ -1,0 +1,80 @@
+-- Listings by rule, whatever the maturities are (01, Last trading day; Listed months). A maturity is named by a key; in the base a month number.
+-- Assumes nothing.
+use Prim.Native.Nat.{ℕ, suc, _-_}
+use mathlib.Core.Bool.{Bool, true, _&&_, cond}
+use mathlib.Core.List.{List, [], _∷_, _++_}
+use lib.Dec.{leb, ltb, eqb}
+use lib.ListN.{length, replicate}
+use Rattle.questions.specs.Search.{latest, firstFrom}
+use Rattle.calendar.specs.declared.Calendar.{Calendar}
+use Rattle.calendar.specs.Trading.{tradingDay}
+use Rattle.listing.specs.declared.Maturity.{Maturity}
+use Rattle.listing.specs.declared.Listing.{Listing}
+
+-- what a product's kind and group, and the cover, say of its maturities
+pub record Rule : Type 0 where
+  -- the places of a listing in the order in which they are filled, each with the set of keys that it takes
+  pub places : List (ℕ → Bool)
+  -- the anchor day of a key
+  pub anchor : ℕ → ℕ
+  -- the key from which the front is looked for on a date
+  pub start : ℕ → ℕ
+  -- the first key of the cover, and the first beyond it
+  pub first : ℕ
+  pub beyond : ℕ
+  -- the keys of the cover that are counted before the front
+  pub counted : ℕ → Bool
+
+-- 'The last trading day is the anchor if it is a trading day, else the latest trading day before it'
+unfoldable pub lastDay : Calendar → ℕ → ℕ
+lastDay cal anchor = cond (tradingDay cal anchor) anchor (latest (tradingDay cal) (anchor - 1))
+
+-- the last trading day of a key
+abbrev pub dayOf : Rule → Calendar → ℕ → ℕ
+dayOf r cal k = lastDay cal (r .anchor k)
+
+-- 'whose last trading day is not before the date'
+abbrev pub alive : Rule → Calendar → ℕ → ℕ → Bool
+alive r cal date k = leb date (dayOf r cal k)
+
+-- the set of the first place, which holds every other place's
+abbrev pub widest : List (ℕ → Bool) → ℕ → Bool
+widest [] k = true
+widest (set ∷ rest) k = set k
+
+-- 'The front month on a date is the first month, from the date's own month on, whose last trading day is not before the date'; the first key beyond the cover where the cover has none
+unfoldable pub front : Rule → Calendar → ℕ → ℕ
+front r cal date =
+    firstFrom (λ k. widest (r .places) k && alive r cal date k) (r .beyond) (r .beyond - r .start date) (r .start date)
+
+-- the first key of a set from k on; the first key beyond the cover where the cover has none
+abbrev pub nextOf : ℕ → (ℕ → Bool) → ℕ → ℕ
+nextOf beyond set k = firstFrom set beyond (beyond - k) k
+
+-- 'Step one takes the front month and those after it; each later step takes the next months of its set that follow the last month taken. Listing stops .. as soon as a month lies beyond the cover'
+unfoldable pub taken : ℕ → List (ℕ → Bool) → ℕ → List ℕ
+taken beyond [] k = []
+taken beyond (set ∷ rest) k =
+    let key = nextOf beyond set k in
+    let more = key ∷ taken beyond rest (suc key) in
+    cond (ltb key beyond) more []
+
+-- the keys of the fresh listing
+unfoldable pub freshKeys : Rule → Calendar → ℕ → List ℕ
+freshKeys r cal date = taken (r .beyond) (r .places) (front r cal date)
+
+-- 16: 'Are all months of the fresh listing in the cover?' Then every place was filled
+unfoldable pub complete : Rule → Calendar → ℕ → Bool
+complete r cal date = eqb (length (freshKeys r cal date)) (length (r .places))
+
+-- a maturity: 'month, last trading day, listing number'
+abbrev pub maturity : Rule → Calendar → (ℕ → ℕ) → ℕ → Maturity
+maturity r cal number k = record { month = k; day = dayOf r cal k; number = number k }
+
+-- an unused place
+abbrev pub unused : Maturity
+unused = record { month = 0; day = 0; number = 0 }
+
+-- 'up to 15 maturities by rising month ..; unused places zero'
+unfoldable pub places15 : List Maturity → List Maturity
+places15 ms = ms ++ replicate (15 - length ms) unused

@@ -1,0 +1,157 @@
+// Last trading days, and the listed months of a product on a date.
+use calendar::Calendar;
+use calendar::Cover;
+use product::Kind;
+ghost use mathlib.Core.Path.{_≡_};
+ghost use mathlib.Core.List.{[]};
+ghost use lib.ListN.{getD};
+ghost use Prim.Native.Nat.{_≤_, _<_};
+ghost use Rattle.calendar.specs.Trading.{coverStart, coverEnd};
+ghost use Rattle.days.specs.Dates.{monthOf};
+ghost use Rattle.listing.specs.Rules.{lastDay, nextOf};
+ghost use Rattle.listing.specs.Months.{thirdFriday, anchorOf, lastTradingDay, frontMonth, monthSets, inSet, listingOf};
+
+// A listed maturity. A listing that is not yet numbered has number 0.
+pub struct Maturity {
+    pub month: u16,
+    pub day: u16,
+    pub number: u16,
+}
+
+// A fresh listing: complete where all its months are in the cover. Unused places are zero.
+pub struct Listing {
+    pub complete: bool,
+    pub maturities: [Maturity; 15],
+}
+
+// The counts of the four steps, by kind.
+const COUNTS: [[u8; 4]; 4] = [[13, 0, 0, 2], [3, 3, 0, 0], [3, 3, 2, 0], [3, 3, 4, 2]];
+
+// The third Friday of a month.
+pub fn third_friday(month: u16) -> u16
+    ensures { λ r. ⌜ r ≡ thirdFriday month ⌝ }
+{
+    let first = days::first_day(month);
+    first + (11 - days::weekday(first)) % 7 + 14
+}
+
+// The day on which a month's trading would end: the third Friday, for the Italian groups the day before.
+pub fn anchor(group: [u8; 4], month: u16) -> u16
+    ensures { λ r. ⌜ r ≡ anchorOf group month ⌝ }
+{
+    let friday = third_friday(month);
+    if product::is_italian(group) {
+        return friday - 1;
+    }
+    friday
+}
+
+// The anchor if it is a trading day, else the latest trading day before it.
+pub fn last_day(cal: Calendar, anchor: u16) -> u16
+    ensures { λ r. ⌜ r ≡ lastDay cal anchor ⌝ }
+{
+    if calendar::is_trading_day(cal, anchor) {
+        return anchor;
+    }
+    if anchor < 1 {
+        return 0;
+    }
+    calendar::latest_trading_day(cal, anchor - 1)
+}
+
+// 002, 1.6.4 (2): the third Friday, the Italian exception, the day itself or the trading day before it.
+pub fn last_trading_day(cal: Calendar, group: [u8; 4], month: u16) -> u16
+    ensures { λ r. ⌜ r ≡ lastTradingDay cal group month ⌝ }
+{
+    last_day(cal, anchor(group, month))
+}
+
+// The first month beyond the cover.
+fn end_month(cover: Cover) -> u16
+    ensures { λ r. ⌜ (r ≡ monthOf (coverEnd cover)) × (r ≤ 1200) ⌝ }
+{
+    days::month_of(calendar::cover_end(cover))
+}
+
+// The front month on a date; the first month beyond the cover where the cover has none.
+pub fn front_month(cal: Calendar, group: [u8; 4], date: u16) -> u16
+    ensures { λ r. ⌜ r ≡ frontMonth cal group date ⌝ }
+{
+    let end = end_month(cal.cover);
+    let mut month = days::month_of(date);
+    while month < end {
+        if date <= last_trading_day(cal, group, month) {
+            return month;
+        }
+        month += 1;
+    }
+    end
+}
+
+// Whether a month is in the set of a step: every month, quarters, half years, Decembers.
+fn in_set(step: usize, month: u16) -> bool
+    requires { ⌜ step < 4 ⌝ }
+    ensures { λ r. ⌜ r ≡ inSet (getD monthSets step []) month ⌝ }
+{
+    let name = month % 12 + 1;
+    match step {
+        0 => true,
+        1 => name % 3 == 0,
+        2 => name % 6 == 0,
+        _ => name == 12,
+    }
+}
+
+// The next month of a step's set; the first month beyond the cover where the cover has none.
+fn next_in_set(step: usize, from: u16, end: u16) -> u16
+    requires { ⌜ step < 4 ⌝ }
+    ensures { λ r. ⌜ r ≡ nextOf end (inSet (getD monthSets step [])) from ⌝ }
+{
+    let mut month = from;
+    while month < end {
+        if in_set(step, month) {
+            return month;
+        }
+        month += 1;
+    }
+    end
+}
+
+// The fresh listing of a product on a date.
+pub fn list(cal: Calendar, kind: Kind, group: [u8; 4], date: u16) -> Listing
+    ensures { λ r. ⌜ r ≡ listingOf cal kind group date ⌝ }
+{
+    let row = product::kind_number(kind) as usize;
+    let end = end_month(cal.cover);
+    let unused = Maturity {
+        month: 0,
+        day: 0,
+        number: 0,
+    };
+    let mut maturities = [unused; 15];
+    let mut listed: usize = 0;
+    let mut from = front_month(cal, group, date);
+    let mut complete = true;
+    'steps: for step in 0..4 {
+        let count = COUNTS[row][step];
+        for j in 0..count {
+            let month = next_in_set(step, from, end);
+            if end <= month {
+                complete = false;
+                break 'steps;
+            }
+            let day = last_trading_day(cal, group, month);
+            maturities[listed] = Maturity {
+                month: month,
+                day: day,
+                number: 0,
+            };
+            listed = listed + 1;
+            from = month + 1;
+        }
+    }
+    Listing {
+        complete: complete,
+        maturities: maturities,
+    }
+}
