@@ -1,3 +1,7 @@
 pub mod Fridays
 pub mod Taking
 pub mod Fresh
+pub mod Walks
+pub mod Places
+pub mod Lawful
+pub mod Monthly

@@ -64,6 +64,13 @@ rest-none k s hk hs =
     let l : length (getD counts k []) ≤ s = rw row-length hs in
     rw (drop-of-length-le (getD counts k []) l)
 
+-- the sum of the counts, step by step
+pub rest-count : (k s : ℕ) → k < 4 → s < 4 → length (rest k s) ≡ getD (getD counts k []) s 0 + length (rest k (s + 1))
+rest-count k s hk hs = ap length (rest-step k s hk hs) ∙ simp (length-append, length-replicate)
+
+pub rest-zero : (k s : ℕ) → k < 4 → 4 ≤ s → length (rest k s) ≡ 0
+rest-zero k s hk hs = ap length (rest-none k s hk hs)
+
 -- the listing once the places ps are filled from the key f on, after n places of a; it is complete if they make t
 module _ (mat : ℕ → Maturity) (e t : ℕ) where
   unfoldable pub grown : ℕ → List Maturity → List (ℕ → Bool) → ℕ → Listing

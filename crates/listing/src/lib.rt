@@ -4,12 +4,12 @@ use calendar::Cover;
 use product::Kind;
 ghost use mathlib.Core.Path.{_≡_};
 ghost use mathlib.Core.List.{[]};
-ghost use lib.ListN.{getD};
+ghost use lib.ListN.{getD, length};
 ghost use Prim.Native.Nat.{_≤_, _<_};
 ghost use Rattle.calendar.specs.Trading.{coverStart, coverEnd};
 ghost use Rattle.days.specs.Dates.{monthOf};
 ghost use Rattle.listing.specs.Rules.{lastDay, nextOf};
-ghost use Rattle.listing.specs.Months.{thirdFriday, anchorOf, lastTradingDay, frontMonth, monthSets, inSet, listingOf};
+ghost use Rattle.listing.specs.Months.{thirdFriday, anchorOf, lastTradingDay, frontMonth, monthSets, inSet, placesOf, rowOf, listingOf};
 
 // A listed maturity. A listing that is not yet numbered has number 0.
 pub struct Maturity {
@@ -115,6 +115,19 @@ fn next_in_set(step: usize, from: u16, end: u16) -> u16
         month += 1;
     }
     end
+}
+
+// How many months a complete listing of a kind has: the sum of its row of counts.
+pub fn months_listed(kind: Kind) -> u16
+    ensures { λ r. ⌜ (r ≡ length (placesOf (rowOf kind) monthSets)) × (r ≤ 15) ⌝ }
+{
+    let row = product::kind_number(kind) as usize;
+    let mut sum: u16 = 0;
+    for step in 0..4 {
+        let count = COUNTS[row][step];
+        sum += count as u16;
+    }
+    sum
 }
 
 // The fresh listing of a product on a date.

@@ -1,0 +1,105 @@
+-- What each accepted call leaves in order, and that it brings back no key whose day has passed.
+-- Assumes nothing.
+use mathlib.Core.Path.{_≡_, refl}
+use mathlib.Core.Bool.{true, not, _&&_}
+use mathlib.Core.List.{List}
+use Prim.Native.Nat.{ℕ, _≤_}
+use native.Mathlib.Omega.{arith}
+use lib.Dec.{leb, ltb}
+use borrow.Author.Tests.{leb-true, le-leb}
+use Rattle.questions.specs.Questions.{firstNo}
+use Rattle.questions.proofs.Bools.{and-fst, and-snd}
+use Rattle.questions.proofs.Asks.{none-no}
+use Rattle.days.specs.Gregorian.{weekdayOf}
+use Rattle.calendar.specs.declared.Calendar.{Calendar}
+use Rattle.calendar.specs.Trading.{inCover, tradingDay, everyWeek, closeDay, closedOn}
+use Rattle.calendar.proofs.Closing.{close-cover, trading-before, clean-close}
+use Rattle.product.specs.declared.Kind.{Kind}
+use Rattle.product.specs.declared.Product.{Product}
+use Rattle.listing.specs.Rules.{Rule, dayOf, alive, front}
+use Rattle.listing.specs.Months.{ruleOf}
+use Rattle.listing.proofs.Lawful.{Lawful, days-rise, front-later}
+use Rattle.table.specs.Table.{allInCover}
+use Rattle.history.specs.Book.{Call, roll, close, Book, calendarAfter, dateAfter, bookAsks}
+use Rattle.history.proofs.Soundness.{Opened}
+
+-- a trading day is a Monday to Friday
+on-weekday : (cal : Calendar) (d : ℕ) → tradingDay cal d ≡ true → ltb (weekdayOf d) 5 ≡ true
+unfolding tradingDay
+on-weekday cal d e =
+    and-fst (ltb (weekdayOf d) 5) (not (closedOn cal d)) (and-snd (inCover (cal .cover) d) (ltb (weekdayOf d) 5 && not (closedOn cal d)) e)
+
+-- the questions of an accepted call, answered yes
+module _ (kind : Kind) (group : List ℕ) (b : Book) where
+  abbrev pub Accepted : Call → Type 0
+  Accepted c = firstNo (bookAsks kind group b c) ≡ 0
+
+  record Rolled (date : ℕ) : Type 0 where
+    covered : inCover (b .calendar .cover) date ≡ true
+    later : leb (b .date) date ≡ true
+    full : allInCover (b .calendar) kind group date ≡ true
+
+  rolled : (date : ℕ) → Accepted (roll date) → Rolled date
+  rolled date e =
+      let (a, e1) = none-no 10 _ _ e in
+      let (c, e2) = none-no 11 _ _ e1 in
+      let (d, e3) = none-no 15 _ _ e2 in
+      record { covered = a; later = c; full = d }
+
+  record Closed (day : ℕ) : Type 0 where
+    covered : inCover (b .calendar .cover) day ≡ true
+    trading : tradingDay (b .calendar) day ≡ true
+    weeks : everyWeek (closeDay (b .calendar) day) ≡ true
+    full : allInCover (closeDay (b .calendar) day) kind group (b .date) ≡ true
+
+  closed : (day : ℕ) → Accepted (close day) → Closed day
+  closed day e =
+      let (a, e1) = none-no 10 _ _ e in
+      let (c, e2) = none-no 12 _ _ e1 in
+      let (d, e3) = none-no 13 _ _ e2 in
+      let (f, e4) = none-no 14 _ _ e3 in
+      let (g, e5) = none-no 15 _ _ e4 in
+      record { covered = a; trading = d; weeks = f; full = g }
+
+-- the rule stays
+pub rule-stays : (cal : Calendar) (kind : Kind) (group : List ℕ) (c : Call) → ruleOf (calendarAfter cal c) kind group ≡ ruleOf cal kind group
+rule-stays cal kind group (roll date) = refl
+rule-stays cal kind group (close day) = rw (close-cover cal day)
+
+-- what an accepted call leaves would open
+pub after-opened : (p : Product) (b : Book) → Opened p (b .calendar) (b .date) → (c : Call) → Accepted (p .kind) (p .group) b c
+    → Opened p (calendarAfter (b .calendar) c) (dateAfter (b .date) c)
+after-opened p b o (roll date) e =
+    let y = rolled (p .kind) (p .group) b date e in
+    record { product = o .product; valid = o .valid; cleaned = o .cleaned; weeks = o .weeks; covered = y .covered; full = y .full }
+after-opened p b o (close day) e =
+    let y = closed (p .kind) (p .group) b day e in
+    record {
+      product = o .product;
+      valid = rw (close-cover (b .calendar) day) (o .valid);
+      cleaned = clean-close (b .calendar) day (o .cleaned) (y .covered) (on-weekday (b .calendar) day (y .trading));
+      weeks = y .weeks;
+      covered = rw (close-cover (b .calendar) day) (o .covered);
+      full = y .full;
+    }
+
+module _ (r : Rule) (w : Lawful r) where
+  -- an accepted call brings back no key whose day has passed
+  not-back : (kind : Kind) (group : List ℕ) (b : Book) (c : Call) → Accepted kind group b c
+      → (k : ℕ) → alive r (calendarAfter (b .calendar) c) (dateAfter (b .date) c) k ≡ true → alive r (b .calendar) (b .date) k ≡ true
+  not-back kind group b (roll date) e k t =
+      le-leb (b .date) (dayOf r (b .calendar) k)
+      (omega (arith, leb-true (b .date) date (rolled kind group b date e .later), leb-true date (dayOf r (b .calendar) k) t))
+  not-back kind group b (close day) e k t =
+      le-leb (b .date) (dayOf r (b .calendar) k)
+      (omega (
+        arith,
+        leb-true (b .date) (dayOf r (closeDay (b .calendar) day) k) t,
+        days-rise r w (closeDay (b .calendar) day) (b .calendar) (trading-before (b .calendar) day) k k (omega arith),
+      ))
+
+  -- so the front does not go back
+  pub forward : (kind : Kind) (group : List ℕ) (b : Book) (c : Call) → Accepted kind group b c
+      → front r (b .calendar) (b .date) ≤ front r (calendarAfter (b .calendar) c) (dateAfter (b .date) c)
+  forward kind group b c e =
+      front-later r w (b .calendar) (calendarAfter (b .calendar) c) (b .date) (dateAfter (b .date) c) (not-back kind group b c e)

@@ -1,0 +1,199 @@
+-- Demand 3, for every product that opens and every list of rolls and closes.
+-- Assumes nothing.
+use mathlib.Core.Path.{_≡_, refl, sym, ap, _∙_}
+use mathlib.Core.Bool.{Bool, true, false, cond}
+use mathlib.Core.List.{List, [], _∷_, _++_, map}
+use mathlib.Core.Logic.{_⊎_, inl, inr, _↔_}
+use Prim.Native.Nat.{ℕ, suc, _+_, _≤_, _<_}
+use native.Mathlib.Omega.{arith}
+use Rattle.questions.specs.Search.{oneOf}
+use Rattle.questions.proofs.Bools.{clash, is-false, lt-or-ge}
+use Rattle.calendar.specs.declared.Calendar.{Calendar}
+use Rattle.product.specs.declared.Product.{Product}
+use Rattle.listing.specs.Rules.{Rule, widest, dayOf, freshKeys, maturity}
+use Rattle.listing.specs.Months.{lastTradingDay, monthly, ruleOf}
+use Rattle.listing.proofs.Places.{before-none}
+use Rattle.listing.proofs.Lawful.{Lawful, key-of, day-past}
+use Rattle.listing.proofs.Monthly.{monthly-lawful, monthly-most}
+use Rattle.table.specs.declared.Table.{Table}
+use Rattle.table.specs.declared.Outcome.{Outcome}
+use Rattle.table.specs.Numbering.{isListed, numberOf}
+use Rattle.table.specs.Table.{freshOf, held, sound, openedTable}
+use Rattle.history.specs.Book.{Call, Book, bookOpened, bookAfter, bookRun, bookReplies}
+use Rattle.history.specs.History.{tableCall, tableRun, tableReplies, calendarWith, dateWith, opens, unnumbered, Demand3}
+use Rattle.history.proofs.Moves.{fresh, now, held-is, number-is, given-most, numbersFirst}
+use Rattle.history.proofs.Soundness.{Opened, opened}
+use Rattle.history.proofs.Runs.{ruleIn, frontIn, Inv, Later, starts, turn-later, run-later, run-append}
+use Rattle.history.proofs.Tables.{tableIn, held-in, sound-in, turn, table-run, reply-run, calendar-run, date-run, opened-in}
+
+-- without its numbers a numbered listing is the fresh one
+unnumbered-is : (r : Rule) (cal : Calendar) (nu : ℕ → ℕ) (ks : List ℕ) → unnumbered (map (maturity r cal nu) ks) ≡ map (maturity r cal (λ k. 0)) ks
+unnumbered-is r cal nu [] = refl
+unnumbered-is r cal nu (k ∷ ks) = ap (_∷_ (maturity r cal (λ k. 0) k)) (unnumbered-is r cal nu ks)
+
+-- a key of the cover that ever had a number
+record Ever (p : Product) (b : Book) (nu : ℕ → ℕ) (m : ℕ) : Type 0 where
+  number : 1 ≤ nu m
+  below : m < ruleIn p b .beyond
+  wide : widest (ruleIn p b .places) m ≡ true
+
+-- it is one later
+ever-after : (p : Product) (b : Book) (nu : ℕ → ℕ) (b′ : Book) (z : Later p b nu b′) (m : ℕ) → Ever p b nu m → Ever p b′ (z .nu′) m
+ever-after p b nu b′ z m v = record { number = omega (arith, v .number, z .grows m (v .number)); below = rw (z .rule) (v .below); wide = rw (z .rule) (v .wide) }
+
+module _ (p : Product) (b : Book) (nu : ℕ → ℕ) (I : Inv p b nu) where
+  abbrev w : Lawful (ruleIn p b)
+  w = monthly-lawful (b .calendar .cover) (p .kind) (p .group)
+
+  abbrev in-now : ℕ → Bool
+  in-now = now (ruleIn p b) (b .calendar) (b .date)
+
+  listed-in : (m : ℕ) → isListed (b .maturities) m ≡ in-now m
+  listed-in = held-is (ruleIn p b) w (b .calendar) (b .date) (b .maturities) (b .given) nu (I .numbered)
+
+  number-in : (m : ℕ) → numberOf (b .maturities) m ≡ cond (in-now m) (nu m) 0
+  number-in = number-is (ruleIn p b) w (b .calendar) (b .date) (b .maturities) (b .given) nu (I .numbered)
+
+  -- a number that the book shows is the key's
+  had : (m n : ℕ) → numberOf (b .maturities) m ≡ suc n → nu m ≡ suc n
+  had m n e = go (in-now m) refl
+    where
+      go : (t : Bool) → in-now m ≡ t → nu m ≡ suc n
+      go true q = let i : numberOf (b .maturities) m ≡ nu m = number-in m ∙ rw q in omega arith
+      go false q = let i : numberOf (b .maturities) m ≡ 0 = number-in m ∙ rw q in absurd (omega arith)
+
+  has-number : (m : ℕ) → isListed (b .maturities) m ≡ true → 1 ≤ numberOf (b .maturities) m
+  has-number m e =
+      let q : in-now m ≡ true = sym (listed-in m) ∙ e in
+      let i : numberOf (b .maturities) m ≡ nu m = number-in m ∙ rw q in
+      omega (arith, I .numbered .numbers .pos m q)
+
+  before-front : (m : ℕ) → m < frontIn p b → isListed (b .maturities) m ≡ false
+  before-front m l = listed-in m ∙ before-none (ruleIn p b .beyond) (ruleIn p b .places) (frontIn p b) m l
+
+  ever : (m : ℕ) → isListed (b .maturities) m ≡ true → Ever p b nu m
+  ever m e =
+      let q : in-now m ≡ true = sym (listed-in m) ∙ e in
+      let k = key-of (ruleIn p b) w (b .calendar) (b .date) m q in
+      record { number = I .numbered .numbers .pos m q; below = k .below; wide = k .wide }
+
+  -- it is off exactly when its day is past
+  off-iff : (m : ℕ) → Ever p b nu m → (isListed (b .maturities) m ≡ false) ↔ (lastTradingDay (b .calendar) (p .group) m < b .date)
+  unfolding lastTradingDay monthly
+  off-iff m v = (gone (lt-or-ge m (frontIn p b)), past)
+    where
+      gone : (m < frontIn p b) ⊎ (frontIn p b ≤ m) → isListed (b .maturities) m ≡ false → dayOf (ruleIn p b) (b .calendar) m < b .date
+      gone (inl s) e = day-past (ruleIn p b) w (b .calendar) (b .date) m (v .below) (v .wide) s
+      gone (inr s) e = clash (listed-in m ∙ I .numbered .there m (v .number) s) e
+
+      past : dayOf (ruleIn p b) (b .calendar) m < b .date → isListed (b .maturities) m ≡ false
+      past s = is-false (isListed (b .maturities) m) (λ t. absurd (omega (arith, key-of (ruleIn p b) w (b .calendar) (b .date) m (sym (listed-in m) ∙ t) .day)))
+
+  most-given : b .given ≤ 192
+  most-given =
+      omega (
+        arith,
+        given-most (ruleIn p b) w (b .calendar) (b .date) (b .maturities) (b .given) nu (I .numbered),
+        monthly-most (b .calendar .cover) (p .kind) (p .group) (I .opened .valid),
+      )
+
+module _ (p : Product) (cal : Calendar) (date : ℕ) (o : Opened p cal date) where
+  abbrev start : Book
+  start = bookOpened (p .kind) (p .group) cal date
+
+  abbrev nu₀ : ℕ → ℕ
+  nu₀ = numbersFirst (ruleOf cal (p .kind) (p .group)) cal date
+
+  abbrev table : List Call → Table
+  table cs = tableRun (openedTable p cal date) cs
+
+  abbrev book : List Call → Book
+  book cs = bookRun (p .kind) (p .group) start cs
+
+  -- after the calls
+  at : (cs : List Call) → Later p start nu₀ (book cs)
+  at cs = run-later p cs start nu₀ (starts p cal date o)
+
+  -- and after more of them
+  after : (cs ds : List Call) → Later p (book cs) (at cs .nu′) (book (cs ++ ds))
+  after cs ds = rw (run-append p cs ds start) (run-later p ds (book cs) (at cs .nu′) (at cs .inv))
+
+  table-is : (cs : List Call) → table cs ≡ tableIn p (book cs)
+  table-is cs = ap (λ (t : Table). tableRun t cs) (opened-in p cal date) ∙ table-run p cs start nu₀ (starts p cal date o)
+
+  replies-are : (cs : List Call) → tableReplies (openedTable p cal date) cs ≡ bookReplies (p .kind) (p .group) start cs
+  replies-are cs = ap (λ (t : Table). tableReplies t cs) (opened-in p cal date) ∙ reply-run p cs start nu₀ (starts p cal date o)
+
+  listed-are : (cs : List Call) → held (table cs) ≡ book cs .maturities
+  listed-are cs = ap held (table-is cs) ∙ held-in p (book cs) (at cs .nu′) (at cs .inv)
+
+  calendar-at : (cs : List Call) → table cs .calendar ≡ calendarWith cal cs (tableReplies (openedTable p cal date) cs)
+  unfolding bookOpened
+  calendar-at cs = ap (λ (t : Table). t .calendar) (table-is cs) ∙ calendar-run p cs start ∙ ap (calendarWith cal cs) (sym (replies-are cs))
+
+  date-at : (cs : List Call) → table cs .date ≡ dateWith date cs (tableReplies (openedTable p cal date) cs)
+  unfolding bookOpened
+  date-at cs = ap (λ (t : Table). t .date) (table-is cs) ∙ date-run p cs start ∙ ap (dateWith date cs) (sym (replies-are cs))
+
+  fresh-at : (cs : List Call) → unnumbered (held (table cs))
+      ≡ freshOf (calendarWith cal cs (tableReplies (openedTable p cal date) cs)) (p .kind) (p .group) (dateWith date cs (tableReplies (openedTable p cal date) cs))
+  fresh-at cs =
+      rw (listed-are cs, ← calendar-at cs, ← date-at cs, table-is cs, at cs .inv .numbered .listing)
+      (unnumbered-is (ruleIn p (book cs)) (book cs .calendar) (at cs .nu′) (freshKeys (ruleIn p (book cs)) (book cs .calendar) (book cs .date)))
+
+  -- the number shown now is the key's number at any later moment
+  still-had : (cs ds : List Call) (m n : ℕ) → numberOf (held (table cs)) m ≡ suc n → after cs ds .nu′ m ≡ suc n
+  still-had cs ds m n e =
+      let q : at cs .nu′ m ≡ suc n = had p (book cs) (at cs .nu′) (at cs .inv) m n (rw (listed-are cs) at e) in
+      after cs ds .grows m (omega arith) ∙ q
+
+  later-had : (cs ds : List Call) (m n : ℕ) → numberOf (held (table (cs ++ ds))) m ≡ suc n → after cs ds .nu′ m ≡ suc n
+  later-had cs ds m n e = had p (book (cs ++ ds)) (after cs ds .nu′) (after cs ds .inv) m n (rw (listed-are (cs ++ ds)) at e)
+
+  never-back : (cs ds : List Call) (m : ℕ) → oneOf (book cs .gone) m ≡ true → isListed (held (table (cs ++ ds))) m ≡ false
+  never-back cs ds m e =
+      rw (listed-are (cs ++ ds))
+      (before-front p (book (cs ++ ds)) (after cs ds .nu′) (after cs ds .inv) m (omega (arith, at cs .inv .past m e, after cs ds .on)))
+
+  -- one more call
+  next-table : (cs : List Call) (c : Call) → tableCall (table cs) c .table ≡ tableIn p (bookAfter (p .kind) (p .group) (book cs) c)
+  next-table cs c = rw (table-is cs) (ap (λ (o : Outcome). o .table) (turn p (book cs) (at cs .nu′) (at cs .inv) c))
+
+  taken-off : (cs : List Call) (c : Call) (m : ℕ) → isListed (held (table cs)) m ≡ true
+      → (isListed (held (tableCall (table cs) c .table)) m ≡ false) ↔ (lastTradingDay (tableCall (table cs) c .table .calendar) (p .group) m < tableCall (table cs) c .table .date)
+  taken-off cs c m e =
+      let b′ : Book = bookAfter (p .kind) (p .group) (book cs) c in
+      let z : Later p (book cs) (at cs .nu′) b′ = turn-later p (book cs) (at cs .nu′) (at cs .inv) c in
+      let v : Ever p (book cs) (at cs .nu′) m = ever p (book cs) (at cs .nu′) (at cs .inv) m (rw (listed-are cs) at e) in
+      rw (next-table cs c, held-in p b′ (z .nu′) (z .inv)) (off-iff p b′ (z .nu′) (z .inv) m (ever-after p (book cs) (at cs .nu′) b′ z m v))
+
+  history : (cs ds : List Call) → Demand3 p cal date cs ds
+  history cs ds = record {
+    book-calendar = ap (λ (t : Table). t .calendar) (table-is cs);
+    book-date = ap (λ (t : Table). t .date) (table-is cs);
+    book-maturities = ap (λ (t : Table). t .maturities) (table-is cs);
+    book-listed = listed-are cs;
+    book-given = ap (λ (t : Table). t .given) (table-is cs);
+    same-product = ap (λ (t : Table). t .product) (table-is cs);
+    replies = replies-are cs;
+    calendar-is = calendar-at cs;
+    date-is = date-at cs;
+    fresh = fresh-at cs;
+    one-month = λ m m′ n e d. after cs ds .inv .numbered .numbers .inj m m′ (still-had cs ds m n e ∙ sym (later-had cs ds m′ n d)) (omega (arith, still-had cs ds m n e));
+    one-number = λ m n n′ e d. omega (arith, still-had cs ds m n e, later-had cs ds m n′ d);
+    numbered = λ m e. rw (listed-are cs) (has-number p (book cs) (at cs .nu′) (at cs .inv) m (rw (listed-are cs) at e));
+    for-good = never-back cs ds;
+    off = taken-off cs;
+    sum = rw (listed-are cs) (ap (λ (t : Table). t .given) (table-is cs) ∙ at cs .inv .total);
+    stays-sound = ap sound (table-is cs) ∙ sound-in p (book cs) (at cs .nu′) (at cs .inv);
+    below-193 = omega (arith, ap (λ (t : Table). t .given) (table-is cs), most-given p (book cs) (at cs .nu′) (at cs .inv));
+  }
+
+-- Demand 3
+pub demand3 : (p : Product) (cal : Calendar) (date : ℕ) → opens p cal date ≡ true → (cs ds : List Call) → Demand3 p cal date cs ds
+demand3 p cal date e = history p cal date (opened p cal date e)
+
+-- an accepted open gives a sound table
+pub opened-sound : (p : Product) (cal : Calendar) (date : ℕ) → opens p cal date ≡ true → sound (openedTable p cal date) ≡ true
+unfolding tableRun
+opened-sound p cal date e = demand3 p cal date e [] [] .stays-sound

@@ -1,0 +1,9 @@
+pub mod Counting
+pub mod Numbers
+pub mod Moves
+pub mod Soundness
+pub mod Calls
+pub mod Runs
+pub mod Tables
+pub mod Demand
+pub mod SoundTables

@@ -1,0 +1,253 @@
+-- A numbered listing, and the one that replaces it where the front does not go back.
+-- Assumes nothing.
+use mathlib.Core.Path.{_≡_, refl, sym, ap, _∙_, fun-ext}
+use mathlib.Core.Bool.{Bool, true, false, not, _&&_, cond, and-true}
+use mathlib.Core.List.{List, [], map}
+use mathlib.Core.Logic.{_⊎_, inl, inr}
+use Prim.Native.Nat.{ℕ, _+_, _-_, _≤_, _<_}
+use native.Mathlib.Nat.{zero-add}
+use native.Mathlib.Omega.{arith}
+use lib.ListN.{length, length-map}
+use borrow.Author.Tests.{not-true}
+use Rattle.questions.specs.Search.{oneOf}
+use Rattle.questions.proofs.Bools.{clash, both, is-false, lt-or-ge}
+use Rattle.calendar.specs.declared.Calendar.{Calendar}
+use Rattle.listing.specs.declared.Maturity.{Maturity}
+use Rattle.listing.specs.Rules.{Rule, dayOf, front, freshKeys, maturity}
+use Rattle.listing.proofs.Walks.{bit, sift}
+use Rattle.listing.proofs.Places.{before-none}
+use Rattle.listing.proofs.Lawful.{Lawful, inListing, front-most, fresh-is, key-of, keys-stay}
+use Rattle.table.specs.Numbering.{isListed, numberOf, missing, renumbered}
+use Rattle.table.specs.Table.{countFrom, monthsBefore}
+use Rattle.history.proofs.Counting.{count-add, count-most, count-window, count-balance, count-less, length-sift}
+use Rattle.history.proofs.Numbers.{mat, but, next, months-of, number-of, listed-is, missing-is, one-sift, renumbered-is, Numbers, next-keeps, next-numbers}
+
+-- the fresh listing of a rule, not yet numbered
+abbrev pub fresh : Rule → Calendar → ℕ → List Maturity
+fresh r cal date = map (maturity r cal (λ k. 0)) (freshKeys r cal date)
+
+-- the key is in the fresh listing
+abbrev pub now : Rule → Calendar → ℕ → ℕ → Bool
+now r cal date = inListing r (front r cal date)
+
+-- the numbers that keys have once another listing replaces the first, and once a first one is made
+abbrev pub numbersNext : Rule → Calendar → ℕ → ℕ → (ℕ → ℕ) → Calendar → ℕ → ℕ → ℕ
+numbersNext r cal date given nu cal′ date′ = next (but (now r cal′ date′) (now r cal date)) given nu
+
+abbrev pub numbersFirst : Rule → Calendar → ℕ → ℕ → ℕ
+numbersFirst r cal date = next (but (now r cal date) (λ k. false)) 0 (λ k. 0)
+
+-- the maturities are the fresh listing with the numbers of nu; a key that ever had a number and is not before the front is listed; given − listed is at least 0 and at most the keys before the front
+pub record Numbered (r : Rule) (cal : Calendar) (date : ℕ) (ms : List Maturity) (given : ℕ) (nu : ℕ → ℕ) : Type 0 where
+  pub listing : ms ≡ map (maturity r cal nu) (freshKeys r cal date)
+  pub numbers : Numbers (now r cal date) given nu
+  pub there : (k : ℕ) → 1 ≤ nu k → front r cal date ≤ k → now r cal date k ≡ true
+  pub begins : r .first ≤ front r cal date
+  pub enough : length ms ≤ given
+  pub few : given ≤ length ms + monthsBefore r cal date
+
+-- what holds once the listing of another calendar and date replaces it: it is numbered again, numbers once given stay, entered + old = left + new, and the months that left are before the front
+pub record Moved (r : Rule) (cal : Calendar) (date : ℕ) (ms : List Maturity) (given : ℕ) (nu : ℕ → ℕ) (cal′ : Calendar) (date′ : ℕ) : Type 0 where
+  pub numbered : Numbered r cal′ date′ (renumbered ms given (fresh r cal′ date′)) (given + length (missing (fresh r cal′ date′) ms)) (numbersNext r cal date given nu cal′ date′)
+  pub grows : (k : ℕ) → 1 ≤ nu k → numbersNext r cal date given nu cal′ date′ k ≡ nu k
+  pub balance : length (missing (fresh r cal′ date′) ms) + length ms ≡ length (missing ms (fresh r cal′ date′)) + length (renumbered ms given (fresh r cal′ date′))
+  pub left : (k : ℕ) → oneOf (map (λ m. m .month) (missing ms (fresh r cal′ date′))) k ≡ true → k < front r cal′ date′
+
+module _ (r : Rule) (w : Lawful r) where
+  below : (cal : Calendar) (date k : ℕ) → now r cal date k ≡ true → k < r .beyond
+  below cal date k e = key-of r w cal date k e .below
+
+  size : (cal : Calendar) (date : ℕ) (nu : ℕ → ℕ) → length (map (maturity r cal nu) (freshKeys r cal date)) ≡ countFrom (now r cal date) (r .beyond) 0
+  size cal date nu =
+      length-map (freshKeys r cal date) (maturity r cal nu) ∙ ap length (fresh-is r w cal date) ∙ length-sift (now r cal date) (r .beyond) 0
+
+  module _ (cal : Calendar) (date : ℕ) (nu : ℕ → ℕ) where
+    pub listed-now : (k : ℕ) → isListed (map (maturity r cal nu) (freshKeys r cal date)) k ≡ now r cal date k
+    listed-now k = rw (fresh-is r w cal date) (listed-is (dayOf r cal) nu (now r cal date) k (r .beyond) (below cal date k))
+
+    number-now : (k : ℕ) → numberOf (map (maturity r cal nu) (freshKeys r cal date)) k ≡ cond (now r cal date k) (nu k) 0
+    number-now k = number-of (dayOf r cal) nu (freshKeys r cal date) k ∙ rw (listed-now k)
+
+  module _ (cal : Calendar) (date : ℕ) (ms : List Maturity) (given : ℕ) (nu : ℕ → ℕ) (I : Numbered r cal date ms given nu) where
+    -- a key is listed where the fresh listing has it, and then has its number
+    pub held-is : (k : ℕ) → isListed ms k ≡ now r cal date k
+    held-is k = rw (I .listing) (listed-now cal date nu k)
+
+    pub number-is : (k : ℕ) → numberOf ms k ≡ cond (now r cal date k) (nu k) 0
+    number-is k = rw (I .listing) (number-now cal date nu k)
+
+    count-is : length ms ≡ countFrom (now r cal date) (r .beyond) 0
+    count-is = ap length (I .listing) ∙ size cal date nu
+
+    -- no more numbers are given than the cover has keys
+    pub given-most : r .first + given ≤ r .beyond
+    unfolding monthsBefore
+    given-most =
+        let m = front-most r w cal date in
+        omega (
+          arith,
+          I .few,
+          I .begins,
+          count-is,
+          count-window (now r cal date) (front r cal date) (r .beyond) (r .beyond) m (omega arith)
+              (λ k l. before-none (r .beyond) (r .places) (front r cal date) k l) (λ k l. is-false (now r cal date k) (λ t. absurd (omega (arith, below cal date k t)))),
+          count-most (now r cal date) (r .beyond - front r cal date) (front r cal date),
+          count-most (r .counted) (front r cal date - r .first) (r .first),
+        )
+
+    -- a listing of a later front replaces it
+    module _ (cal′ : Calendar) (date′ : ℕ) (later : front r cal date ≤ front r cal′ date′) where
+      abbrev p : ℕ → Bool
+      p = now r cal date
+
+      abbrev p′ : ℕ → Bool
+      p′ = now r cal′ date′
+
+      -- a listed key that is not before the new front stays
+      keeps : (k : ℕ) → p k ≡ true → front r cal′ date′ ≤ k → p′ k ≡ true
+      keeps k e h = keys-stay r w (front r cal date) (front r cal′ date′) later k e h
+
+      -- a key that enters never had a number
+      none : (k : ℕ) → but p′ p k ≡ true → nu k ≡ 0
+      none k e = go (lt-or-ge 0 (nu k)) (both (p′ k) (not (p k)) e)
+        where
+          go : (0 < nu k) ⊎ (nu k ≤ 0) → (p′ k ≡ true) × (not (p k) ≡ true) → nu k ≡ 0
+          go (inl h) s = clash (I .there k h (omega (arith, key-of r w cal′ date′ k (s .0) .from))) (not-true (p k) (s .1))
+          go (inr h) s = omega arith
+
+      -- a key that leaves is before the new front
+      leaves : (k : ℕ) → but p p′ k ≡ true → k < front r cal′ date′
+      leaves k e = go (lt-or-ge k (front r cal′ date′)) (both (p k) (not (p′ k)) e)
+        where
+          go : (k < front r cal′ date′) ⊎ (front r cal′ date′ ≤ k) → (p k ≡ true) × (not (p′ k) ≡ true) → k < front r cal′ date′
+          go (inl h) s = h
+          go (inr h) s = clash (keeps k (s .0) h) (not-true (p′ k) (s .1))
+
+      -- the numbers that keys have then
+      abbrev numbers-then : ℕ → ℕ
+      numbers-then = numbersNext r cal date given nu cal′ date′
+
+      renumbered-now : renumbered ms given (fresh r cal′ date′) ≡ map (maturity r cal′ numbers-then) (freshKeys r cal′ date′)
+      renumbered-now =
+          rw (fresh-is r w cal′ date′)
+          (renumbered-is p p′ nu (dayOf r cal′) (λ k. 0) given ms held-is (λ k e. number-is k ∙ rw e) (r .beyond))
+
+      entered-is : length (missing (fresh r cal′ date′) ms) ≡ countFrom (but p′ p) (r .beyond) 0
+      entered-is =
+          rw (fresh-is r w cal′ date′, missing-is (dayOf r cal′) (λ k. 0) p′ p ms held-is (r .beyond) 0)
+          (length-map (sift (but p′ p) (r .beyond) 0) (mat (dayOf r cal′) (λ k. 0)) ∙ length-sift (but p′ p) (r .beyond) 0)
+
+      left-is : missing ms (fresh r cal′ date′) ≡ map (mat (dayOf r cal) nu) (sift (but p p′) (r .beyond) 0)
+      left-is =
+          rw (I .listing ∙ ap (map (maturity r cal nu)) (fresh-is r w cal date))
+          (missing-is (dayOf r cal) nu p p′ (fresh r cal′ date′) (listed-now cal′ date′ (λ k. 0)) (r .beyond) 0)
+
+      left-before : (k : ℕ) → oneOf (map (λ m. m .month) (missing ms (fresh r cal′ date′))) k ≡ true → k < front r cal′ date′
+      left-before k e =
+          let q : map (λ m. m .month) (missing ms (fresh r cal′ date′)) ≡ sift (but p p′) (r .beyond) 0 = rw left-is (months-of (dayOf r cal) nu (sift (but p p′) (r .beyond) 0)) in
+          leaves k (one-sift (but p p′) k (r .beyond) 0 (rw q at e))
+
+      left-count : length (missing ms (fresh r cal′ date′)) ≡ countFrom (but p p′) (r .beyond) 0
+      left-count = rw left-is (length-map (sift (but p p′) (r .beyond) 0) (mat (dayOf r cal) nu) ∙ length-sift (but p p′) (r .beyond) 0)
+
+      balance : length (missing (fresh r cal′ date′) ms) + length ms ≡ length (missing ms (fresh r cal′ date′)) + length (renumbered ms given (fresh r cal′ date′))
+      balance =
+          omega (
+            arith,
+            entered-is,
+            count-is,
+            left-count,
+            ap length renumbered-now,
+            size cal′ date′ numbers-then,
+            count-balance (but p′ p) p (but p p′) p′ (λ k. swap (p k) (p′ k)) (r .beyond) 0,
+          )
+        where
+          swap : (a b : Bool) → bit (b && not a) + bit a ≡ bit (a && not b) + bit b
+          swap true true = refl
+          swap true false = refl
+          swap false true = refl
+          swap false false = refl
+
+      -- those that leave count among the keys before the new front
+      passed : length (missing ms (fresh r cal′ date′)) + monthsBefore r cal date ≤ monthsBefore r cal′ date′
+      unfolding monthsBefore
+      passed =
+          let i : (front r cal date - r .first) + (front r cal′ date′ - front r cal date) ≡ front r cal′ date′ - r .first = omega (arith, I .begins, later) in
+          let j : r .first + (front r cal date - r .first) ≡ front r cal date = omega (arith, I .begins) in
+          omega (
+            arith,
+            left-count,
+            count-window (but p p′) (front r cal date) (front r cal′ date′) (r .beyond) later (front-most r w cal′ date′)
+                (λ k l. rw (before-none (r .beyond) (r .places) (front r cal date) k l))
+                (λ k l. is-false (but p p′ k) (λ t. absurd (omega (arith, leaves k t)))),
+            count-less (but p p′) (r .counted) (λ k e. w .counts k (key-of r w cal date k (both (p k) (not (p′ k)) e .0) .wide))
+                (front r cal′ date′ - front r cal date) (front r cal date),
+            ap (λ (x : ℕ). countFrom (r .counted) x (r .first)) i,
+            count-add (r .counted) (front r cal date - r .first) (front r cal′ date′ - front r cal date) (r .first),
+            ap (countFrom (r .counted) (front r cal′ date′ - front r cal date)) j,
+          )
+
+      moved-keeps : (k : ℕ) → 1 ≤ nu k → numbers-then k ≡ nu k
+      moved-keeps = next-keeps p p′ (r .beyond) given nu (I .numbers) (below cal′ date′) none
+
+      moved-there : (k : ℕ) → 1 ≤ numbers-then k → front r cal′ date′ ≤ k → p′ k ≡ true
+      moved-there k h l = go (but p′ p k) refl
+        where
+          go : (b : Bool) → but p′ p k ≡ b → p′ k ≡ true
+          go true e = both (p′ k) (not (p k)) e .0
+          go false e =
+              let q : numbers-then k ≡ nu k = rw e in
+              keeps k (I .there k (omega arith) (omega arith)) l
+
+      moved-numbered : Numbered r cal′ date′ (renumbered ms given (fresh r cal′ date′)) (given + length (missing (fresh r cal′ date′) ms)) numbers-then
+      moved-numbered = record {
+        listing = renumbered-now;
+        numbers = rw entered-is (next-numbers p p′ (r .beyond) given nu (I .numbers) (below cal′ date′) none);
+        there = moved-there;
+        begins = omega (arith, I .begins);
+        enough = omega (arith, I .enough, balance);
+        few = omega (arith, I .few, balance, passed);
+      }
+
+      pub moves : Moved r cal date ms given nu cal′ date′
+      moves = record { numbered = moved-numbered; grows = moved-keeps; balance = balance; left = left-before }
+
+  -- the first listing
+  module _ (cal : Calendar) (date : ℕ) (begins : r .first ≤ front r cal date) where
+    abbrev first-numbers : ℕ → ℕ
+    first-numbers = numbersFirst r cal date
+
+    no-numbers : Numbers (λ k. false) 0 (λ k. 0)
+    no-numbers = record { pos = λ k e. clash e refl; small = λ k. omega arith; inj = λ x y e l. absurd (omega arith) }
+
+    first-listing : renumbered [] 0 (fresh r cal date) ≡ map (maturity r cal first-numbers) (freshKeys r cal date)
+    unfolding isListed
+    first-listing =
+        rw (fresh-is r w cal date)
+        (renumbered-is (λ k. false) (now r cal date) (λ k. 0) (dayOf r cal) (λ k. 0) 0 [] (λ k. refl) (λ k e. clash e refl) (r .beyond))
+
+    first-count : 0 + countFrom (but (now r cal date) (λ k. false)) (r .beyond) 0 ≡ length (fresh r cal date)
+    first-count =
+        zero-add (countFrom (but (now r cal date) (λ k. false)) (r .beyond) 0)
+        ∙ ap (λ (q : ℕ → Bool). countFrom q (r .beyond) 0) (fun-ext (λ k. and-true (now r cal date k))) ∙ sym (size cal date (λ k. 0))
+
+    first-there : (k : ℕ) → 1 ≤ first-numbers k → now r cal date k ≡ true
+    first-there k h = go (but (now r cal date) (λ k. false) k) refl
+      where
+        go : (b : Bool) → but (now r cal date) (λ k. false) k ≡ b → now r cal date k ≡ true
+        go true e = both (now r cal date k) true e .0
+        go false e = let q : first-numbers k ≡ 0 = rw e in absurd (omega arith)
+
+    pub first-length : length (renumbered [] 0 (fresh r cal date)) ≡ length (fresh r cal date)
+    first-length =
+        ap length first-listing ∙ length-map (freshKeys r cal date) (maturity r cal first-numbers) ∙ sym (length-map (freshKeys r cal date) (maturity r cal (λ k. 0)))
+
+    pub first-numbered : Numbered r cal date (renumbered [] 0 (fresh r cal date)) (length (fresh r cal date)) first-numbers
+    first-numbered = record {
+      listing = first-listing;
+      numbers = rw first-count at (next-numbers (λ k. false) (now r cal date) (r .beyond) 0 (λ k. 0) no-numbers (below cal date) (λ k e. refl));
+      there = λ k h l. first-there k h;
+      begins = begins;
+      enough = omega (arith, first-length);
+      few = omega (arith, first-length);
+    }

@@ -1,0 +1,133 @@
+-- What holds of the book at every moment of a history, and of two moments of it.
+-- Assumes nothing.
+use mathlib.Core.Path.{_≡_, refl, _∙_}
+use mathlib.Core.Bool.{Bool, true, false, cond}
+use mathlib.Core.List.{List, [], _∷_, _++_, map}
+use mathlib.Core.Logic.{_⊎_, inl, inr}
+use Prim.Native.Nat.{ℕ, _+_, _≤_, _<_}
+use native.Mathlib.Omega.{arith}
+use lib.Dec.{eqb}
+use lib.ListN.{length, length-append, length-map}
+use borrow.Author.Tests.{eqb-true}
+use Rattle.questions.specs.Questions.{firstNo}
+use Rattle.questions.specs.Search.{oneOf}
+use Rattle.questions.proofs.Bools.{clash}
+use Rattle.calendar.specs.declared.Calendar.{Calendar}
+use Rattle.product.specs.declared.Product.{Product}
+use Rattle.listing.specs.Rules.{Rule, front}
+use Rattle.listing.specs.Months.{ruleOf}
+use Rattle.listing.proofs.Lawful.{Lawful}
+use Rattle.listing.proofs.Monthly.{monthly-lawful, monthly-begins}
+use Rattle.table.specs.Numbering.{missing, renumbered}
+use Rattle.history.specs.Book.{Call, Book, calendarAfter, dateAfter, bookOpened, bookAsks, bookMoved, bookAfter, bookRun}
+use Rattle.history.proofs.Numbers.{one-append}
+use Rattle.history.proofs.Moves.{fresh, Numbered, numbersNext, numbersFirst, Moved, moves, first-length, first-numbered}
+use Rattle.history.proofs.Soundness.{Opened}
+use Rattle.history.proofs.Calls.{rule-stays, after-opened, forward}
+
+-- the rule of a book
+abbrev pub ruleIn : Product → Book → Rule
+ruleIn p b = ruleOf (b .calendar) (p .kind) (p .group)
+
+-- the front of its calendar and date
+abbrev pub frontIn : Product → Book → ℕ
+frontIn p b = front (ruleIn p b) (b .calendar) (b .date)
+
+-- what holds of the book at every moment, with nu k the number that the key k ever had, or 0
+pub record Inv (p : Product) (b : Book) (nu : ℕ → ℕ) : Type 0 where
+  pub opened : Opened p (b .calendar) (b .date)
+  pub numbered : Numbered (ruleIn p b) (b .calendar) (b .date) (b .maturities) (b .given) nu
+  pub total : b .given ≡ length (b .maturities) + length (b .gone)
+  pub past : (k : ℕ) → oneOf (b .gone) k ≡ true → k < frontIn p b
+
+-- a later moment: the rule is the same, numbers once given stay, and the front has not gone back
+pub record Later (p : Product) (b : Book) (nu : ℕ → ℕ) (b′ : Book) : Type 0 where
+  pub nu′ : ℕ → ℕ
+  pub inv : Inv p b′ nu′
+  pub rule : ruleIn p b′ ≡ ruleIn p b
+  pub grows : (k : ℕ) → 1 ≤ nu k → nu′ k ≡ nu k
+  pub on : frontIn p b ≤ frontIn p b′
+
+module _ (p : Product) where
+  abbrev lawful : (b : Book) → Lawful (ruleIn p b)
+  lawful b = monthly-lawful (b .calendar .cover) (p .kind) (p .group)
+
+  -- the opened book
+  pub starts : (cal : Calendar) (date : ℕ) → Opened p cal date → Inv p (bookOpened (p .kind) (p .group) cal date) (numbersFirst (ruleOf cal (p .kind) (p .group)) cal date)
+  unfolding bookOpened oneOf
+  starts cal date o =
+      let r = ruleOf cal (p .kind) (p .group) in
+      let w = monthly-lawful (cal .cover) (p .kind) (p .group) in
+      let s = monthly-begins (cal .cover) (p .kind) (p .group) cal date (o .covered) in
+      record { opened = o; numbered = first-numbered r w cal date s; total = omega (arith, first-length r w cal date s); past = λ k e. clash e refl }
+
+  module _ (b : Book) (nu : ℕ → ℕ) (I : Inv p b nu) where
+    -- a listing of a later front replaces the book's
+    book-moved : (cal : Calendar) (date : ℕ) → Opened p cal date → ruleOf cal (p .kind) (p .group) ≡ ruleIn p b → frontIn p b ≤ front (ruleIn p b) cal date
+        → Later p b nu (bookMoved (p .kind) (p .group) b cal date)
+    unfolding bookMoved
+    book-moved cal date o same later = record {
+      nu′ = numbersNext (ruleIn p b) (b .calendar) (b .date) (b .given) nu cal date;
+      inv = record { opened = o; numbered = rw same (m .numbered); total = rw same total; past = rw same past };
+      rule = same;
+      grows = m .grows;
+      on = rw same later;
+    }
+      where
+        m : Moved (ruleIn p b) (b .calendar) (b .date) (b .maturities) (b .given) nu cal date
+        m = moves (ruleIn p b) (lawful b) (b .calendar) (b .date) (b .maturities) (b .given) nu (I .numbered) cal date later
+
+        left : List ℕ
+        left = map (λ m. m .month) (missing (b .maturities) (fresh (ruleIn p b) cal date))
+
+        total : b .given + length (missing (fresh (ruleIn p b) cal date) (b .maturities))
+            ≡ length (renumbered (b .maturities) (b .given) (fresh (ruleIn p b) cal date)) + length (b .gone ++ left)
+        total = omega (arith, I .total, m .balance, length-append (b .gone) left, length-map (missing (b .maturities) (fresh (ruleIn p b) cal date)) (λ m. m .month))
+
+        past : (k : ℕ) → oneOf (b .gone ++ left) k ≡ true → k < front (ruleIn p b) cal date
+        past k e = side (one-append (b .gone) left k e)
+          where
+            side : (oneOf (b .gone) k ≡ true) ⊎ (oneOf left k ≡ true) → k < front (ruleIn p b) cal date
+            side (inl t) = omega (arith, I .past k t)
+            side (inr t) = m .left k t
+
+    -- nothing has changed
+    still : Later p b nu b
+    still = record { nu′ = nu; inv = I; rule = refl; grows = λ k h. refl; on = omega arith }
+
+    -- one call
+    pub turn-later : (c : Call) → Later p b nu (bookAfter (p .kind) (p .group) b c)
+    unfolding bookAfter
+    turn-later c = go (eqb (firstNo (bookAsks (p .kind) (p .group) b c)) 0) refl
+      where
+        go : (t : Bool) → eqb (firstNo (bookAsks (p .kind) (p .group) b c)) 0 ≡ t
+            → Later p b nu (cond t (bookMoved (p .kind) (p .group) b (calendarAfter (b .calendar) c) (dateAfter (b .date) c)) b)
+        go true e =
+            let y = eqb-true (firstNo (bookAsks (p .kind) (p .group) b c)) 0 e in
+            book-moved (calendarAfter (b .calendar) c) (dateAfter (b .date) c) (after-opened p b (I .opened) c y)
+            (rule-stays (b .calendar) (p .kind) (p .group) c) (forward (ruleIn p b) (lawful b) (p .kind) (p .group) b c y)
+        go false e = still
+
+  -- of three moments the first and the last
+  then : (b : Book) (nu : ℕ → ℕ) (b′ : Book) (s : Later p b nu b′) (b″ : Book) → Later p b′ (s .nu′) b″ → Later p b nu b″
+  then b nu b′ s b″ t = record {
+    nu′ = t .nu′;
+    inv = t .inv;
+    rule = t .rule ∙ s .rule;
+    grows = λ k h. t .grows k (omega (arith, s .grows k h)) ∙ s .grows k h;
+    on = omega (arith, s .on, t .on);
+  }
+
+  -- a list of calls
+  pub run-later : (cs : List Call) (b : Book) (nu : ℕ → ℕ) → Inv p b nu → Later p b nu (bookRun (p .kind) (p .group) b cs)
+  unfolding bookRun
+  run-later [] b nu I = still b nu I
+  run-later (c ∷ cs) b nu I =
+      let s = turn-later b nu I c in
+      then b nu (bookAfter (p .kind) (p .group) b c) s (bookRun (p .kind) (p .group) (bookAfter (p .kind) (p .group) b c) cs)
+      (run-later cs (bookAfter (p .kind) (p .group) b c) (s .nu′) (s .inv))
+
+  pub run-append : (cs ds : List Call) (b : Book) → bookRun (p .kind) (p .group) b (cs ++ ds) ≡ bookRun (p .kind) (p .group) (bookRun (p .kind) (p .group) b cs) ds
+  unfolding bookRun
+  run-append [] ds b = refl
+  run-append (c ∷ cs) ds b = run-append cs ds (bookAfter (p .kind) (p .group) b c)

@@ -1,0 +1,305 @@
+-- Every call on a sound table gives a sound table, and no listing number passes 192.
+-- Assumes nothing.
+use mathlib.Core.Path.{_≡_, refl, sym, ap, _∙_}
+use mathlib.Core.Bool.{Bool, true, false, not, _||_, cond}
+use mathlib.Core.List.{List, [], _∷_, map}
+use mathlib.Core.Logic.{_⊎_, inl, inr}
+use Prim.Native.Nat.{ℕ, zero, suc, _-_, _≤_, _<_}
+use native.Mathlib.Nat.{le-refl}
+use native.Mathlib.Omega.{arith}
+use lib.Dec.{leb, eqb}
+use lib.ListN.{length, getD, length-map, List·getD-eq-default}
+use lib.Seq.{getD-take, length-take-le, ext-getD}
+use borrow.Author.Tests.{eqb-true, eqb-false, eq-eqb, ne-eqb, leb-true, not-true}
+use Rattle.questions.specs.Questions.{firstNo}
+use Rattle.questions.specs.Search.{every}
+use Rattle.questions.proofs.Bools.{clash, both, lt-or-ge}
+use Rattle.questions.proofs.Search.{every-at}
+use Rattle.listing.specs.declared.Maturity.{Maturity}
+use Rattle.listing.specs.Rules.{Rule, dayOf, freshKeys, maturity, unused, places15}
+use Rattle.listing.specs.Months.{ruleOf}
+use Rattle.listing.proofs.Lawful.{Lawful, complete-length, keys-rise}
+use Rattle.listing.proofs.Monthly.{monthly-lawful, monthly-room, monthly-begins, monthly-most}
+use Rattle.table.specs.declared.Table.{Table}
+use Rattle.table.specs.Numbering.{isListed, numberOf, numbersRight}
+use Rattle.table.specs.Table.{placesUsed, held, sameMaturity, listsFresh, monthsBefore, sound, moved, refusedWith, answered, rollCall, closeCall}
+use Rattle.history.specs.Book.{Call, roll, close, Book, calendarAfter, dateAfter, bookAsks}
+use Rattle.history.specs.History.{tableCall}
+use Rattle.history.proofs.Numbers.{Numbers}
+use Rattle.history.proofs.Moves.{fresh, now, Numbered, listed-now, given-most, numbersNext, moves}
+use Rattle.history.proofs.Soundness.{Opened, at-map, at-used, is-sound}
+use Rattle.history.proofs.Calls.{rule-stays, after-opened, forward}
+use Rattle.history.proofs.Tables.{table-answer}
+
+-- the place of a month in a list
+record Place (ms : List Maturity) (k : ℕ) : Type 0 where
+  place : ℕ
+  below : place < length ms
+  month : getD ms place unused .month ≡ k
+
+next-place : (m : Maturity) (ms : List Maturity) (k : ℕ) → Place ms k → Place (m ∷ ms) k
+next-place m ms k s = record { place = suc (s .place); below = omega (arith, s .below); month = s .month }
+
+place-of : (ms : List Maturity) (k : ℕ) → isListed ms k ≡ true → Place ms k
+unfolding isListed
+place-of [] k t = clash t refl
+place-of (m ∷ ms) k t = go (eqb (m .month) k) refl t (place-of ms k)
+  where
+    go : (b : Bool) → eqb (m .month) k ≡ b → (b || isListed ms k) ≡ true → (isListed ms k ≡ true → Place ms k) → Place (m ∷ ms) k
+    go true e t ih = record { place = 0; below = omega arith; month = eqb-true (m .month) k e }
+    go false e t ih = next-place m ms k (ih t)
+
+-- a month with a number is listed
+number-listed : (ms : List Maturity) (k : ℕ) → 1 ≤ numberOf ms k → isListed ms k ≡ true
+unfolding numberOf isListed
+number-listed [] k h = absurd (omega arith)
+number-listed (m ∷ ms) k h = go (eqb (m .month) k) h (number-listed ms k)
+  where
+    go : (b : Bool) → 1 ≤ cond b (m .number) (numberOf ms k) → (1 ≤ numberOf ms k → isListed ms k ≡ true) → (b || isListed ms k) ≡ true
+    go true h ih = refl
+    go false h ih = ih h
+
+-- where months differ, the number of the month in a place is the place's
+number-place : (ms : List Maturity) (i : ℕ) → i < length ms → ((j : ℕ) → j < i → getD ms j unused .month ≡ getD ms i unused .month → ⊥)
+    → numberOf ms (getD ms i unused .month) ≡ getD ms i unused .number
+unfolding numberOf
+number-place [] i h apart = absurd (omega arith)
+number-place (m ∷ ms) zero h apart = rw (eq-eqb (m .month) (m .month) refl)
+number-place (m ∷ ms) (suc i) h apart =
+    rw (ne-eqb (m .month) (getD ms i unused .month) (apart 0 (omega arith)))
+    (number-place ms i (omega arith) (λ j l. apart (suc j) (omega arith)))
+
+same-maturity : (m : Maturity) (k d n : ℕ) → m .month ≡ k → m .day ≡ d → m .number ≡ n → m ≡ record { month = k; day = d; number = n }
+same-maturity m k d n a b c = rw (← a, ← b, ← c)
+
+-- what question 10 asks
+record Sound (t : Table) : Type 0 where
+  opened : Opened (t .product) (t .calendar) (t .date)
+  lists : listsFresh t ≡ true
+  numbers : numbersRight (t .maturities) (placesUsed t) (t .given) ≡ true
+  enough : placesUsed t ≤ t .given
+  few : t .given - placesUsed t ≤ monthsBefore (ruleOf (t .calendar) (t .product .kind) (t .product .group)) (t .calendar) (t .date)
+
+sounds : (t : Table) → sound t ≡ true → Sound t
+unfolding sound
+sounds t e =
+    let (a, e1) = both _ _ e in
+    let (b, e2) = both _ _ e1 in
+    let (c, e3) = both _ _ e2 in
+    let (d, e4) = both _ _ e3 in
+    let (f, e5) = both _ _ e4 in
+    let (g, e6) = both _ _ e5 in
+    let (h, e7) = both _ _ e6 in
+    let (i, e8) = both _ _ e7 in
+    let (j, k) = both _ _ e8 in
+    record {
+      opened = record { product = a; valid = b; cleaned = c; weeks = d; covered = f; full = g };
+      lists = h;
+      numbers = i;
+      enough = leb-true _ _ j;
+      few = leb-true _ _ k;
+    }
+
+module _ (t : Table) (s : Sound t) where
+  abbrev r : Rule
+  r = ruleOf (t .calendar) (t .product .kind) (t .product .group)
+
+  abbrev w : Lawful (ruleOf (t .calendar) (t .product .kind) (t .product .group))
+  w = monthly-lawful (t .calendar .cover) (t .product .kind) (t .product .group)
+
+  abbrev n : ℕ
+  n = placesUsed t
+
+  abbrev key : ℕ → ℕ
+  key i = getD (freshKeys r (t .calendar) (t .date)) i 0
+
+  -- what a place holds
+  abbrev in-place : ℕ → Maturity
+  in-place i = getD (t .maturities) i unused
+
+  as-many : length (freshKeys r (t .calendar) (t .date)) ≡ n
+  as-many = complete-length r w (t .calendar) (t .date) (s .opened .full)
+
+  fresh-in : (i : ℕ) → i < n → getD (places15 (fresh r (t .calendar) (t .date))) i unused ≡ maturity r (t .calendar) (λ k. 0) (key i)
+  fresh-in i h =
+      at-used (fresh r (t .calendar) (t .date)) i (omega (arith, as-many, length-map (freshKeys r (t .calendar) (t .date)) (maturity r (t .calendar) (λ k. 0))))
+      ∙ at-map (maturity r (t .calendar) (λ k. 0)) unused (freshKeys r (t .calendar) (t .date)) i (omega (arith, as-many))
+
+  -- the month and the day of the fresh listing
+  same-in : (i : ℕ) → i < n → (in-place i .month ≡ key i) × (in-place i .day ≡ dayOf r (t .calendar) (key i))
+  unfolding listsFresh
+  same-in i h =
+      let l : i < 15 = omega (arith, monthly-room (t .calendar .cover) (t .product .kind) (t .product .group)) in
+      let e : sameMaturity (in-place i) (getD (places15 (fresh r (t .calendar) (t .date))) i unused) ≡ true = both _ _ (every-at _ 15 i (s .lists) l) .0 in
+      let (a, b) = both (eqb (in-place i .month) (key i)) (eqb (in-place i .day) (dayOf r (t .calendar) (key i))) (rw (fresh-in i h) at e) in
+      (eqb-true (in-place i .month) (key i) a, eqb-true (in-place i .day) (dayOf r (t .calendar) (key i)) b)
+
+  -- numbers from 1 to the count given, distinct
+  record Number (i : ℕ) : Type 0 where
+    pos : 1 ≤ in-place i .number
+    small : in-place i .number ≤ t .given
+    apart : (j : ℕ) → j < i → in-place j .number ≡ in-place i .number → ⊥
+
+  number-in : (i : ℕ) → i < n → Number i
+  unfolding numbersRight
+  number-in i h =
+      let (a, e) = both (leb 1 (in-place i .number)) _ (every-at _ n i (s .numbers) h) in
+      let (b, c) = both (leb (in-place i .number) (t .given)) (every i (λ j. not (eqb (in-place j .number) (in-place i .number)))) e in
+      record {
+        pos = leb-true 1 (in-place i .number) a;
+        small = leb-true (in-place i .number) (t .given) b;
+        apart = λ j l. eqb-false (in-place j .number) (in-place i .number)
+            (not-true (eqb (in-place j .number) (in-place i .number)) (every-at (λ j. not (eqb (in-place j .number) (in-place i .number))) i j c l));
+      }
+
+  -- so every used place is there
+  long : n ≤ length (t .maturities)
+  long = go (lt-or-ge (length (t .maturities)) n)
+    where
+      go : (length (t .maturities) < n) ⊎ (n ≤ length (t .maturities)) → n ≤ length (t .maturities)
+      go (inl l) =
+          let e : in-place (length (t .maturities)) ≡ unused = List·getD-eq-default (t .maturities) unused (le-refl (length (t .maturities))) in
+          absurd (omega (arith, number-in (length (t .maturities)) l .pos, ap (λ (m : Maturity). m .number) e))
+      go (inr l) = l
+
+  held-long : length (held t) ≡ n
+  held-long = length-take-le n (t .maturities) long
+
+  held-at : (i : ℕ) → i < n → getD (held t) i unused ≡ in-place i
+  held-at i h = getD-take n (t .maturities) i unused h
+
+  -- the number of the month in a place
+  number-key : (i : ℕ) → i < n → numberOf (held t) (key i) ≡ in-place i .number
+  number-key i h =
+      let q : getD (held t) i unused .month ≡ key i = ap (λ (m : Maturity). m .month) (held-at i h) ∙ same-in i h .0 in
+      ap (numberOf (held t)) (sym q) ∙ number-place (held t) i (omega (arith, held-long)) (λ j l e. rises j l (e ∙ q))
+      ∙ ap (λ (m : Maturity). m .number) (held-at i h)
+    where
+      rises : (j : ℕ) → j < i → getD (held t) j unused .month ≡ key i → ⊥
+      rises j l e =
+          omega (
+            arith,
+            ap (λ (m : Maturity). m .month) (held-at j (omega arith)),
+            same-in j (omega arith) .0,
+            keys-rise r w (t .calendar) (t .date) j i l (omega (arith, as-many)),
+          )
+
+  listing-is : held t ≡ map (maturity r (t .calendar) (numberOf (held t))) (freshKeys r (t .calendar) (t .date))
+  listing-is =
+      ext-getD unused (held t) (map (maturity r (t .calendar) (numberOf (held t))) (freshKeys r (t .calendar) (t .date)))
+      (held-long ∙ sym (length-map (freshKeys r (t .calendar) (t .date)) (maturity r (t .calendar) (numberOf (held t))) ∙ as-many))
+      (λ i h. each i (omega (arith, held-long)))
+    where
+      each : (i : ℕ) → i < n → getD (held t) i unused ≡ getD (map (maturity r (t .calendar) (numberOf (held t))) (freshKeys r (t .calendar) (t .date))) i unused
+      each i h =
+          held-at i h
+          ∙ same-maturity (in-place i) (key i) (dayOf r (t .calendar) (key i)) (numberOf (held t) (key i)) (same-in i h .0) (same-in i h .1) (sym (number-key i h))
+          ∙ sym (at-map (maturity r (t .calendar) (numberOf (held t))) unused (freshKeys r (t .calendar) (t .date)) i (omega (arith, as-many)))
+
+  -- the place of a listed month has its number
+  record Held (k : ℕ) : Type 0 where
+    place : ℕ
+    below : place < n
+    month : key place ≡ k
+    number : numberOf (held t) k ≡ in-place place .number
+
+  held-place : (k : ℕ) → isListed (held t) k ≡ true → Held k
+  held-place k e =
+      let q = place-of (held t) k e in
+      let h : q .place < n = omega (arith, q .below, held-long) in
+      let m : key (q .place) ≡ k = sym (same-in (q .place) h .0) ∙ sym (ap (λ (m : Maturity). m .month) (held-at (q .place) h)) ∙ q .month in
+      record { place = q .place; below = h; month = m; number = ap (numberOf (held t)) (sym m) ∙ number-key (q .place) h }
+
+  listed-is : (k : ℕ) → isListed (held t) k ≡ now r (t .calendar) (t .date) k
+  listed-is k = ap (λ (ms : List Maturity). isListed ms k) listing-is ∙ listed-now r w (t .calendar) (t .date) (numberOf (held t)) k
+
+  numbers-are : Numbers (now r (t .calendar) (t .date)) (t .given) (numberOf (held t))
+  numbers-are = record {
+    pos = λ k e. positive k (held-place k (listed-is k ∙ e));
+    small = λ k. within k (lt-or-ge 0 (numberOf (held t) k));
+    inj = λ x y e l. one x y e (held-place x (number-listed (held t) x l)) (held-place y (number-listed (held t) y (omega arith)));
+  }
+    where
+      positive : (k : ℕ) → Held k → 1 ≤ numberOf (held t) k
+      positive k q = omega (arith, q .number, number-in (q .place) (q .below) .pos)
+
+      within : (k : ℕ) → (0 < numberOf (held t) k) ⊎ (numberOf (held t) k ≤ 0) → numberOf (held t) k ≤ t .given
+      within k (inl h) =
+          let q = held-place k (number-listed (held t) k h) in
+          omega (arith, q .number, number-in (q .place) (q .below) .small)
+      within k (inr h) = omega arith
+
+      one : (x y : ℕ) → numberOf (held t) x ≡ numberOf (held t) y → Held x → Held y → x ≡ y
+      one x y e a b =
+          let c : in-place (a .place) .number ≡ in-place (b .place) .number = sym (a .number) ∙ e ∙ b .number in
+          let u : a .place < b .place → ⊥ = λ l. number-in (b .place) (b .below) .apart (a .place) l c in
+          let v : b .place < a .place → ⊥ = λ l. number-in (a .place) (a .below) .apart (b .place) l (sym c) in
+          let q : a .place ≡ b .place = omega arith in
+          sym (a .month) ∙ ap key q ∙ b .month
+
+  numbered : Numbered r (t .calendar) (t .date) (held t) (t .given) (numberOf (held t))
+  numbered = record {
+    listing = listing-is;
+    numbers = numbers-are;
+    there = λ k h l. sym (listed-is k) ∙ number-listed (held t) k h;
+    begins = monthly-begins (t .calendar .cover) (t .product .kind) (t .product .group) (t .calendar) (t .date) (s .opened .covered);
+    enough = omega (arith, held-long, s .enough);
+    few = omega (arith, held-long, s .few);
+  }
+
+  -- the book that holds what the table holds
+  abbrev beside : Book
+  beside = record { calendar = t .calendar; date = t .date; maturities = held t; given = t .given; gone = [] }
+
+  abbrev refusal : Call → ℕ
+  refusal c = firstNo (bookAsks (t .product .kind) (t .product .group) beside c)
+
+  -- an accepted call gives a sound table
+  moved-sound : (c : Call) → refusal c ≡ 0
+      → sound (moved t (calendarAfter (t .calendar) c) (dateAfter (t .date) c) .table) ≡ true
+  unfolding moved
+  moved-sound c e =
+      let cal = calendarAfter (t .calendar) c in
+      let date = dateAfter (t .date) c in
+      is-sound (t .product) cal date _ _ (numbersNext r (t .calendar) (t .date) (t .given) (numberOf (held t)) cal date) (after-opened (t .product) beside (s .opened) c e)
+      (rw (rule-stays (t .calendar) (t .product .kind) (t .product .group) c)
+      (moves r w (t .calendar) (t .date) (held t) (t .given) (numberOf (held t)) numbered cal date (forward r w (t .product .kind) (t .product .group) beside c e) .numbered))
+
+  called-sound : sound t ≡ true → (c : Call) → sound (tableCall t c .table) ≡ true
+  unfolding answered
+  called-sound e c = rw (table-answer t beside refl refl e c) (go (eqb (refusal c) 0) refl)
+    where
+      go : (b : Bool) → eqb (refusal c) 0 ≡ b → sound (cond b (moved t (calendarAfter (t .calendar) c) (dateAfter (t .date) c)) (refusedWith t (refusal c)) .table) ≡ true
+      go true q = moved-sound c (eqb-true (refusal c) 0 q)
+      go false q = e
+
+module _ (t : Table) (e : sound t ≡ true) where
+  -- a sound table holds as many maturities as its kind's row of counts sums to
+  pub held-length : length (held t) ≡ placesUsed t
+  held-length = held-long t (sounds t e)
+
+  -- they are a numbered listing
+  pub sound-numbered : Numbered (ruleOf (t .calendar) (t .product .kind) (t .product .group)) (t .calendar) (t .date) (held t) (t .given) (numberOf (held t))
+  sound-numbered = numbered t (sounds t e)
+
+  -- 'So the listing number of a month never passes 192'
+  pub given-bound : t .given ≤ 192
+  given-bound =
+      omega (
+        arith,
+        given-most (r t (sounds t e)) (w t (sounds t e)) (t .calendar) (t .date) (held t) (t .given) (numberOf (held t)) sound-numbered,
+        monthly-most (t .calendar .cover) (t .product .kind) (t .product .group) (sounds t e .opened .valid),
+      )
+
+  pub number-bound : (m : ℕ) → numberOf (held t) m ≤ 192
+  number-bound m = omega (arith, sound-numbered .numbers .small m, given-bound)
+
+  -- accepted or refused, a call on it gives a sound table
+  pub call-sound : (c : Call) → sound (tableCall t c .table) ≡ true
+  call-sound = called-sound t (sounds t e) e
+
+  pub roll-sound : (date : ℕ) → sound (rollCall t date .table) ≡ true
+  roll-sound date = call-sound (roll date)
+
+  pub close-sound : (day : ℕ) → sound (closeCall t day .table) ≡ true
+  close-sound day = call-sound (close day)

@@ -1,0 +1,201 @@
+-- What holds of the fronts, days and listings of every lawful rule.
+-- Assumes nothing.
+use mathlib.Core.Path.{_≡_, refl, ap, _∙_}
+use mathlib.Core.Bool.{Bool, true, false, _&&_, cond}
+use mathlib.Core.Logic.{_⊎_, inl, inr}
+use Prim.Native.Nat.{ℕ, zero, suc, _+_, _-_, _≤_, _<_}
+use native.Mathlib.Nat.{add-zero, add-suc}
+use native.Mathlib.Omega.{arith}
+use lib.ListN.{length, getD}
+use borrow.Author.Tests.{eqb-true, leb-true, leb-false}
+use Rattle.questions.specs.Search.{latest, firstFrom}
+use Rattle.questions.proofs.Bools.{clash, both, and-both, lt-or-ge}
+use Rattle.questions.proofs.Search.{latest-le, latest-ge, latest-passes}
+use Rattle.calendar.specs.declared.Calendar.{Calendar}
+use Rattle.calendar.specs.Trading.{tradingDay}
+use Rattle.listing.specs.Rules.{Rule, dayOf, alive, widest, front, freshKeys, complete}
+use Rattle.listing.proofs.Fridays.{last-is}
+use Rattle.listing.proofs.Walks.{sift, sift-at, sift-rises}
+use Rattle.listing.proofs.Places.{Nested, lists, taken-sift, Within, within, widely, stays}
+
+-- anchors rise with the key, a key before a date's own has its anchor before the date, the sets are nested, and the keys of the widest are counted
+pub record Lawful (r : Rule) : Type 0 where
+  pub nested : Nested (widest (r .places)) (r .places)
+  pub rising : (k : ℕ) → r .anchor k ≤ r .anchor (suc k)
+  pub own : (k d : ℕ) → k < r .start d → r .anchor k < d
+  pub counts : (k : ℕ) → widest (r .places) k ≡ true → r .counted k ≡ true
+
+-- of more trading days the latest at or before a later day is not earlier
+latest-rises : (f g : ℕ → Bool) (d e : ℕ) → ((k : ℕ) → f k ≡ true → g k ≡ true) → d ≤ e → latest f d ≤ latest g e
+latest-rises f g d e h l = go (lt-or-ge 0 (latest f d))
+  where
+    go : (0 < latest f d) ⊎ (latest f d ≤ 0) → latest f d ≤ latest g e
+    go (inl p) = latest-ge g e (latest f d) (omega (arith, latest-le f d)) (h (latest f d) (latest-passes f d p))
+    go (inr p) = omega arith
+
+-- what does not fall from one key to the next does not fall
+pub risen : (f : ℕ → ℕ) → ((k : ℕ) → f k ≤ f (suc k)) → (j k : ℕ) → j ≤ k → f j ≤ f k
+risen f h j k l = let q : j + (k - j) ≡ k = omega arith in rw q at (go (k - j))
+  where
+    go : (n : ℕ) → f j ≤ f (j + n)
+    go zero = rw (add-zero j) (omega arith)
+    go (suc n) = rw (add-suc j n) (omega (arith, go n, h (j + n)))
+
+-- a search finds nothing, or a number that passes; none that passes is before it
+record Found (f : ℕ → Bool) (n d k : ℕ) : Type 0 where
+  passes : f k ≡ true
+  from : d ≤ k
+  below : k < d + n
+
+first-found : (f : ℕ → Bool) (none n d : ℕ) → (firstFrom f none n d ≡ none) ⊎ Found f n d (firstFrom f none n d)
+unfolding firstFrom
+first-found f none zero d = inl refl
+first-found f none (suc n) d = go (f d) refl (first-found f none n (suc d))
+  where
+    go : (b : Bool) → f d ≡ b → (firstFrom f none n (suc d) ≡ none) ⊎ Found f n (suc d) (firstFrom f none n (suc d))
+        → (cond b d (firstFrom f none n (suc d)) ≡ none) ⊎ Found f (suc n) d (cond b d (firstFrom f none n (suc d)))
+    go true e s = inr (record { passes = e; from = omega arith; below = omega arith })
+    go false e (inl q) = inl q
+    go false e (inr w) = inr (record { passes = w .passes; from = omega (arith, w .from); below = omega (arith, w .below) })
+
+first-least : (f : ℕ → Bool) (none n d k : ℕ) → d ≤ k → k < d + n → f k ≡ true → firstFrom f none n d ≤ k
+unfolding firstFrom
+first-least f none zero d k a b t = absurd (omega arith)
+first-least f none (suc n) d k a b t = go (f d) refl (lt-or-ge d k) (λ h. first-least f none n (suc d) k h (omega arith) t)
+  where
+    go : (b : Bool) → f d ≡ b → (d < k) ⊎ (k ≤ d) → (suc d ≤ k → firstFrom f none n (suc d) ≤ k) → cond b d (firstFrom f none n (suc d)) ≤ k
+    go true e s ih = a
+    go false e (inl l) ih = ih l
+    go false e (inr l) ih =
+        let q : d ≡ k = omega arith in
+        clash (ap f q ∙ t) e
+
+-- the key is in the listing of a rule from the front on
+abbrev pub inListing : Rule → ℕ → ℕ → Bool
+inListing r front k = lists (r .beyond) (r .places) front k
+
+module _ (r : Rule) (w : Lawful r) where
+  -- days do not fall as keys rise, nor where a calendar has more trading days
+  pub days-rise : (cal cal′ : Calendar) → ((d : ℕ) → tradingDay cal d ≡ true → tradingDay cal′ d ≡ true) → (j k : ℕ) → j ≤ k → dayOf r cal j ≤ dayOf r cal′ k
+  days-rise cal cal′ more j k h =
+      omega (
+        arith,
+        last-is cal (r .anchor j),
+        last-is cal′ (r .anchor k),
+        latest-rises (tradingDay cal) (tradingDay cal′) (r .anchor j) (r .anchor k) more (risen (r .anchor) (w .rising) j k h),
+      )
+
+  pub day-anchor : (cal : Calendar) (k : ℕ) → dayOf r cal k ≤ r .anchor k
+  day-anchor cal k = omega (arith, last-is cal (r .anchor k), latest-le (tradingDay cal) (r .anchor k))
+
+  module _ (cal : Calendar) (date : ℕ) where
+    abbrev test : ℕ → Bool
+    test k = widest (r .places) k && alive r cal date k
+
+    -- the front is the first key beyond the cover, or a key that passes
+    abbrev Either : Type 0
+    Either = (front r cal date ≡ r .beyond) ⊎ Found test (r .beyond - r .start date) (r .start date) (front r cal date)
+
+    either : Either
+    unfolding front
+    either = first-found test (r .beyond) (r .beyond - r .start date) (r .start date)
+
+    pub front-most : front r cal date ≤ r .beyond
+    front-most = go either
+      where
+        go : Either → front r cal date ≤ r .beyond
+        go (inl q) = omega arith
+        go (inr s) = omega (arith, s .below, s .from)
+
+    pub front-from : r .start date ≤ r .beyond → r .start date ≤ front r cal date
+    front-from h = go either
+      where
+        go : Either → r .start date ≤ front r cal date
+        go (inl q) = omega arith
+        go (inr s) = s .from
+
+    -- a front in the cover is a key of the first set, whose day is not past
+    pub front-passes : front r cal date < r .beyond → (widest (r .places) (front r cal date) ≡ true) × (alive r cal date (front r cal date) ≡ true)
+    front-passes h = go either
+      where
+        go : Either → (widest (r .places) (front r cal date) ≡ true) × (alive r cal date (front r cal date) ≡ true)
+        go (inl q) = absurd (omega arith)
+        go (inr s) = both (widest (r .places) (front r cal date)) (alive r cal date (front r cal date)) (s .passes)
+
+    -- no such key is before the front
+    pub front-least : (k : ℕ) → k < r .beyond → widest (r .places) k ≡ true → alive r cal date k ≡ true → front r cal date ≤ k
+    unfolding front
+    front-least k h a b = go (lt-or-ge k (r .start date))
+      where
+        go : (k < r .start date) ⊎ (r .start date ≤ k)
+            → firstFrom (λ j. widest (r .places) j && alive r cal date j) (r .beyond) (r .beyond - r .start date) (r .start date) ≤ k
+        go (inl l) = absurd (omega (arith, w .own k date l, leb-true date (dayOf r cal k) b, day-anchor cal k))
+        go (inr l) = first-least test (r .beyond) (r .beyond - r .start date) (r .start date) k l (omega arith) (and-both a b)
+
+    -- the day of a key before the front is past, and that of a key from the front on is not
+    pub day-past : (k : ℕ) → k < r .beyond → widest (r .places) k ≡ true → k < front r cal date → dayOf r cal k < date
+    day-past k h a l = go (alive r cal date k) refl
+      where
+        go : (b : Bool) → alive r cal date k ≡ b → dayOf r cal k < date
+        go true e = absurd (omega (arith, front-least k h a e))
+        go false e = leb-false date (dayOf r cal k) e
+
+    pub day-ahead : (k : ℕ) → k < r .beyond → front r cal date ≤ k → date ≤ dayOf r cal k
+    day-ahead k h l =
+        omega (arith, leb-true date (dayOf r cal (front r cal date)) (front-passes (omega arith) .1), days-rise cal cal (λ d t. t) (front r cal date) k l)
+
+    -- the fresh listing holds the keys that pass a test of the key alone
+    pub fresh-is : freshKeys r cal date ≡ sift (inListing r (front r cal date)) (r .beyond) 0
+    unfolding freshKeys
+    fresh-is = taken-sift (r .beyond) (r .places) (front r cal date) front-most
+
+    -- a complete listing has as many keys as places
+    pub complete-length : complete r cal date ≡ true → length (freshKeys r cal date) ≡ length (r .places)
+    unfolding complete
+    complete-length e = eqb-true (length (freshKeys r cal date)) (length (r .places)) e
+
+    -- a key of the fresh listing
+    pub record Key (k : ℕ) : Type 0 where
+      pub from : front r cal date ≤ k
+      pub below : k < r .beyond
+      pub wide : widest (r .places) k ≡ true
+      pub day : date ≤ dayOf r cal k
+
+    pub key-of : (k : ℕ) → inListing r (front r cal date) k ≡ true → Key k
+    key-of k e =
+        let s : Within (r .beyond) (r .places) (front r cal date) k = within (r .beyond) (r .places) (front r cal date) k e in
+        record {
+          from = s .from;
+          below = s .below;
+          wide = widely (r .beyond) (r .places) (widest (r .places)) (w .nested) (front r cal date) k e;
+          day = day-ahead k (s .below) (s .from);
+        }
+
+    pub key-at : (i : ℕ) → i < length (freshKeys r cal date) → Key (getD (freshKeys r cal date) i 0)
+    key-at i h =
+        rw (fresh-is)
+        (key-of (getD (sift (inListing r (front r cal date)) (r .beyond) 0) i 0)
+        (sift-at (inListing r (front r cal date)) (r .beyond) 0 i (rw (fresh-is) at h) .passes))
+
+    -- the keys rise strictly, and their days do not fall
+    pub keys-rise : (i j : ℕ) → i < j → j < length (freshKeys r cal date) → getD (freshKeys r cal date) i 0 < getD (freshKeys r cal date) j 0
+    keys-rise i j l h = rw (fresh-is) (sift-rises (inListing r (front r cal date)) (r .beyond) 0 i j l (rw (fresh-is) at h))
+
+    pub days-follow : (i j : ℕ) → i < j → j < length (freshKeys r cal date) → dayOf r cal (getD (freshKeys r cal date) i 0) ≤ dayOf r cal (getD (freshKeys r cal date) j 0)
+    days-follow i j l h =
+        let q : getD (freshKeys r cal date) i 0 < getD (freshKeys r cal date) j 0 = keys-rise i j l h in
+        days-rise cal cal (λ d t. t) (getD (freshKeys r cal date) i 0) (getD (freshKeys r cal date) j 0) (omega arith)
+
+  -- where no day that was past is ahead, the front does not go back
+  pub front-later : (cal cal′ : Calendar) (date date′ : ℕ) → ((k : ℕ) → alive r cal′ date′ k ≡ true → alive r cal date k ≡ true) → front r cal date ≤ front r cal′ date′
+  front-later cal cal′ date date′ h = go (lt-or-ge (front r cal′ date′) (r .beyond))
+    where
+      go : (front r cal′ date′ < r .beyond) ⊎ (r .beyond ≤ front r cal′ date′) → front r cal date ≤ front r cal′ date′
+      go (inl l) =
+          let s = front-passes cal′ date′ l in
+          front-least cal date (front r cal′ date′) l (s .0) (h (front r cal′ date′) (s .1))
+      go (inr l) = omega (arith, front-most cal date)
+
+  -- a later front's listing holds every listed key that is not before it
+  pub keys-stay : (f g : ℕ) → f ≤ g → (k : ℕ) → inListing r f k ≡ true → g ≤ k → inListing r g k ≡ true
+  keys-stay = stays (r .beyond) (r .places) (widest (r .places)) (w .nested)

@@ -1,0 +1,79 @@
+use Rattle.listing.proofs.Taking.{rest-count, rest-zero}
+use Rattle.listing.proofs.Taking.{rest, rest-room, kind-below}
+use Rattle.listing.specs.Months.{monthSets, placesOf, rowOf}
+use Rattle.listing.specs.Rules.{taken}
+use lib.ListN.{length}
+use Prim.Native.Nat.{ℕ, _+_, _-_, _≤_, _<_}
+use borrow.Author.Needs.{needs}
+use native.Mathlib.Omega.{arith}
+use mathlib.Core.Path.{_≡_, ap}
+use Rattle.listing.proofs.months_listed.Statement.{statement}
+use Rattle.listing.proofs.months_listed.Tie as tie
+
+abbrev Inv-loop : tie.InvT-loop
+Inv-loop row sum₀ step₀ sum step = (step ≤ 4) × (row < 4) × (length (rest row 0) ≤ 15) × (sum + length (rest row step) ≡ length (rest row 0))
+
+abbrev μ-loop : tie.MeasureT-loop
+μ-loop row sum₀ step₀ sum step = 4 - step
+
+kind-number-requires : tie.Need-kind-number-requires Inv-loop μ-loop
+kind-number-requires c κs = search needs
+
+cast-row : tie.Need-cast-row Inv-loop μ-loop
+cast-row c = omega (arith, c .kind-number .ensures, kind-below (c .before .args .kind))
+
+loop-holds : tie.Need-loop-holds Inv-loop μ-loop
+loop-holds c =
+    let k = c .before .args .kind in
+    rw (c .kind-number .ensures) (omega arith, kind-below k, rest-room k, omega arith)
+
+mul-count : tie.Need-mul-count Inv-loop μ-loop
+mul-count c = omega arith
+
+index-1-count : tie.Need-index-1-count Inv-loop μ-loop
+index-1-count c = omega arith
+
+index-2-count : tie.Need-index-2-count Inv-loop μ-loop
+index-2-count c = omega arith
+
+cast-sum : tie.Need-cast-sum Inv-loop μ-loop
+cast-sum c = omega (arith, rest-count _ (c .before .before .loop .step) (c .before .before .loop .inv .1) (c .before .loop-test .taken))
+
+add-sum : tie.Need-add-sum Inv-loop μ-loop
+add-sum c = omega (arith, rest-count _ (c .before .before .loop .step) (c .before .before .loop .inv .1) (c .before .loop-test .taken))
+
+add-step : tie.Need-add-step Inv-loop μ-loop
+add-step c = omega arith
+
+loop-less : tie.Need-loop-less Inv-loop μ-loop
+loop-less c = omega arith
+
+loop-again : tie.Need-loop-again Inv-loop μ-loop
+loop-again c = (omega arith, c .before .before .loop .inv .1, c .before .before .loop .inv .2, omega (arith, rest-count _ (c .before .before .loop .step) (c .before .before .loop .inv .1) (c .before .loop-test .taken)))
+
+returns : tie.Need-returns Inv-loop μ-loop
+unfolding rest
+returns c =
+    let k = c .before .before .before .args .kind in
+    let z = rest-zero _ (c .before .loop .step) (c .before .loop .inv .1) (c .loop-test .left) in
+    let r : length (rest (c .before .before .kind-number .result) 0) ≡ length (placesOf (rowOf k) monthSets) = ap (λ (i : ℕ). length (rest i 0)) (c .before .before .kind-number .ensures) in
+    (omega arith, omega arith)
+
+pub months-listed-spec : {M : Type 1} → statement M
+months-listed-spec =
+    tie.close
+    (tie.spec
+    Inv-loop
+    μ-loop
+    kind-number-requires
+    cast-row
+    loop-holds
+    mul-count
+    index-1-count
+    index-2-count
+    cast-sum
+    add-sum
+    add-step
+    loop-less
+    loop-again
+    returns)

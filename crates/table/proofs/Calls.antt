@@ -1,0 +1,257 @@
+-- What the calls on a table come to, question by question.
+-- Assumes nothing.
+use mathlib.Core.Path.{_≡_, refl, _∙_, sym, ap}
+use mathlib.Core.Bool.{Bool, true, false, _&&_, cond}
+use mathlib.Core.List.{List}
+use Prim.Native.Nat.{ℕ, zero, suc, _+_, _-_, _≤_, _<_}
+use native.Mathlib.Omega.{arith}
+use lib.Dec.{leb, ltb, eqb·suc-zero}
+use lib.ListN.{length, take, length-map}
+use lib.Seq.{take-at}
+use borrow.Author.Tests.{eqb-true, leb-true, le-leb, lt-leb}
+use Rattle.questions.specs.Questions.{Ask, firstNo}
+use Rattle.questions.specs.Search.{every, firstFrom}
+use Rattle.questions.proofs.Bools.{both}
+use Rattle.days.specs.Dates.{monthOf}
+use Rattle.days.proofs.Months.{month-most}
+use Rattle.calendar.specs.declared.Calendar.{Calendar}
+use Rattle.calendar.specs.Trading.{coverStart, coverEnd, validCover, clean, everyWeek, inCover, tradingDay, closeDay}
+use Rattle.product.specs.declared.Kind.{Kind}
+use Rattle.product.specs.Fields.{productRight}
+use Rattle.listing.specs.Rules.{freshKeys, complete, places15}
+use Rattle.listing.specs.declared.Listing.{Listing}
+use Rattle.listing.specs.Months.{frontMonth, ruleOf, monthly, placesOf, rowOf, monthSets, listingOf}
+use Rattle.listing.proofs.Taking.{rest, rest-room}
+use Rattle.listing.proofs.Fresh.{front-is}
+use Rattle.table.specs.declared.Table.{Table}
+use Rattle.table.specs.declared.Outcome.{Outcome}
+use Rattle.table.specs.Numbering.{numbersRight}
+use Rattle.table.specs.Table.{freshOf, allInCover, placesUsed, placeRight, listsFresh, countFrom, monthsBefore, listingSound, sound, movedTo, moved, refusedWith, answered, rollAsks, rollCall, closeAsks, closeCall}
+
+-- a search below b ends below b, or where there is none at a number that is not above it
+first-most : (f : ℕ → Bool) (none n d b : ℕ) → none ≤ b → d + n ≤ b → firstFrom f none n d ≤ b
+unfolding firstFrom
+first-most f none zero d b h l = h
+first-most f none (suc n) d b h l = go (f d) (first-most f none n (suc d) b h (omega arith))
+  where
+    go : (t : Bool) → firstFrom f none n (suc d) ≤ b → cond t d (firstFrom f none n (suc d)) ≤ b
+    go true ih = omega arith
+    go false ih = ih
+
+pub front-most : (cal : Calendar) (group : List ℕ) (date : ℕ) → frontMonth cal group date ≤ 1200
+unfolding frontMonth
+front-most cal group date =
+    let e = monthOf (coverEnd (cal .cover)) in
+    first-most _ e (e - monthOf date) (monthOf date) 1200 (month-most (coverEnd (cal .cover))) (omega (arith, month-most (coverEnd (cal .cover)), month-most date))
+
+-- every month is counted
+count-all : (n k : ℕ) → countFrom (λ m. true) n k ≡ n
+unfolding countFrom
+count-all zero k = refl
+count-all (suc n) k = omega (arith, count-all n (suc k))
+
+pub months-before : (cal : Calendar) (kind : Kind) (group : List ℕ) (date : ℕ) → monthsBefore (ruleOf cal kind group) cal date ≡ frontMonth cal group date - monthOf (coverStart (cal .cover))
+unfolding monthsBefore monthly
+months-before cal kind group date = rw (front-is cal kind group date) (count-all _ (monthOf (coverStart (cal .cover))))
+
+-- the places of a rule are those of its kind's row
+pub used-is : (t : Table) → placesUsed t ≡ length (placesOf (rowOf (t .product .kind)) monthSets)
+unfolding monthly
+used-is t = refl
+
+pub used-most : (t : Table) → placesUsed t ≤ 15
+unfolding rest
+used-most t = rw (used-is t) (rest-room (t .product .kind))
+
+-- a complete fresh listing fills the places that are used
+pub fresh-held : (cal : Calendar) (kind : Kind) (group : List ℕ) (date n : ℕ) → n ≡ length (placesOf (rowOf kind) monthSets) → allInCover cal kind group date ≡ true
+    → take n (places15 (freshOf cal kind group date)) ≡ freshOf cal kind group date
+unfolding places15 complete monthly
+fresh-held cal kind group date n q e =
+    take-at (freshOf cal kind group date) _ n
+    (length-map (freshKeys (ruleOf cal kind group) cal date) _ ∙ eqb-true _ _ e ∙ sym q)
+
+-- the first question answered no
+pub answered-no : (t : Table) (asks : List Ask) (o : Outcome) (n : ℕ) → firstNo asks ≡ suc n → answered t asks o ≡ refusedWith t (suc n)
+unfolding answered
+answered-no t asks o n e = rw (e, eqb·suc-zero n)
+
+pub answered-yes : (t : Table) (asks : List Ask) (o : Outcome) → firstNo asks ≡ 0 → answered t asks o ≡ o
+unfolding answered
+answered-yes t asks o e = rw e
+
+-- the parts of soundness, one after the other
+pub record Sound (t : Table) : Type 0 where
+  pub fields : productRight (t .product) ≡ true
+  pub cover : validCover (t .calendar .cover) ≡ true
+  pub clean-days : clean (t .calendar) ≡ true
+  pub weeks : everyWeek (t .calendar) ≡ true
+  pub dated : inCover (t .calendar .cover) (t .date) ≡ true
+  pub whole : allInCover (t .calendar) (t .product .kind) (t .product .group) (t .date) ≡ true
+  pub listed : listsFresh t ≡ true
+  pub numbers : numbersRight (t .maturities) (placesUsed t) (t .given) ≡ true
+  pub least : placesUsed t ≤ t .given
+  pub most : t .given - placesUsed t ≤ monthsBefore (ruleOf (t .calendar) (t .product .kind) (t .product .group)) (t .calendar) (t .date)
+
+pub sound-parts : (t : Table) → sound t ≡ true → Sound t
+unfolding sound
+sound-parts t e =
+    let e1 = both (productRight (t .product)) after1 e in
+    let e2 = both (validCover (t .calendar .cover)) after2 (e1 .1) in
+    let e3 = both (clean (t .calendar)) after3 (e2 .1) in
+    let e4 = both (everyWeek (t .calendar)) after4 (e3 .1) in
+    let e5 = both (inCover (t .calendar .cover) (t .date)) (listingSound t) (e4 .1) in
+    let e6 = both (allInCover (t .calendar) (t .product .kind) (t .product .group) (t .date)) after6 (e5 .1) in
+    let e7 = both (listsFresh t) after7 (e6 .1) in
+    let e8 = both (numbersRight (t .maturities) (placesUsed t) (t .given)) after8 (e7 .1) in
+    let e9 = both (leb (placesUsed t) (t .given)) within (e8 .1) in
+    record {
+      fields = e1 .0;
+      cover = e2 .0;
+      clean-days = e3 .0;
+      weeks = e4 .0;
+      dated = e5 .0;
+      whole = e6 .0;
+      listed = e7 .0;
+      numbers = e8 .0;
+      least = leb-true _ _ (e9 .0);
+      most = leb-true _ _ (e9 .1);
+    }
+  where
+    within : Bool
+    within = leb (t .given - placesUsed t) (monthsBefore (ruleOf (t .calendar) (t .product .kind) (t .product .group)) (t .calendar) (t .date))
+
+    after8 : Bool
+    after8 = leb (placesUsed t) (t .given) && within
+
+    after7 : Bool
+    after7 = numbersRight (t .maturities) (placesUsed t) (t .given) && after8
+
+    after6 : Bool
+    after6 = listsFresh t && after7
+
+    after4 : Bool
+    after4 = inCover (t .calendar .cover) (t .date) && listingSound t
+
+    after3 : Bool
+    after3 = everyWeek (t .calendar) && after4
+
+    after2 : Bool
+    after2 = clean (t .calendar) && after3
+
+    after1 : Bool
+    after1 = validCover (t .calendar .cover) && after2
+
+-- the count given of a sound table is small
+pub given-most : (t : Table) → sound t ≡ true → t .given ≤ 60000
+given-most t e =
+    let s = sound-parts t e in
+    omega (arith, s .most, months-before (t .calendar) (t .product .kind) (t .product .group) (t .date), front-most (t .calendar) (t .product .group) (t .date), used-most t)
+
+-- roll, by its first question answered no
+module _ (t : Table) (date : ℕ) where
+  pub roll-10 : sound t ≡ false → rollCall t date ≡ refusedWith t 10
+  unfolding rollCall firstNo
+  roll-10 a = answered-no t (rollAsks t date) _ 9 (rw a)
+
+  module _ (a : sound t ≡ true) where
+    pub roll-11 : inCover (t .calendar .cover) date ≡ false → rollCall t date ≡ refusedWith t 11
+    unfolding rollCall firstNo
+    roll-11 b = answered-no t (rollAsks t date) _ 10 (rw (a, b))
+
+    module _ (b : inCover (t .calendar .cover) date ≡ true) where
+      pub roll-12 : leb (t .date) date ≡ false → rollCall t date ≡ refusedWith t 12
+      unfolding rollCall firstNo
+      roll-12 d = answered-no t (rollAsks t date) _ 11 (rw (a, b, d))
+
+      module _ (d : leb (t .date) date ≡ true) where
+        pub roll-16 : allInCover (t .calendar) (t .product .kind) (t .product .group) date ≡ false → rollCall t date ≡ refusedWith t 16
+        unfolding rollCall firstNo
+        roll-16 e = answered-no t (rollAsks t date) _ 15 (rw (a, b, d, e))
+
+        pub roll-yes : allInCover (t .calendar) (t .product .kind) (t .product .group) date ≡ true → rollCall t date ≡ moved t (t .calendar) date
+        unfolding rollCall firstNo
+        roll-yes e = answered-yes t (rollAsks t date) _ (rw (a, b, d, e))
+
+-- close, by its first question answered no
+module _ (t : Table) (day : ℕ) where
+  pub close-10 : sound t ≡ false → closeCall t day ≡ refusedWith t 10
+  unfolding closeCall firstNo
+  close-10 a = answered-no t (closeAsks t day) _ 9 (rw a)
+
+  module _ (a : sound t ≡ true) where
+    pub close-11 : inCover (t .calendar .cover) day ≡ false → closeCall t day ≡ refusedWith t 11
+    unfolding closeCall firstNo
+    close-11 b = answered-no t (closeAsks t day) _ 10 (rw (a, b))
+
+    module _ (b : inCover (t .calendar .cover) day ≡ true) where
+      pub close-13 : ltb (t .date) day ≡ false → closeCall t day ≡ refusedWith t 13
+      unfolding closeCall firstNo
+      close-13 d = answered-no t (closeAsks t day) _ 12 (rw (a, b, d))
+
+      module _ (d : ltb (t .date) day ≡ true) where
+        pub close-14 : tradingDay (t .calendar) day ≡ false → closeCall t day ≡ refusedWith t 14
+        unfolding closeCall firstNo
+        close-14 f = answered-no t (closeAsks t day) _ 13 (rw (a, b, d, f))
+
+        module _ (f : tradingDay (t .calendar) day ≡ true) where
+          pub close-15 : everyWeek (closeDay (t .calendar) day) ≡ false → closeCall t day ≡ refusedWith t 15
+          unfolding closeCall firstNo
+          close-15 g = answered-no t (closeAsks t day) _ 14 (rw (a, b, d, f, g))
+
+          module _ (g : everyWeek (closeDay (t .calendar) day) ≡ true) where
+            pub close-16 : allInCover (closeDay (t .calendar) day) (t .product .kind) (t .product .group) (t .date) ≡ false → closeCall t day ≡ refusedWith t 16
+            unfolding closeCall firstNo
+            close-16 h = answered-no t (closeAsks t day) _ 15 (rw (a, b, d, f, g, h))
+
+            pub close-yes : allInCover (closeDay (t .calendar) day) (t .product .kind) (t .product .group) (t .date) ≡ true → closeCall t day ≡ moved t (closeDay (t .calendar) day) (t .date)
+            unfolding closeCall firstNo
+            close-yes h = answered-yes t (closeAsks t day) _ (rw (a, b, d, f, g, h))
+
+-- what the code's listing says: complete or not, and the fresh maturities in the places that are used
+pub complete-is : (cal : Calendar) (kind : Kind) (group : List ℕ) (date : ℕ) (l : Listing) → l ≡ listingOf cal kind group date → l .complete ≡ allInCover cal kind group date
+unfolding listingOf
+complete-is cal kind group date l e = ap (λ (x : Listing). x .complete) e
+
+pub places-is : (cal : Calendar) (kind : Kind) (group : List ℕ) (date : ℕ) (l : Listing) → l ≡ listingOf cal kind group date → l .maturities ≡ places15 (freshOf cal kind group date)
+unfolding listingOf
+places-is cal kind group date l e = ap (λ (x : Listing). x .maturities) e
+
+-- the move with the code's listing
+pub moved-is : (t : Table) (cal : Calendar) (date : ℕ) (l : Listing) → l ≡ listingOf cal (t .product .kind) (t .product .group) date → l .complete ≡ true
+    → movedTo t cal date (take (placesUsed t) (l .maturities)) ≡ moved t cal date
+unfolding moved
+moved-is t cal date l e w =
+    let k = t .product .kind in
+    let g = t .product .group in
+    rw (places-is cal k g date l e, fresh-held cal k g date (placesUsed t) (used-is t) (sym (complete-is cal k g date l e) ∙ w))
+
+-- the code's test of the places is the definition's
+pub lists-is : (t : Table) (l : Listing) (n : ℕ) (b : Bool) → l ≡ listingOf (t .calendar) (t .product .kind) (t .product .group) (t .date) → n ≡ length (placesOf (rowOf (t .product .kind)) monthSets)
+    → b ≡ every 15 (placeRight (t .maturities) (l .maturities) n) → b ≡ listsFresh t
+unfolding listsFresh
+lists-is t l n b e q r =
+    r ∙ rw (q ∙ sym (used-is t), places-is (t .calendar) (t .product .kind) (t .product .group) (t .date) l e)
+
+pub numbers-is : (t : Table) (n : ℕ) (b : Bool) → n ≡ length (placesOf (rowOf (t .product .kind)) monthSets) → b ≡ numbersRight (t .maturities) n (t .given) → b ≡ numbersRight (t .maturities) (placesUsed t) (t .given)
+numbers-is t n b q r = r ∙ ap (λ (k : ℕ). numbersRight (t .maturities) k (t .given)) (q ∙ sym (used-is t))
+
+-- what is said of the maturities, question by question
+module _ (t : Table) (w : allInCover (t .calendar) (t .product .kind) (t .product .group) (t .date) ≡ true) where
+  pub listing-unlike : listsFresh t ≡ false → listingSound t ≡ false
+  listing-unlike a = rw (w, a)
+
+  module _ (a : listsFresh t ≡ true) where
+    pub listing-numbers : numbersRight (t .maturities) (placesUsed t) (t .given) ≡ false → listingSound t ≡ false
+    listing-numbers b = rw (w, a, b)
+
+    module _ (b : numbersRight (t .maturities) (placesUsed t) (t .given) ≡ true) (n : ℕ) (q : n ≡ length (placesOf (rowOf (t .product .kind)) monthSets)) where
+      pub listing-few : t .given < n → listingSound t ≡ false
+      listing-few l = rw (w, a, b, lt-leb (placesUsed t) (t .given) (omega (arith, q, used-is t)))
+
+      pub listing-rest : (m : ℕ) → n ≤ t .given → m ≡ frontMonth (t .calendar) (t .product .group) (t .date) - monthOf (coverStart (t .calendar .cover)) → leb (t .given - n) m ≡ listingSound t
+      listing-rest m l e =
+          let u : n ≡ placesUsed t = q ∙ sym (used-is t) in
+          sym
+          (rw (w, a, b, le-leb (placesUsed t) (t .given) (omega arith), months-before (t .calendar) (t .product .kind) (t .product .group) (t .date))
+          (rw (← e, ← u)))

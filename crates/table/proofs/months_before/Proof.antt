@@ -1,0 +1,34 @@
+use Rattle.days.specs.Dates.{monthOf}
+use Rattle.table.proofs.Calls.{front-most}
+use Prim.Native.Nat.{_-_}
+use native.Mathlib.Omega.{arith}
+use mathlib.Core.Path.{_∙_, ap}
+use borrow.Author.Needs.{needs}
+use Rattle.table.proofs.months_before.Statement.{statement}
+use Rattle.table.proofs.months_before.Tie as tie
+
+front-month-requires : tie.Need-front-month-requires
+front-month-requires c κs = search needs
+
+cover-start-requires : tie.Need-cover-start-requires
+cover-start-requires c κs = search needs
+
+month-of-requires : tie.Need-month-of-requires
+month-of-requires c κs = search needs
+
+returns : tie.Need-returns
+returns c =
+    let f = c .before .before .before .front-month .ensures in
+    let m = c .before .month-of .ensures ∙ ap monthOf (c .before .before .cover-start .ensures .0) in
+    (omega (arith, f, m, c .if1 .taken), omega arith)
+
+returns-2 : tie.Need-returns-2
+returns-2 c =
+    let f = c .before .before .before .front-month .ensures in
+    let m = c .before .month-of .ensures ∙ ap monthOf (c .before .before .cover-start .ensures .0) in
+    (omega (arith, f, m), omega (arith, f, front-most (c .before .before .before .before .args .cal) (c .before .before .before .before .args .group) (c .before .before .before .before .args .date)))
+
+pub months-before-spec : {M : Type 1} → statement M
+months-before-spec =
+    tie.close
+    (tie.spec front-month-requires cover-start-requires month-of-requires returns returns-2)

@@ -1,0 +1,151 @@
+-- The table, its soundness, and the calls that roll it and close a day (01, The table; Questions, in order).
+-- Assumes nothing.
+use Prim.Native.Nat.{ℕ, zero, suc, _+_, _-_}
+use mathlib.Core.Bool.{Bool, _&&_, _||_, cond}
+use mathlib.Core.List.{List, [], _∷_, map}
+use lib.Dec.{leb, ltb, eqb}
+use lib.ListN.{length, getD, take}
+use Rattle.questions.specs.Questions.{Ask, ask, firstNo}
+use Rattle.questions.specs.Search.{every}
+use Rattle.calendar.specs.declared.Calendar.{Calendar}
+use Rattle.calendar.specs.Trading.{validCover, inCover, tradingDay, clean, everyWeek, closeDay}
+use Rattle.product.specs.declared.Kind.{Kind}
+use Rattle.product.specs.declared.Product.{Product}
+use Rattle.product.specs.Fields.{productRight}
+use Rattle.listing.specs.declared.Maturity.{Maturity}
+use Rattle.listing.specs.Rules.{Rule, front, freshKeys, complete, maturity, unused, places15}
+use Rattle.listing.specs.Months.{ruleOf}
+use Rattle.table.specs.declared.Table.{Table}
+use Rattle.table.specs.declared.Outcome.{Outcome}
+use Rattle.table.specs.Numbering.{missing, renumbered, numberedFresh, numbersRight}
+
+-- the fresh listing of a product's kind and group, under a calendar, on a date
+abbrev pub freshOf : Calendar → Kind → List ℕ → ℕ → List Maturity
+freshOf cal kind group date = map (maturity (ruleOf cal kind group) cal (λ k. 0)) (freshKeys (ruleOf cal kind group) cal date)
+
+-- 16: 'Are all months of the fresh listing in the cover?'
+abbrev pub allInCover : Calendar → Kind → List ℕ → ℕ → Bool
+allInCover cal kind group date = complete (ruleOf cal kind group) cal date
+
+-- how many months a sound table lists: as many as its kind's row of counts sums to
+abbrev pub placesUsed : Table → ℕ
+placesUsed t = length (ruleOf (t .calendar) (t .product .kind) (t .product .group) .places)
+
+-- the maturities in the places that are used
+abbrev pub held : Table → List Maturity
+held t = take (placesUsed t) (t .maturities)
+
+-- 'its months and days are the fresh listing': the same month and the same day
+abbrev pub sameMaturity : Maturity → Maturity → Bool
+sameMaturity m fresh = eqb (m .month) (fresh .month) && eqb (m .day) (fresh .day)
+
+-- 'its months and days are the fresh listing .., and unused places are zero', of place i where n places are used
+abbrev pub placeRight : List Maturity → List Maturity → ℕ → ℕ → Bool
+placeRight ms fresh n i =
+    sameMaturity (getD ms i unused) (getD fresh i unused) && (ltb i n || eqb (getD ms i unused .number) 0)
+
+-- the same of all fifteen places
+unfoldable pub listsFresh : Table → Bool
+listsFresh t =
+    every 15
+    (placeRight (t .maturities) (places15 (freshOf (t .calendar) (t .product .kind) (t .product .group) (t .date))) (placesUsed t))
+
+-- how many of the n keys from k on are counted
+unfoldable pub countFrom : (ℕ → Bool) → ℕ → ℕ → ℕ
+countFrom counted zero k = 0
+countFrom counted (suc n) k = cond (counted k) 1 0 + countFrom counted n (suc k)
+
+-- 'the number of cover months before the front month'
+unfoldable pub monthsBefore : Rule → Calendar → ℕ → ℕ
+monthsBefore r cal date = countFrom (r .counted) (front r cal date - r .first) (r .first)
+
+-- of 10, what is said of the maturities
+abbrev pub listingSound : Table → Bool
+listingSound t =
+    -- 'its months and days are the fresh listing, all of it in the cover, and unused places are zero'
+    allInCover (t .calendar) (t .product .kind) (t .product .group) (t .date)
+    && (listsFresh t
+    -- 'its numbers are distinct, from 1 to the count given'
+    && (numbersRight (t .maturities) (placesUsed t) (t .given)
+    -- 'given − listed is at least 0 and at most the number of cover months before the front month'
+    && (leb (placesUsed t) (t .given)
+    && leb (t .given - placesUsed t) (monthsBefore (ruleOf (t .calendar) (t .product .kind) (t .product .group)) (t .calendar) (t .date)))))
+
+-- 10: 'Is the table sound?'
+unfoldable pub sound : Table → Bool
+sound t =
+    -- 'its product fields and calendar satisfy questions 5, 6 and 7, with 1 to 16 years from 2000 to 2099'
+    productRight (t .product)
+    && (validCover (t .calendar .cover)
+    && (clean (t .calendar)
+    && (everyWeek (t .calendar)
+    -- 'its date is in the cover'
+    && (inCover (t .calendar .cover) (t .date) && listingSound t))))
+
+-- what an accepted roll or close gives back, for a fresh listing: 'Both then hold the fresh listing; a month that was there keeps its number, and months that enter take the next numbers by rising month. A month left if the old table had it and the new has not'
+abbrev pub movedTo : Table → Calendar → ℕ → List Maturity → Outcome
+movedTo t cal date fresh =
+    record {
+      refusal = 0;
+      table = record {
+        product = t .product;
+        calendar = cal;
+        date = date;
+        maturities = places15 (renumbered (held t) (t .given) fresh);
+        given = t .given + length (missing fresh (held t));
+      };
+      entered = length (missing fresh (held t));
+      left = length (missing (held t) fresh);
+    }
+
+-- the same with the fresh listing of the calendar and date that the call leaves
+unfoldable pub moved : Table → Calendar → ℕ → Outcome
+moved t cal date = movedTo t cal date (freshOf cal (t .product .kind) (t .product .group) date)
+
+-- 'table calls return the same table and counts 0 and 0'
+abbrev pub refusedWith : Table → ℕ → Outcome
+refusedWith t number = record { refusal = number; table = t; entered = 0; left = 0 }
+
+-- a table call: refused with the number of the first question answered no, else accepted
+unfoldable pub answered : Table → List Ask → Outcome → Outcome
+answered t asks accepted = cond (eqb (firstNo asks) 0) accepted (refusedWith t (firstNo asks))
+
+-- 'Roll: 10, 11, 12, 16'
+abbrev pub rollAsks : Table → ℕ → List Ask
+rollAsks t date =
+    ask 10 (sound t)
+    ∷ ask 11 (inCover (t .calendar .cover) date)
+    ∷ ask 12 (leb (t .date) date)
+    ∷ ask 16 (allInCover (t .calendar) (t .product .kind) (t .product .group) date)
+    ∷ []
+
+-- 'Roll sets the date it is given, a later or equal one'
+unfoldable pub rollCall : Table → ℕ → Outcome
+rollCall t date = answered t (rollAsks t date) (moved t (t .calendar) date)
+
+-- 'Close: 10, 11, 13–16'
+abbrev pub closeAsks : Table → ℕ → List Ask
+closeAsks t day =
+    ask 10 (sound t)
+    ∷ ask 11 (inCover (t .calendar .cover) day)
+    ∷ ask 13 (ltb (t .date) day)
+    ∷ ask 14 (tradingDay (t .calendar) day)
+    ∷ ask 15 (everyWeek (closeDay (t .calendar) day))
+    ∷ ask 16 (allInCover (closeDay (t .calendar) day) (t .product .kind) (t .product .group) (t .date))
+    ∷ []
+
+-- 'Close marks one day closed'
+unfoldable pub closeCall : Table → ℕ → Outcome
+closeCall t day = answered t (closeAsks t day) (moved t (closeDay (t .calendar) day) (t .date))
+
+-- the table that an accepted open gives back: 'Open numbers the listed months 1, 2, .. by rising month'
+unfoldable pub openedTable : Product → Calendar → ℕ → Table
+openedTable p cal date =
+    let fresh = freshOf cal (p .kind) (p .group) date in
+    record {
+      product = p;
+      calendar = cal;
+      date = date;
+      maturities = places15 (numberedFresh fresh);
+      given = length fresh;
+    }

@@ -1,0 +1,227 @@
+// The table of listed maturities of one product, and the calls on it.
+mod numbers;
+
+use calendar::Calendar;
+use listing::Maturity;
+use product::Product;
+ghost use mathlib.Core.Path.{_≡_};
+ghost use Prim.Native.Nat.{_-_, _≤_, _<_};
+ghost use lib.ListN.{getD, take};
+ghost use Rattle.questions.specs.Search.{every};
+ghost use Rattle.days.specs.Dates.{monthOf};
+ghost use Rattle.calendar.specs.Trading.{coverStart};
+ghost use Rattle.listing.specs.Months.{frontMonth};
+ghost use Rattle.table.specs.Table.{placeRight, listingSound, sound, placesUsed, movedTo, refusedWith, rollCall, closeCall};
+
+// A product, its calendar, a date, up to 15 maturities by rising month, and the count of numbers given.
+pub struct Table {
+    pub product: Product,
+    pub calendar: Calendar,
+    pub date: u16,
+    pub maturities: [Maturity; 15],
+    pub given: u16,
+}
+
+// What a table call gives back: the number of its refusal, 0 where it is accepted, the table, and the counts of months that entered and that left.
+pub struct Outcome {
+    pub refusal: u8,
+    pub table: Table,
+    pub entered: u16,
+    pub left: u16,
+}
+
+// Whether place i has the fresh month and day, and a number only where it is used.
+fn is_place_right(maturities: [Maturity; 15], fresh: [Maturity; 15], n: usize, i: usize) -> bool
+    requires { ⌜ i < 15 ⌝ }
+    ensures { λ r. ⌜ r ≡ placeRight maturities fresh n i ⌝ }
+{
+    let m = maturities[i];
+    let f = fresh[i];
+    if m.month != f.month {
+        return false;
+    }
+    if m.day != f.day {
+        return false;
+    }
+    if i < n {
+        return true;
+    }
+    m.number == 0
+}
+
+// Whether all places are right.
+fn are_places_right(maturities: [Maturity; 15], fresh: [Maturity; 15], n: usize) -> bool
+    ensures { λ r. ⌜ r ≡ every 15 (placeRight maturities fresh n) ⌝ }
+{
+    let mut i: usize = 0;
+    while i < 15 {
+        if !is_place_right(maturities, fresh, n, i) {
+            return false;
+        }
+        i += 1;
+    }
+    true
+}
+
+// The number of cover months before the front month.
+fn months_before(cal: Calendar, group: [u8; 4], date: u16) -> u16
+    ensures { λ r. ⌜ (r ≡ frontMonth cal group date - monthOf (coverStart (cal .cover))) × (r ≤ 1200) ⌝ }
+{
+    let front = listing::front_month(cal, group, date);
+    let first = days::month_of(calendar::cover_start(cal.cover));
+    if front < first {
+        return 0;
+    }
+    front - first
+}
+
+// What question 10 says of the maturities.
+fn is_listing_sound(t: Table) -> bool
+    ensures { λ r. ⌜ r ≡ listingSound t ⌝ }
+{
+    let p = t.product;
+    let kind = p.kind;
+    let group = p.group;
+    let cal = t.calendar;
+    let maturities = t.maturities;
+    let l = listing::list(cal, kind, group, t.date);
+    if !l.complete {
+        return false;
+    }
+    let fresh = l.maturities;
+    let n = listing::months_listed(kind);
+    if !are_places_right(maturities, fresh, n as usize) {
+        return false;
+    }
+    if !numbers::are_numbers_right(maturities, n as usize, t.given) {
+        return false;
+    }
+    if t.given < n {
+        return false;
+    }
+    t.given - n <= months_before(cal, group, t.date)
+}
+
+// Question 10.
+pub fn is_sound(t: Table) -> bool
+    ensures { λ r. ⌜ r ≡ sound t ⌝ }
+{
+    let p = t.product;
+    let cal = t.calendar;
+    let cover = cal.cover;
+    if !product::product_right(p) {
+        return false;
+    }
+    if !calendar::is_valid_cover(cover) {
+        return false;
+    }
+    if !calendar::is_clean(cal) {
+        return false;
+    }
+    if !calendar::every_week_trades(cal) {
+        return false;
+    }
+    if !calendar::in_cover(cover, t.date) {
+        return false;
+    }
+    is_listing_sound(t)
+}
+
+fn refused(t: Table, number: u8) -> Outcome
+    ensures { λ r. ⌜ r ≡ refusedWith t number ⌝ }
+{
+    Outcome {
+        refusal: number,
+        table: t,
+        entered: 0,
+        left: 0,
+    }
+}
+
+// The table with a calendar, a date and a fresh listing; a month that was there keeps its number.
+fn moved_to(t: Table, cal: Calendar, date: u16, fresh: [Maturity; 15]) -> Outcome
+    requires { ⌜ t .given ≤ 60000 ⌝ }
+    ensures { λ r. ⌜ r ≡ movedTo t cal date (take (placesUsed t) fresh) ⌝ }
+{
+    let p = t.product;
+    let kind = p.kind;
+    let old = t.maturities;
+    let n = listing::months_listed(kind) as usize;
+    let entered = numbers::count_missing(fresh, old, n);
+    let left = numbers::count_missing(old, fresh, n);
+    let maturities = numbers::renumber(old, fresh, n, t.given);
+    let table = Table {
+        product: p,
+        calendar: cal,
+        date: date,
+        maturities: maturities,
+        given: t.given + entered,
+    };
+    Outcome {
+        refusal: 0,
+        table: table,
+        entered: entered,
+        left: left,
+    }
+}
+
+impl Table {
+    // Sets the date, a later or equal one.
+    pub fn roll(self, date: u16) -> Outcome
+        ensures { λ r. ⌜ r ≡ rollCall self date ⌝ }
+    {
+        if !is_sound(self) {
+            return refused(self, 10);
+        }
+        let cal = self.calendar;
+        let cover = cal.cover;
+        if !calendar::in_cover(cover, date) {
+            return refused(self, 11);
+        }
+        if date < self.date {
+            return refused(self, 12);
+        }
+        let p = self.product;
+        let kind = p.kind;
+        let group = p.group;
+        let l = listing::list(cal, kind, group, date);
+        if !l.complete {
+            return refused(self, 16);
+        }
+        let fresh = l.maturities;
+        moved_to(self, cal, date, fresh)
+    }
+
+    // Marks one day closed.
+    pub fn close(self, day: u16) -> Outcome
+        ensures { λ r. ⌜ r ≡ closeCall self day ⌝ }
+    {
+        if !is_sound(self) {
+            return refused(self, 10);
+        }
+        let old = self.calendar;
+        let cover = old.cover;
+        if !calendar::in_cover(cover, day) {
+            return refused(self, 11);
+        }
+        if day <= self.date {
+            return refused(self, 13);
+        }
+        if !calendar::is_trading_day(old, day) {
+            return refused(self, 14);
+        }
+        let cal = calendar::close_day(old, day);
+        if !calendar::every_week_trades(cal) {
+            return refused(self, 15);
+        }
+        let p = self.product;
+        let kind = p.kind;
+        let group = p.group;
+        let l = listing::list(cal, kind, group, self.date);
+        if !l.complete {
+            return refused(self, 16);
+        }
+        let fresh = l.maturities;
+        moved_to(self, cal, self.date, fresh)
+    }
+}
