@@ -1,8 +1,10 @@
 // The table of listed maturities of one product, and the calls on it.
 mod numbers;
+mod opening;
 
 use calendar::Calendar;
 use listing::Maturity;
+pub use opening::open;
 use product::Product;
 ghost use mathlib.Core.Path.{_≡_};
 ghost use Prim.Native.Nat.{_-_, _≤_, _<_};

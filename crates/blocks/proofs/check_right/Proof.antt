@@ -1,0 +1,21 @@
+use Prim.Native.Nat.{_-_}
+use Rattle.blocks.specs.Blocks.{checkRight}
+use Rattle.blocks.proofs.check_right.Statement.{statement}
+use Rattle.blocks.proofs.check_right.Tie as tie
+
+block-at-requires : tie.Need-block-at-requires
+block-at-requires c κs = tt
+
+weighted-sum-requires : tie.Need-weighted-sum-requires
+weighted-sum-requires c κs = tt
+
+number-at-requires : tie.Need-number-at-requires
+number-at-requires c κs = tt
+
+returns : tie.Need-returns
+unfolding checkRight
+returns c = cc
+
+pub check-right-spec : {M : Type 1} → statement M
+check-right-spec =
+    tie.close (tie.spec block-at-requires weighted-sum-requires number-at-requires returns)

@@ -1,0 +1,33 @@
+-- Demand 3 from the file: for every file, id and date with an accepted open.
+-- Assumes nothing.
+use mathlib.Core.Path.{_≡_}
+use mathlib.Core.List.{List}
+use Prim.Native.Nat.{ℕ}
+use Rattle.questions.proofs.Bools.{and-both}
+use Rattle.master.specs.Calendars.{calendarOf}
+use Rattle.master.specs.Load.{productOf}
+use Rattle.master.proofs.Accepting.{accepted-file}
+use Rattle.table.specs.Opening.{openCall}
+use Rattle.table.proofs.Opened.{opened-from, opened-table}
+use Rattle.history.specs.Book.{Call}
+use Rattle.history.specs.History.{opens}
+use Rattle.history.specs.Replay.{FromFile}
+use Rattle.history.proofs.Demand.{demand3}
+
+pub from-file : (f id : List ℕ) (date : ℕ) → openCall f id date .refusal ≡ 0 → (cs ds : List Call) → FromFile f id date cs ds
+unfolding opens
+from-file f id date e cs ds =
+    let o = opened-from f id date e in
+    let a = accepted-file f (o .loaded) in
+    record {
+      opened = opened-table f id date e;
+      demand =
+          demand3 (productOf f id) (calendarOf f) date
+          (and-both (a .product id (o .there))
+          (and-both (a .cover)
+          (and-both (a .closures)
+          (and-both (a .weeks)
+          (and-both (o .dated) (o .whole))))))
+          cs
+          ds;
+    }

@@ -1,0 +1,75 @@
+-- The search for the place of an id.
+-- Assumes nothing.
+use mathlib.Core.Path.{_≡_, refl, _∙_, sym, ap}
+use mathlib.Core.Bool.{Bool, true, false, cond}
+use mathlib.Core.Logic.{_⊎_, inl, inr}
+use mathlib.Core.List.{List}
+use Prim.Native.Nat.{ℕ, zero, suc, _+_, _-_, _/_, _%_, _≤_, _<_}
+use native.Mathlib.Nat.{eq-or-lt-of-le}
+use native.Mathlib.Omega.{arith}
+use Rattle.questions.proofs.Bools.{clash}
+use Rattle.questions.specs.Search.{firstFrom}
+use Rattle.questions.proofs.Search.{first-none, first-here, first-next}
+use Rattle.blocks.specs.Blocks.{blockCount}
+use Rattle.blocks.specs.Records.{placeCount}
+use Rattle.master.specs.Load.{hasId, placeFrom, placeOf}
+use Rattle.master.specs.declared.Place.{Place}
+
+module _ (f id : List ℕ) where
+  pub seek-none : (p : ℕ) → placeCount f ≤ p → placeFrom f id p ≡ placeCount f
+  unfolding placeFrom
+  seek-none p h =
+      let z : placeCount f - p ≡ 0 = omega arith in
+      ap (λ (n : ℕ). firstFrom (hasId f id) (placeCount f) n p) z ∙ first-none (hasId f id) (placeCount f) p
+
+  pub seek-here : (p : ℕ) → p < placeCount f → hasId f id p ≡ true → placeFrom f id p ≡ p
+  unfolding placeFrom
+  seek-here p h t = first-here (hasId f id) (placeCount f) (placeCount f - p) p (omega arith) t
+
+  pub seek-next : (p : ℕ) → p < placeCount f → hasId f id p ≡ false → placeFrom f id (p + 1) ≡ placeFrom f id p
+  unfolding placeFrom
+  seek-next p h t =
+      let s : placeCount f - (p + 1) ≡ placeCount f - p - 1 = omega arith in
+      ap (λ (n : ℕ). firstFrom (hasId f id) (placeCount f) n (p + 1)) s ∙
+      sym (first-next (hasId f id) (placeCount f) (placeCount f - p) p (omega arith) t)
+
+-- the place after the last block
+pub place-past : (f : List ℕ) (p : ℕ) → p ≡ placeCount f → _≡_ {A = Place} (record { block = blockCount f; «record» = 0 }) (placeOf p)
+place-past f p e =
+    let b : p / 15 ≡ blockCount f = omega arith in
+    let r : p % 15 ≡ 0 = omega arith in
+    simp (b, r)
+
+-- a search ends with none, or with a number that passes
+ends : (test : ℕ → Bool) (none n d : ℕ) → (firstFrom test none n d ≡ none) ⊎ (test (firstFrom test none n d) ≡ true)
+unfolding firstFrom
+ends test none zero d = inl refl
+ends test none (suc n) d = go (test d) refl (ends test none n (suc d))
+  where
+    go : (b : Bool) → test d ≡ b → (firstFrom test none n (suc d) ≡ none) ⊎ (test (firstFrom test none n (suc d)) ≡ true) → (cond b d (firstFrom test none n (suc d)) ≡ none) ⊎ (test (cond b d (firstFrom test none n (suc d))) ≡ true)
+    go true e later = inr e
+    go false e later = later
+
+-- the place that is found holds the record with the id
+pub found-has : (f id : List ℕ) → placeFrom f id 0 < placeCount f → hasId f id (placeFrom f id 0) ≡ true
+unfolding placeFrom
+found-has f id h = go (ends (hasId f id) (placeCount f) (placeCount f - 0) 0)
+  where
+    go : (placeFrom f id 0 ≡ placeCount f) ⊎ (hasId f id (placeFrom f id 0) ≡ true) → hasId f id (placeFrom f id 0) ≡ true
+    go (inl e) = absurd (omega arith)
+    go (inr t) = t
+
+-- a search does not go beyond a number that passes
+reaches : (test : ℕ → Bool) (none n d k : ℕ) → d ≤ k → k < d + n → test k ≡ true → firstFrom test none n d ≤ k
+unfolding firstFrom
+reaches test none zero d k a b t = absurd (omega arith)
+reaches test none (suc n) d k a b t = go (test d) refl (eq-or-lt-of-le a) (λ l. reaches test none n (suc d) k l (omega arith) t)
+  where
+    go : (b : Bool) → test d ≡ b → (d ≡ k) ⊎ (d < k) → (suc d ≤ k → firstFrom test none n (suc d) ≤ k) → cond b d (firstFrom test none n (suc d)) ≤ k
+    go true e s later = a
+    go false e (inl s) later = clash t (ap test (sym s) ∙ e)
+    go false e (inr l) later = later l
+
+pub place-reached : (f id : List ℕ) (p : ℕ) → p < placeCount f → hasId f id p ≡ true → placeFrom f id 0 ≤ p
+unfolding placeFrom
+place-reached f id p h t = reaches (hasId f id) (placeCount f) (placeCount f - 0) 0 p (omega arith) (omega arith) t

@@ -1,0 +1,3 @@
+pub mod Calendars
+pub mod Products
+pub mod Load

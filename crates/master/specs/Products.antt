@@ -1,0 +1,41 @@
+-- The products of a master file (01, Master file).
+-- Assumes nothing.
+use Prim.Native.Nat.{ℕ}
+use mathlib.Core.Bool.{Bool, _&&_}
+use mathlib.Core.List.{List}
+use lib.ListN.{getD}
+use lib.Dec.{eqb}
+use Rattle.product.specs.Fields.{kindOf}
+use Rattle.product.specs.declared.Kind.{Kind}
+use Rattle.product.specs.declared.Kind.the-variants.{Future}
+use Rattle.product.specs.declared.KindAnswer.{KindAnswer}
+use Rattle.product.specs.declared.KindAnswer.the-variants.{Is, NotAKind}
+use Rattle.product.specs.declared.Product.{Product}
+use Rattle.blocks.specs.Blocks.{blockOf, numberAt}
+use Rattle.blocks.specs.Records.{recordOf, three, four}
+
+-- two ids are the same
+unfoldable pub sameId : List ℕ → List ℕ → Bool
+sameId a b = eqb (getD a 0 0) (getD b 0 0) && eqb (getD a 1 0) (getD b 1 0) && eqb (getD a 2 0) (getD b 2 0) && eqb (getD a 3 0) (getD b 3 0)
+
+-- a kind that was looked up by its number; a future where the number is no kind, which 7 refuses
+abbrev pub kindOr : KindAnswer → Kind
+kindOr (Is kind) = kind
+kindOr NotAKind = Future
+
+-- the product that a record's bytes say
+unfoldable pub productFrom : List ℕ → Product
+productFrom r =
+    record {
+      id = four r 0;
+      group = four r 4;
+      market = four r 8;
+      kind = kindOr (kindOf (getD r 12 0));
+      size = numberAt r 13;
+      tick = numberAt r 15;
+      currency = three r 17;
+    }
+
+-- the product of record k of block n; all zeros where the file has no such place
+unfoldable pub productAt : List ℕ → ℕ → ℕ → Product
+productAt f n k = productFrom (recordOf (blockOf f n) k)

@@ -1,0 +1,363 @@
+// The master file: questions 1 to 9, and the calendar and the products that it holds.
+use calendar::Calendar;
+use calendar::Cover;
+use product::Kind;
+use product::KindAnswer;
+use product::Product;
+ghost use mathlib.Core.Path.{_≡_};
+ghost use mathlib.Core.Bool.{true};
+ghost use Prim.Native.Nat.{_+_, _*_, _≤_, _<_};
+ghost use Rattle.questions.specs.Questions.{firstNo};
+ghost use Rattle.questions.specs.Search.{every};
+ghost use Rattle.blocks.specs.Blocks.{blockCount, blockOf, numberAt, zeros};
+ghost use Rattle.master.specs.Calendars.{yearCount, inOrder, orderRight, calendarsClean, closedMaps, calendarBlocks, calendarOf, weeksRight};
+ghost use Rattle.master.specs.Products.{sameId, kindOr, productFrom, productAt};
+ghost use Rattle.master.specs.Load.{loadAsks, loadCall, loadAnswer, hasId, placeFrom, placeOf, foundAt, findCall, findAnswer};
+
+// The counts of years and of records.
+pub struct Counts {
+    pub years: u16,
+    pub records: u16,
+}
+
+// The refusal, 0 for an accepted file, and the counts, zeros with a refusal.
+pub struct Loaded {
+    pub refusal: u8,
+    pub counts: Counts,
+}
+
+// A record's block and its number in the block.
+pub struct Place {
+    pub block: usize,
+    pub record: usize,
+}
+
+// A walk over the records of a lent file: the file with a block and a record number.
+struct Reader<'a> {
+    file: &'a [u8],
+    block: usize,
+    record: usize,
+}
+
+// The block and the number of a record, or the refusal 9.
+pub enum Found {
+    At(usize, usize),
+    Nothing,
+}
+
+// How many calendar blocks the file has.
+fn year_count(file: &[u8]) -> usize
+    ensures { λ r. ⌜ (r ≡ yearCount (now (file .entry))) × (r ≤ blockCount (now (file .entry))) ⌝ }
+{
+    let blocks = file.len() / 512;
+    let mut years: usize = 0;
+    let mut k: usize = 0;
+    while k < blocks {
+        if blocks::byte_at(blocks::block_at(file, k), 0) == 1 {
+            years += 1;
+        }
+        k += 1;
+    }
+    years
+}
+
+// Whether a block is of the kind, and of the year, that its place asks for.
+fn in_order(file: &[u8], k: usize, years: usize, first: usize) -> bool
+    requires { ⌜ (years ≡ yearCount (now file)) × (years ≤ 16) × (first ≡ numberAt (blockOf (now file) 0) 2) × (first < 65536) ⌝ }
+    ensures { λ r. ⌜ r ≡ inOrder (now (file .entry)) k ⌝ }
+{
+    let b = blocks::block_at(file, k);
+    let kind = blocks::byte_at(b, 0);
+    if k < years {
+        return (kind == 1) & (blocks::number_at(b, 2) == first + k);
+    }
+    kind == 2
+}
+
+// The same of every block.
+fn all_in_order(file: &[u8], years: usize) -> bool
+    requires { ⌜ (years ≡ yearCount (now file)) × (years ≤ 16) ⌝ }
+    ensures { λ r. ⌜ r ≡ every (blockCount (now (file .entry))) (inOrder (now (file .entry))) ⌝ }
+{
+    let blocks = file.len() / 512;
+    let first = blocks::number_at(blocks::block_at(file, 0), 2);
+    let mut k: usize = 0;
+    while k < blocks {
+        if !in_order(file, k, years, first) {
+            return false;
+        }
+        k += 1;
+    }
+    true
+}
+
+// Question 4.
+fn order_right(file: &[u8]) -> bool
+    ensures { λ r. ⌜ r ≡ orderRight (now (file .entry)) ⌝ }
+{
+    let years = year_count(file);
+    if years < 1 {
+        return false;
+    }
+    if 16 < years {
+        return false;
+    }
+    if file.len() / 512 <= years {
+        return false;
+    }
+    all_in_order(file, years)
+}
+
+// The maps of closed days, 46 bytes for each year, then zeros.
+fn closed_maps(file: &[u8], years: usize) -> [u8; 736]
+    requires { ⌜ (years ≤ 16) × (years ≤ blockCount (now file)) ⌝ }
+    ensures { λ r. ⌜ r ≡ closedMaps (now (file .entry)) years ⌝ }
+{
+    let mut maps = [0u8; 736];
+    let n = 46 * years;
+    let mut i: usize = 0;
+    while i < n {
+        maps[i] = file[512 * (i / 46) + (16 + i % 46)];
+        i += 1;
+    }
+    maps
+}
+
+// The calendar of 1 to 16 calendar blocks.
+fn calendar_blocks(file: &[u8], years: usize) -> Calendar
+    requires { ⌜ (years ≡ yearCount (now file)) × (1 ≤ years) × (years ≤ 16) × (years ≤ blockCount (now file)) ⌝ }
+    ensures { λ r. ⌜ r ≡ calendarBlocks (now (file .entry)) ⌝ }
+{
+    let first = blocks::number_at(blocks::block_at(file, 0), 2);
+    let closed = closed_maps(file, years);
+    Calendar {
+        cover: Cover {
+            first_year: first as u16,
+            years: years as u16,
+        },
+        closed,
+    }
+}
+
+// The file's calendar; no year where it has not 1 to 16 calendar blocks.
+pub fn calendar_of(file: &[u8]) -> Calendar
+    ensures { λ r. ⌜ r ≡ calendarOf (now (file .entry)) ⌝ }
+{
+    let years = year_count(file);
+    if (1 <= years) & (years <= 16) {
+        return calendar_blocks(file, years);
+    }
+    let closed = [0u8; 736];
+    Calendar {
+        cover: Cover {
+            first_year: 0,
+            years: 0,
+        },
+        closed,
+    }
+}
+
+// Whether bytes 62 to 509 of the first blocks are zero.
+fn tails_zero(file: &[u8], years: usize) -> bool
+    ensures { λ r. ⌜ r ≡ every years (λ k. zeros (blockOf (now (file .entry)) k) 62 448) ⌝ }
+{
+    let mut k: usize = 0;
+    while k < years {
+        if !blocks::are_zero(blocks::block_at(file, k), 62, 448) {
+            return false;
+        }
+        k += 1;
+    }
+    true
+}
+
+// Question 5, of a file that 4 accepts: its calendar is clean, and what follows the maps is zero.
+fn calendars_clean(file: &[u8]) -> bool
+    requires { ⌜ orderRight (now file) ≡ true ⌝ }
+    ensures { λ r. ⌜ r ≡ calendarsClean (now (file .entry)) ⌝ }
+{
+    calendar::is_clean(calendar_of(file)) & tails_zero(file, year_count(file))
+}
+
+// Question 6.
+fn weeks_right(file: &[u8]) -> bool
+    ensures { λ r. ⌜ r ≡ weeksRight (now (file .entry)) ⌝ }
+{
+    calendar::every_week_trades(calendar_of(file))
+}
+
+// The number of the first of questions 1 to 8 answered no, 0 where there is none.
+fn first_refusal(file: &[u8]) -> u8
+    ensures { λ r. ⌜ r ≡ firstNo (loadAsks (now (file .entry))) ⌝ }
+{
+    if !blocks::length_right(file) {
+        return 1;
+    }
+    if !blocks::checks_right(file) {
+        return 2;
+    }
+    if !blocks::headers_right(file) {
+        return 3;
+    }
+    if !order_right(file) {
+        return 4;
+    }
+    if !calendars_clean(file) {
+        return 5;
+    }
+    if !weeks_right(file) {
+        return 6;
+    }
+    if !blocks::products_right(file) {
+        return 7;
+    }
+    if !blocks::ids_rise(file) {
+        return 8;
+    }
+    0
+}
+
+// Questions 1 to 8, and the counts of years and of records.
+pub fn load(file: &[u8]) -> Loaded
+    ensures { λ r. ⌜ loadAnswer r ≡ loadCall (now (file .entry)) ⌝ }
+{
+    let refusal = first_refusal(file);
+    if refusal != 0 {
+        return Loaded {
+            refusal,
+            counts: Counts {
+                years: 0,
+                records: 0,
+            },
+        };
+    }
+    Loaded {
+        refusal: 0,
+        counts: Counts {
+            years: year_count(file) as u16,
+            records: blocks::record_count(file) as u16,
+        },
+    }
+}
+
+// The kind that was looked up; a future where there is none.
+fn kind_or_future(answer: KindAnswer) -> Kind
+    ensures { λ r. ⌜ r ≡ kindOr answer ⌝ }
+{
+    match answer {
+        KindAnswer::Is(kind) => kind,
+        KindAnswer::NotAKind => Kind::Future,
+    }
+}
+
+// The product that a record's bytes say.
+fn product_from(r: &[u8]) -> Product
+    ensures { λ x. ⌜ x ≡ productFrom (now (r .entry)) ⌝ }
+{
+    let id = blocks::four_at(r, 0);
+    let group = blocks::four_at(r, 4);
+    let market = blocks::four_at(r, 8);
+    let kind = kind_or_future(product::kind_of(blocks::byte_at(r, 12)));
+    let size = blocks::field_at(r, 13);
+    let tick = blocks::field_at(r, 15);
+    let currency = blocks::three_at(r, 17);
+    Product {
+        id,
+        group,
+        market,
+        kind,
+        size,
+        tick,
+        currency,
+    }
+}
+
+// The product of record k of block n; all zeros where the file has no such place.
+pub fn product_at(file: &[u8], n: usize, k: usize) -> Product
+    ensures { λ r. ⌜ r ≡ productAt (now (file .entry)) n k ⌝ }
+{
+    product_from(blocks::record_at(file, n, k))
+}
+
+fn same_id(a: [u8; 4], b: [u8; 4]) -> bool
+    ensures { λ r. ⌜ r ≡ sameId a b ⌝ }
+{
+    (a[0] == b[0]) & (a[1] == b[1]) & (a[2] == b[2]) & (a[3] == b[3])
+}
+
+// Whether a place holds the record with an id.
+fn has_id(file: &[u8], p: usize, id: [u8; 4]) -> bool
+    ensures { λ r. ⌜ r ≡ hasId (now (file .entry)) id p ⌝ }
+{
+    blocks::is_record(file, p) & same_id(blocks::id_at(file, p), id)
+}
+
+// The place of the first record with an id, from a place on; the block after the last where there is none.
+fn seek_at(file: &[u8], block: usize, record: usize, id: [u8; 4]) -> Place
+    requires { ⌜ (block ≤ blockCount (now file)) × («record» < 15) ⌝ }
+    ensures { λ r. ⌜ r ≡ placeOf (placeFrom (now (file .entry)) id (15 * block + «record»)) ⌝ }
+{
+    let places = 15 * (file.len() / 512);
+    let mut p = 15 * block + record;
+    while p < places {
+        if has_id(file, p, id) {
+            return Place {
+                block: p / 15,
+                record: p % 15,
+            };
+        }
+        p += 1;
+    }
+    Place {
+        block: file.len() / 512,
+        record: 0,
+    }
+}
+
+// The place, where it is one of the file.
+fn found_at(file: &[u8], block: usize, record: usize) -> Found
+    ensures { λ r. ⌜ r ≡ foundAt (now (file .entry)) block «record» ⌝ }
+{
+    if block < file.len() / 512 {
+        return Found::At(block, record);
+    }
+    Found::Nothing
+}
+
+// The walk at the first place of a file.
+fn first<'a>(file: &'a [u8]) -> Reader<'a>
+    ensures { λ r. ⌜ (r .file ≡ file .entry) × (r .block ≡ 0) × (r .«record» ≡ 0) ⌝ }
+{
+    Reader {
+        file,
+        block: 0,
+        record: 0,
+    }
+}
+
+// The walk at the next record with an id, or after the last block.
+fn seek<'a>(reader: Reader<'a>, id: [u8; 4]) -> Reader<'a>
+    requires { ⌜ (reader .block ≤ blockCount (now (reader .file))) × (reader .«record» < 15) ⌝ }
+    ensures { λ r. ⌜ (r .file ≡ reader .entry .file) × (r .block ≡ placeOf (placeFrom (now (reader .entry .file)) id (15 * reader .entry .block + reader .entry .«record»)) .block) × (r .«record» ≡ placeOf (placeFrom (now (reader .entry .file)) id (15 * reader .entry .block + reader .entry .«record»)) .«record») ⌝ }
+{
+    let place = seek_at(reader.file, reader.block, reader.record, id);
+    Reader {
+        file: reader.file,
+        block: place.block,
+        record: place.record,
+    }
+}
+
+// What the walk is at.
+fn here<'a>(reader: Reader<'a>) -> Found
+    ensures { λ r. ⌜ r ≡ foundAt (now (reader .entry .file)) (reader .entry .block) (reader .entry .«record») ⌝ }
+{
+    found_at(reader.file, reader.block, reader.record)
+}
+
+// Question 9: the place of the record with an id, given as a record's four bytes.
+pub fn find(file: &[u8], id: [u8; 4]) -> Found
+    ensures { λ r. ⌜ findAnswer r ≡ findCall (now (file .entry)) id ⌝ }
+{
+    here(seek(first(file), id))
+}
