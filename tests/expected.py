@@ -4,7 +4,8 @@ program: python3 tests/expected.py NAME
 
 import sys
 
-from second import dates, listing, product, trading
+import cases
+from second import dates, listing, master, product, trading
 from second.trading import Calendar
 
 NO_DAY = 36525
@@ -244,6 +245,48 @@ def listing_section():
                     yield from listing_lines(calendar, group, kind)
 
 
+# ---- master files ----
+
+# Where the record with an id stands in an accepted file: its block and number.
+def place_of(file, code):
+    for index, block in enumerate(master.blocks_of(file)):
+        if block[0] == master.PRODUCTS:
+            for k in range(master.number_of(block)):
+                if master.record_at(block, k)[:4] == code:
+                    return index, k
+    return None
+
+
+# Question 9 of an id: the refusal, the record's block and number, its fields.
+def id_line(file, code):
+    number, _, found = master.find(file, code)
+    if number:
+        return f'I {number} 0 0'
+    block, k = place_of(file, code)
+    fields = [*found.id, *found.group, *found.market, found.kind, found.size, found.tick,
+              *found.currency]
+    return f'I 0 {block} {k} ' + ' '.join(str(field) for field in fields)
+
+
+# The cover of an accepted file, the number of its closed days and the sum of
+# their day numbers.
+def file_calendar_line(file):
+    calendar = master.read_calendar(file)
+    return (f'C {calendar.first_year} {calendar.years}'
+            f' {len(calendar.closed)} {sum(calendar.closed)}')
+
+
+# The lines of one file: refusal and counts; if it is accepted, its calendar and
+# the records with the ids of the test.
+def file_lines(index, file):
+    number, years, records = master.load(file)
+    yield f'F {index} {number} {years} {records}'
+    if number == 0:
+        yield file_calendar_line(file)
+        for code in cases.IDS:
+            yield id_line(file, code)
+
+
 # ---- All programs ----
 
 # The program comparisons: its sections in turn.
@@ -254,8 +297,15 @@ def comparisons():
     yield from listing_section()
 
 
+# The program files: the lines of every case in turn.
+def files():
+    for index, (_, file) in enumerate(cases.cases()):
+        yield from file_lines(index, file)
+
+
 PROGRAMS = {
     'comparisons': comparisons,
+    'files': files,
 }
 
 

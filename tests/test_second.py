@@ -13,12 +13,13 @@ from dataclasses import replace
 TESTS = os.path.dirname(os.path.abspath(__file__))
 sys.path.insert(0, TESTS)
 
+import cases  # noqa: E402
 from second import dates, listing, master, product, table, terms, trading  # noqa: E402
 from second.book import Book  # noqa: E402
 from second.product import Product  # noqa: E402
 from second.trading import Calendar  # noqa: E402
 
-DATA = '/work/shared/data'
+DATA = os.path.join(TESTS, 'data')
 FRIDAY_21 = dates.day_of(2008, 3, 21)
 THURSDAY_20 = dates.day_of(2008, 3, 20)
 PLAIN = Calendar(2008, 3, frozenset())
@@ -362,7 +363,6 @@ class MasterFiles(unittest.TestCase):
         self.assertEqual(self.refusal(five, three, two)[0], 2)
         self.assertEqual(self.refusal(two, ('length', 3073))[0], 1)
 
-    @unittest.skipUnless(os.path.isdir(DATA), 'no data folder')
     def test_data(self):
         with open(os.path.join(DATA, 'closures-2000-2099.csv')) as lines:
             calendar = master.calendar_from_csv(lines, 2008, 16)
@@ -374,6 +374,61 @@ class MasterFiles(unittest.TestCase):
             number, held, entered, left = table.open_table(file, one.id, THURSDAY_20)
             self.assertEqual((number, entered, left), (0, sum(listing.COUNTS[one.kind]), 0))
             self.assertTrue(table.is_sound(held))
+
+
+class Cases(unittest.TestCase):
+
+    def test_names_say_the_refusal(self):
+        names = []
+        for name, file in cases.cases():
+            self.assertEqual(master.load(file)[0], cases.refusal_of(name), name)
+            names.append(name)
+        self.assertEqual(len(names), len(set(names)))
+        self.assertEqual({cases.refusal_of(name) for name in names}, set(range(9)))
+
+    def test_example(self):
+        file = cases.example()
+        self.assertEqual(master.load(file), (0, 8, 788))
+        calendar, products = master.contents(file)
+        self.assertEqual((calendar.first_year, len(calendar.closed)), (2008, 53))
+        self.assertIn(FRIDAY_21, calendar.closed)
+        self.assertEqual(products[b'AXA '], replace(AXA, kind=3))
+
+    # The faults that the cases with two faults have: each alone gets its number.
+    def test_single_faults(self):
+        self.assertEqual(master.load(cases.six()), (0, 3, 6))
+        self.assertEqual(master.load(cases.six(cases.LENGTH))[0], 1)
+        for number in range(2, 9):
+            for fault in (cases.EARLY[number], cases.LATE[number]):
+                self.assertEqual(master.load(cases.six(fault))[0], number)
+
+    # The program `files` reads at most 1,000 cases through a buffer of 66,048 bytes.
+    def test_stored(self):
+        data, rest, lengths = cases.stored(), 0, []
+        self.assertLess(len(data), 1_500_000)
+        while rest < len(data):
+            lengths.append(int.from_bytes(data[rest:rest + 4], 'big'))
+            rest += 4 + lengths[-1]
+        self.assertEqual(lengths, [len(file) for _, file in cases.cases()])
+        self.assertLessEqual(len(lengths), 1000)
+        self.assertLessEqual(max(lengths), 66048)
+
+    def test_check_mode(self):
+        script = os.path.join(TESTS, 'cases.py')
+        with tempfile.TemporaryDirectory() as folder:
+            paths = [os.path.join(folder, 'cases'), os.path.join(folder, 'master.bin')]
+
+            def run(*arguments):
+                return subprocess.run([sys.executable, script, *arguments],
+                                      capture_output=True).returncode
+
+            self.assertEqual(run('--write', paths[0]), 0)
+            self.assertEqual(run('--check', *paths), 1)
+            self.assertEqual(run('--example', paths[1]), 0)
+            self.assertEqual(run('--check', *paths), 0)
+            with open(paths[0], 'ab') as out:
+                out.write(b'\0')
+            self.assertEqual(run('--check', *paths), 1)
 
 
 class Tables(unittest.TestCase):
@@ -650,6 +705,16 @@ class Expected(unittest.TestCase):
         self.assertEqual(heads[14], 'K 14 2084 16 1 1 0')
         self.assertEqual(lines[1:3], ['T 0 1 0 0 0 2 4', 'T 5 1 0 1 5 6 10'])
         self.assertEqual(lines[-1][0], 'X')
+
+    def test_files(self):
+        lines = self.lines('files')
+        heads = [line for line in lines if line[0] == 'F']
+        accepted = [line for line in heads if line.split()[2] == '0']
+        self.assertEqual(len(heads), len(list(cases.cases())))
+        self.assertEqual(len(lines), len(heads) + len(accepted) * (1 + len(cases.IDS)))
+        self.assertEqual(lines[:3], [
+            'F 0 0 8 788', 'C 2008 8 53 235919',
+            'I 0 11 10 65 88 65 32 70 82 49 49 88 80 65 82 3 100 100 69 85 82'])
 
 
 if __name__ == '__main__':

@@ -153,7 +153,13 @@ pub fn record_at(file: &[u8], n: usize, k: usize) -> &[u8]
     &b[start..end]
 }
 
-pub fn three_at(bytes: &[u8], at: u16) -> [u8; 3]
+// A currency's bytes.
+pub type ThreeBytes = [u8; 3];
+
+// The bytes of an id, a group or a market.
+pub type FourBytes = [u8; 4];
+
+pub fn three_at(bytes: &[u8], at: u16) -> ThreeBytes
     ensures { λ r. ⌜ r ≡ three (now (bytes .entry)) at ⌝ }
 {
     let i = at as usize;
@@ -164,7 +170,7 @@ pub fn three_at(bytes: &[u8], at: u16) -> [u8; 3]
     ]
 }
 
-pub fn four_at(bytes: &[u8], at: u16) -> [u8; 4]
+pub fn four_at(bytes: &[u8], at: u16) -> FourBytes
     ensures { λ r. ⌜ r ≡ four (now (bytes .entry)) at ⌝ }
 {
     let i = at as usize;
@@ -276,7 +282,7 @@ pub fn record_count(file: &[u8]) -> usize
 }
 
 // The id at a place.
-pub fn id_at(file: &[u8], p: usize) -> [u8; 4]
+pub fn id_at(file: &[u8], p: usize) -> FourBytes
     ensures { λ r. ⌜ r ≡ idAt (now (file .entry)) p ⌝ }
 {
     four_at(record_at(file, p / 15, p % 15), 0)

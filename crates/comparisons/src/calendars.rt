@@ -82,7 +82,7 @@ fn cover(first_year: u16, years: u16, index: u16, step: u16)
     }
 }
 
-pub fn print() {
+pub(crate) fn print() {
     cover(2000, 1, 0, 1);
     cover(2008, 3, 4, 1);
     cover(2015, 1, 8, 1);

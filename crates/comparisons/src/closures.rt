@@ -79,7 +79,7 @@ fn closed_if(cal: Calendar, pattern: u16, day: u16) -> Calendar
 }
 
 // The calendar of a cover with a pattern of closures.
-pub fn closed_by(cover: Cover, pattern: u16) -> Calendar {
+pub(crate) fn closed_by(cover: Cover, pattern: u16) -> Calendar {
     let closed = [0u8; 736];
     let mut cal = Calendar { cover, closed };
     let end = calendar::cover_end(cover);

@@ -88,7 +88,7 @@ fn last_numbers() {
     }
 }
 
-pub fn print() {
+pub(crate) fn print() {
     months();
     all_dates();
     spread_numbers();

@@ -79,7 +79,7 @@ fn cover(first_year: u16, years: u16) {
     }
 }
 
-pub fn print() {
+pub(crate) fn print() {
     cover(2000, 2);
     cover(2008, 3);
     cover(2020, 6);

@@ -76,7 +76,7 @@ fn sizes(contracts: u32) {
     agreed_prices(contracts, 65535);
 }
 
-pub fn print() {
+pub(crate) fn print() {
     country(68, 69);
     country(70, 73);
     country(70, 82);

@@ -4,11 +4,11 @@ ghost use Prim.Native.Nat.{_<_};
 ghost use lib.IntN.{pos};
 ghost use lib.Signed.{_≤ℤ_};
 
-pub fn start_line(letter: &[u8]) {
+pub(crate) fn start_line(letter: &[u8]) {
     io::write_all(STDOUT_FILENO, letter);
 }
 
-pub fn put(n: u16) {
+pub(crate) fn put(n: u16) {
     io::write_all(STDOUT_FILENO, b" ");
     io::print_decimal(STDOUT_FILENO, n as u64);
 }
@@ -21,7 +21,7 @@ fn unsigned(n: i64) -> u64
 }
 
 // A number with its sign. No subtraction of two negative numbers is out of range.
-pub fn put_signed(n: i64) {
+pub(crate) fn put_signed(n: i64) {
     if 0 <= n {
         io::write_all(STDOUT_FILENO, b" ");
         io::print_decimal(STDOUT_FILENO, unsigned(n));
@@ -31,7 +31,7 @@ pub fn put_signed(n: i64) {
     }
 }
 
-pub fn put_answer(yes: bool) {
+pub(crate) fn put_answer(yes: bool) {
     if yes {
         put(1);
     } else {
@@ -39,6 +39,6 @@ pub fn put_answer(yes: bool) {
     }
 }
 
-pub fn end_line() {
+pub(crate) fn end_line() {
     io::write_all(STDOUT_FILENO, b"\n");
 }

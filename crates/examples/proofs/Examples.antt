@@ -3,18 +3,21 @@
 use mathlib.Core.Path.{_≡_, refl}
 use mathlib.Core.Bool.{true}
 use Rattle.questions.specs.Questions.{firstNo, answer}
-use Rattle.questions.specs.Search.{every, oneOf, latest, firstFrom}
+use Rattle.questions.specs.Search.{every, some, oneOf, latest, firstFrom}
 use Rattle.days.specs.Gregorian.{leapYear, lengthIn, monthLength, lengthOf, firstDay}
 use Rattle.days.specs.Dates.{validDate, dayOf, dayCall, monthFrom, monthOf, firstOf, yearOf, yearStart, dayInYear}
 use Rattle.calendar.specs.Bits.{bitAt, setBit}
-use Rattle.calendar.specs.Trading.{coverStart, coverEnd, inCover, slotOf, closedOn, tradingDay, closeDay}
-use Rattle.product.specs.Fields.{isCode, oneOfCodes}
+use Rattle.calendar.specs.Trading.{coverStart, coverEnd, inCover, slotOf, closedOn, tradingDay, closeDay, validCover, clean, mayBeClosed, mayClose, everyWeek}
+use Rattle.product.specs.Fields.{isCode, oneOfCodes, idOf, idRight, groupRight, marketRight, tickRight, currencyRight, fieldsRight, productRight}
 use Rattle.product.specs.Settlement.{italian}
 use Rattle.product.specs.Prices.{cashAdmitted, cashOf}
-use Rattle.listing.specs.Rules.{lastDay, front, taken, freshKeys}
+use Rattle.listing.specs.Rules.{lastDay, front, taken, freshKeys, complete, places15}
 use Rattle.listing.specs.Months.{thirdFriday, anchorOf, lastTradingDay, inSet, placesOf, monthly}
-use Rattle.examples.specs.Examples.{rows, allHold, only21, also20, monthsOn}
+use Rattle.table.specs.Numbering.{isListed, numberOf, renumbered, numbersRight}
+use Rattle.table.specs.Table.{listsFresh, countFrom, monthsBefore, sound, openedTable}
+use Rattle.table.specs.Values.{tickCall}
+use Rattle.examples.specs.Examples.{rows, allHold, only21, also20, monthsOn, axa, axaTable}
 
 pub examples-hold : allHold rows ≡ true
-unfolding rows only21 also20 monthsOn dayCall answer firstNo validDate dayOf leapYear lengthIn monthLength lengthOf firstDay every oneOf latest firstFrom monthFrom monthOf firstOf yearOf yearStart dayInYear bitAt setBit coverStart coverEnd inCover slotOf closedOn tradingDay closeDay isCode oneOfCodes italian cashAdmitted cashOf lastDay front taken freshKeys thirdFriday anchorOf lastTradingDay inSet placesOf monthly
+unfolding rows only21 also20 monthsOn axa axaTable some validCover clean mayBeClosed mayClose everyWeek idOf idRight groupRight marketRight tickRight currencyRight fieldsRight productRight complete places15 isListed numberOf renumbered numbersRight listsFresh countFrom monthsBefore sound openedTable tickCall dayCall answer firstNo validDate dayOf leapYear lengthIn monthLength lengthOf firstDay every oneOf latest firstFrom monthFrom monthOf firstOf yearOf yearStart dayInYear bitAt setBit coverStart coverEnd inCover slotOf closedOn tradingDay closeDay isCode oneOfCodes italian cashAdmitted cashOf lastDay front taken freshKeys thirdFriday anchorOf lastTradingDay inSet placesOf monthly
 examples-hold = refl

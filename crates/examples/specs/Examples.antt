@@ -13,10 +13,15 @@ use Rattle.calendar.specs.declared.Calendar.{Calendar}
 use Rattle.calendar.specs.Trading.{closeDay}
 use Rattle.product.specs.declared.Kind.the-variants.{Option}
 use Rattle.product.specs.declared.Term.the-variants.{Months12}
+use Rattle.product.specs.declared.Product.{Product}
+use Rattle.product.specs.Fields.{EUR}
 use Rattle.product.specs.Settlement.{IT, groupCode}
 use Rattle.product.specs.Prices.{cashOf}
 use Rattle.listing.specs.Rules.{freshKeys}
 use Rattle.listing.specs.Months.{thirdFriday, lastTradingDay, ruleOf}
+use Rattle.table.specs.declared.Table.{Table}
+use Rattle.table.specs.Table.{openedTable}
+use Rattle.table.specs.Values.{tickCall}
 
 -- a call's refusal and value
 abbrev pub answers : Answer ℕ → ℕ → ℕ → Bool
@@ -58,6 +63,23 @@ also20 = closeDay only21 3001
 unfoldable pub monthsOn : ℕ → List ℕ
 monthsOn date = freshKeys (ruleOf only21 (Option Months12) FR11) only21 date
 
+-- the product of the paper's session, with tick 5
+unfoldable pub axa : Product
+axa =
+    record {
+      id = 65 ∷ 88 ∷ 65 ∷ 32 ∷ [];
+      group = FR11;
+      market = 88 ∷ 80 ∷ 65 ∷ 82 ∷ [];
+      kind = Option Months12;
+      size = 100;
+      tick = 5;
+      currency = EUR;
+    }
+
+-- its table, opened on 2 January 2008 in a cover of that year
+unfoldable pub axaTable : Table
+axaTable = openedTable axa (record { cover = record { «first_year» = 2008; years = 1 }; closed = replicate 736 0 }) 2923
+
 -- the rows, each under its sentence
 unfoldable pub rows : List Bool
 rows =
@@ -78,6 +100,8 @@ rows =
     sameList (monthsOn 3002) (99 ∷ 100 ∷ 101 ∷ 104 ∷ 107 ∷ 110 ∷ []) ∷
     -- '3 contracts of 100, agreed 12.3400, final 12.5000: +480,000'
     isAmount (cashOf 3 100 123400 125000) 480000 ∷
+    -- 'Price 5 with tick 5 passes, 6 gets 20'
+    eqb (tickCall axaTable 5) 0 ∷ eqb (tickCall axaTable 6) 20 ∷
     []
 
 -- every row of a table holds

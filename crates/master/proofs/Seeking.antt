@@ -9,7 +9,7 @@ use native.Mathlib.Nat.{eq-or-lt-of-le}
 use native.Mathlib.Omega.{arith}
 use Rattle.questions.proofs.Bools.{clash}
 use Rattle.questions.specs.Search.{firstFrom}
-use Rattle.questions.proofs.Search.{first-none, first-here, first-next}
+use Rattle.questions.proofs.Search.{search-none, search-here, search-next}
 use Rattle.blocks.specs.Blocks.{blockCount}
 use Rattle.blocks.specs.Records.{placeCount}
 use Rattle.master.specs.Load.{hasId, placeFrom, placeOf}
@@ -18,20 +18,15 @@ use Rattle.master.specs.declared.Place.{Place}
 module _ (f id : List ℕ) where
   pub seek-none : (p : ℕ) → placeCount f ≤ p → placeFrom f id p ≡ placeCount f
   unfolding placeFrom
-  seek-none p h =
-      let z : placeCount f - p ≡ 0 = omega arith in
-      ap (λ (n : ℕ). firstFrom (hasId f id) (placeCount f) n p) z ∙ first-none (hasId f id) (placeCount f) p
+  seek-none = search-none (hasId f id) (placeCount f) (placeCount f)
 
   pub seek-here : (p : ℕ) → p < placeCount f → hasId f id p ≡ true → placeFrom f id p ≡ p
   unfolding placeFrom
-  seek-here p h t = first-here (hasId f id) (placeCount f) (placeCount f - p) p (omega arith) t
+  seek-here = search-here (hasId f id) (placeCount f) (placeCount f)
 
   pub seek-next : (p : ℕ) → p < placeCount f → hasId f id p ≡ false → placeFrom f id (p + 1) ≡ placeFrom f id p
   unfolding placeFrom
-  seek-next p h t =
-      let s : placeCount f - (p + 1) ≡ placeCount f - p - 1 = omega arith in
-      ap (λ (n : ℕ). firstFrom (hasId f id) (placeCount f) n (p + 1)) s ∙
-      sym (first-next (hasId f id) (placeCount f) (placeCount f - p) p (omega arith) t)
+  seek-next = search-next (hasId f id) (placeCount f) (placeCount f)
 
 -- the place after the last block
 pub place-past : (f : List ℕ) (p : ℕ) → p ≡ placeCount f → _≡_ {A = Place} (record { block = blockCount f; «record» = 0 }) (placeOf p)

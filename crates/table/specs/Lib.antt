@@ -1,3 +1,4 @@
 pub mod Numbering
 pub mod Table
 pub mod Opening
+pub mod Values

@@ -1,11 +1,14 @@
 // The table of listed maturities of one product, and the calls on it.
 mod numbers;
 mod opening;
+mod values;
 
 use calendar::Calendar;
 use listing::Maturity;
 pub use opening::open;
 use product::Product;
+pub use values::CashReply;
+pub use values::DayReply;
 ghost use mathlib.Core.Path.{_≡_};
 ghost use Prim.Native.Nat.{_-_, _≤_, _<_};
 ghost use lib.ListN.{getD, take};

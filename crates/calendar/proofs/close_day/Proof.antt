@@ -10,7 +10,7 @@ use Rattle.calendar.proofs.close_day.Statement.{statement}
 use Rattle.calendar.proofs.close_day.Tie as tie
 
 in-cover-requires : tie.Need-in-cover-requires
-in-cover-requires c κs = search needs
+in-cover-requires c κs = tt
 
 returns : tie.Need-returns
 returns c = close-out _ _ (said-no (c .before .in-cover .ensures) (c .if1 .taken))

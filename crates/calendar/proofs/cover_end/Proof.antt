@@ -22,7 +22,7 @@ add-year-start : tie.Need-add-year-start
 add-year-start c = search needs
 
 year-start-requires : tie.Need-year-start-requires
-year-start-requires c κs = search needs
+year-start-requires c κs = tt
 
 returns-3 : tie.Need-returns-3
 unfolding coverEnd

@@ -1,11 +1,10 @@
 use Rattle.calendar.specs.Trading.{coverStart}
 use Prim.Native.Nat.{_-_}
-use borrow.Author.Needs.{needs}
 use Rattle.calendar.proofs.cover_start.Statement.{statement}
 use Rattle.calendar.proofs.cover_start.Tie as tie
 
 year-start-requires : tie.Need-year-start-requires
-year-start-requires c κs = search needs
+year-start-requires c κs = tt
 
 returns : tie.Need-returns
 unfolding coverStart

@@ -4,7 +4,6 @@ use Rattle.calendar.proofs.Covered.{start-end}
 use Rattle.calendar.specs.Trading.{tradingDay, everyWeek}
 use mathlib.Core.Bool.{Bool, cond}
 use Prim.Native.Nat.{_+_, _-_}
-use borrow.Author.Needs.{needs}
 use native.Mathlib.Omega.{arith}
 use mathlib.Core.Path.{_≡_, _∙_, sym, ap}
 use Rattle.calendar.proofs.every_week_trades.Statement.{statement}
@@ -17,16 +16,16 @@ abbrev μ-loop : tie.MeasureT-loop
 μ-loop cal start end idle₀ d₀ idle d = end - d
 
 cover-start-requires : tie.Need-cover-start-requires Inv-loop μ-loop
-cover-start-requires c κs = search needs
+cover-start-requires c κs = tt
 
 cover-end-requires : tie.Need-cover-end-requires Inv-loop μ-loop
-cover-end-requires c κs = search needs
+cover-end-requires c κs = tt
 
 loop-holds : tie.Need-loop-holds Inv-loop μ-loop
 loop-holds c = run-start _ _ _ (omega (arith, c .before .cover-start .ensures .0, c .cover-end .ensures .0, start-end (c .before .before .args .cal .cover)))
 
 is-trading-day-requires : tie.Need-is-trading-day-requires Inv-loop μ-loop
-is-trading-day-requires c κs = search needs
+is-trading-day-requires c κs = tt
 
 -- the count after the branch, whichever way it went
 new : (c : tie.Joined1 Inv-loop μ-loop) → c .if1 .idle ≡ cond (tradingDay (c .before .before .before .before .before .before .args .cal) (c .before .before .before .loop .d)) 0 (c .before .before .before .loop .idle + 1)

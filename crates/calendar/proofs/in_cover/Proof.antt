@@ -1,19 +1,18 @@
 use Rattle.calendar.specs.Trading.{inCover}
 use borrow.Author.Tests.{le-leb, lt-leb}
 use Prim.Native.Nat.{_-_}
-use borrow.Author.Needs.{needs}
 use Rattle.calendar.proofs.in_cover.Statement.{statement}
 use Rattle.calendar.proofs.in_cover.Tie as tie
 
 cover-start-requires : tie.Need-cover-start-requires
-cover-start-requires c κs = search needs
+cover-start-requires c κs = tt
 
 returns : tie.Need-returns
 unfolding inCover
 returns c = simp (lt-leb _ _ (rw (c .before .cover-start .ensures .0) at (c .if1 .taken)))
 
 cover-end-requires : tie.Need-cover-end-requires
-cover-end-requires c κs = search needs
+cover-end-requires c κs = tt
 
 returns-2 : tie.Need-returns-2
 unfolding inCover

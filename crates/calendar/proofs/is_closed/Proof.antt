@@ -12,7 +12,7 @@ use Rattle.calendar.proofs.is_closed.Statement.{statement}
 use Rattle.calendar.proofs.is_closed.Tie as tie
 
 in-cover-requires : tie.Need-in-cover-requires
-in-cover-requires c κs = search needs
+in-cover-requires c κs = tt
 
 returns : tie.Need-returns
 unfolding closedOn

@@ -2,26 +2,25 @@ use Rattle.questions.proofs.Bools.{said-no, said-yes}
 use Rattle.calendar.specs.Trading.{tradingDay}
 use borrow.Author.Tests.{lt-ltb, le-ltb}
 use Prim.Native.Nat.{_-_}
-use borrow.Author.Needs.{needs}
 use Rattle.calendar.proofs.is_trading_day.Statement.{statement}
 use Rattle.calendar.proofs.is_trading_day.Tie as tie
 
 in-cover-requires : tie.Need-in-cover-requires
-in-cover-requires c κs = search needs
+in-cover-requires c κs = tt
 
 returns : tie.Need-returns
 unfolding tradingDay
 returns c = simp (said-no (c .before .in-cover .ensures) (c .if1 .taken))
 
 weekday-requires : tie.Need-weekday-requires
-weekday-requires c κs = search needs
+weekday-requires c κs = tt
 
 returns-2 : tie.Need-returns-2
 unfolding tradingDay
 returns-2 c = simp (said-yes (c .before .before .before .in-cover .ensures) (c .before .before .if1 .left), le-ltb _ _ (rw (c .before .weekday .ensures) at (c .if2 .taken)))
 
 is-closed-requires : tie.Need-is-closed-requires
-is-closed-requires c κs = search needs
+is-closed-requires c κs = tt
 
 returns-3 : tie.Need-returns-3
 unfolding tradingDay

@@ -2,7 +2,6 @@ use Rattle.questions.specs.Search.{latest}
 use Rattle.questions.proofs.Search.{latest-here, latest-back, latest-zero}
 use Rattle.calendar.specs.Trading.{tradingDay}
 use Prim.Native.Nat.{_-_}
-use borrow.Author.Needs.{needs}
 use native.Mathlib.Omega.{arith}
 use mathlib.Core.Path.{_≡_, refl, _∙_, sym}
 use Rattle.calendar.proofs.latest_trading_day.Statement.{statement}
@@ -18,7 +17,7 @@ loop-holds : tie.Need-loop-holds Inv-loop μ-loop
 loop-holds c = refl
 
 is-trading-day-requires : tie.Need-is-trading-day-requires Inv-loop μ-loop
-is-trading-day-requires c κs = search needs
+is-trading-day-requires c κs = tt
 
 returns : tie.Need-returns Inv-loop μ-loop
 returns c = sym (latest-here _ _ (sym (c .before .is-trading-day .ensures) ∙ c .if1 .taken)) ∙ c .before .before .before .loop .inv

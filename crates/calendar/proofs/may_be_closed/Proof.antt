@@ -25,7 +25,7 @@ add-may-close : tie.Need-add-may-close
 add-may-close c = search needs
 
 may-close-requires : tie.Need-may-close-requires
-may-close-requires c κs = search needs
+may-close-requires c κs = tt
 
 returns-3 : tie.Need-returns-3
 unfolding mayBeClosed

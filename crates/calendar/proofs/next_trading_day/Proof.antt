@@ -3,7 +3,6 @@ use Rattle.calendar.proofs.Next.{next-start}
 use Rattle.questions.specs.Search.{firstFrom}
 use Rattle.calendar.specs.Trading.{tradingDay, nextTradingDay}
 use Prim.Native.Nat.{_+_, _-_, _≤_}
-use borrow.Author.Needs.{needs}
 use native.Mathlib.Omega.{arith}
 use mathlib.Core.Path.{_≡_, _∙_, sym}
 use Rattle.calendar.proofs.next_trading_day.Statement.{statement}
@@ -16,7 +15,7 @@ abbrev μ-loop : tie.MeasureT-loop
 μ-loop cal day end d₀ d = end - d
 
 cover-end-requires : tie.Need-cover-end-requires Inv-loop μ-loop
-cover-end-requires c κs = search needs
+cover-end-requires c κs = tt
 
 returns : tie.Need-returns Inv-loop μ-loop
 returns c =
@@ -31,7 +30,7 @@ loop-holds : tie.Need-loop-holds Inv-loop μ-loop
 loop-holds c = (omega arith, next-start _ _ _ (c .before .cover-end .ensures .0))
 
 is-trading-day-requires : tie.Need-is-trading-day-requires Inv-loop μ-loop
-is-trading-day-requires c κs = search needs
+is-trading-day-requires c κs = tt
 
 returns-2 : tie.Need-returns-2 Inv-loop μ-loop
 returns-2 c = sym (search-here _ _ _ _ (c .before .before .loop-test .taken) (sym (c .before .is-trading-day .ensures) ∙ c .if2 .taken)) ∙ c .before .before .before .loop .inv .1

@@ -1,7 +1,6 @@
 use Rattle.calendar.proofs.Next.{nth-more}
 use Rattle.calendar.specs.Trading.{nthTradingDay}
 use Prim.Native.Nat.{ℕ, _-_, _≤_}
-use borrow.Author.Needs.{needs}
 use native.Mathlib.Omega.{arith}
 use mathlib.Core.Path.{_≡_, refl, _∙_, ap}
 use Rattle.calendar.proofs.nth_trading_day.Statement.{statement}
@@ -18,7 +17,7 @@ unfolding nthTradingDay
 loop-holds c = (omega arith, refl)
 
 next-trading-day-requires : tie.Need-next-trading-day-requires Inv-loop μ-loop
-next-trading-day-requires c κs = search needs
+next-trading-day-requires c κs = tt
 
 add-i : tie.Need-add-i Inv-loop μ-loop
 add-i c = omega arith

@@ -7,7 +7,7 @@ use Rattle.calendar.proofs.slot_of.Statement.{statement}
 use Rattle.calendar.proofs.slot_of.Tie as tie
 
 year-of-requires : tie.Need-year-of-requires
-year-of-requires c κs = search needs
+year-of-requires c κs = tt
 
 sub-year : tie.Need-sub-year
 sub-year c = omega (arith, covered _ _ (c .before .before .pre), c .before .year-of .ensures)
@@ -19,7 +19,7 @@ mul-result : tie.Need-mul-result
 mul-result c = search needs
 
 day-in-year-requires : tie.Need-day-in-year-requires
-day-in-year-requires c κs = search needs
+day-in-year-requires c κs = tt
 
 cast-result-2 : tie.Need-cast-result-2
 cast-result-2 c = search needs

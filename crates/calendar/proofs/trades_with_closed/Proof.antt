@@ -1,15 +1,14 @@
 use Rattle.calendar.specs.Trading.{everyWeek}
 use Prim.Native.Nat.{_-_}
 use mathlib.Core.Path.{_∙_, ap}
-use borrow.Author.Needs.{needs}
 use Rattle.calendar.proofs.trades_with_closed.Statement.{statement}
 use Rattle.calendar.proofs.trades_with_closed.Tie as tie
 
 close-day-requires : tie.Need-close-day-requires
-close-day-requires c κs = search needs
+close-day-requires c κs = tt
 
 every-week-trades-requires : tie.Need-every-week-trades-requires
-every-week-trades-requires c κs = search needs
+every-week-trades-requires c κs = tt
 
 returns : tie.Need-returns
 returns c = c .every-week-trades .ensures ∙ ap everyWeek (c .before .close-day .ensures)

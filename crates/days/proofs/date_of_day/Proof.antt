@@ -12,7 +12,7 @@ returns : tie.Need-returns
 returns c = sym (date-refused _ (c .if1 .taken))
 
 month-of-requires : tie.Need-month-of-requires
-month-of-requires c κs = search needs
+month-of-requires c κs = tt
 
 add-t5 : tie.Need-add-t5
 add-t5 c = search needs
@@ -21,7 +21,7 @@ add-t7 : tie.Need-add-t7
 add-t7 c = search needs
 
 first-day-requires : tie.Need-first-day-requires
-first-day-requires c κs = search needs
+first-day-requires c κs = tt
 
 holds : (c : tie.After-first-day) → Holds (c .before .before .before .args .day) (c .before .month-of .result)
 holds c = rw (c .before .month-of .ensures) (month-holds _ (c .before .before .if1 .left))

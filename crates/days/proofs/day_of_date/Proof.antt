@@ -4,12 +4,11 @@ use Rattle.days.proofs.Months.{first-in}
 use Rattle.days.specs.Dates.{dayOf}
 use native.Mathlib.Omega.{arith}
 use mathlib.Core.Path.{_≡_, _∙_, sym}
-use borrow.Author.Needs.{needs}
 use Rattle.days.proofs.day_of_date.Statement.{statement}
 use Rattle.days.proofs.day_of_date.Tie as tie
 
 is-date-requires : tie.Need-is-date-requires
-is-date-requires c κs = search needs
+is-date-requires c κs = tt
 
 ok : (c : tie.Then1) → Valid (c .before .before .args .year) (c .before .before .args .month) (c .before .before .args .day)
 ok c = valid-facts _ _ _ (sym (c .before .is-date .ensures) ∙ c .if1 .taken)
@@ -30,7 +29,7 @@ sub-first-day-2 : tie.Need-sub-first-day-2
 sub-first-day-2 c = omega (arith, ok c)
 
 first-day-requires : tie.Need-first-day-requires
-first-day-requires c κs = search needs
+first-day-requires c κs = tt
 
 add-t11 : tie.Need-add-t11
 add-t11 c = omega (arith, day-fits _ _ _ (ok (c .before)), first c)

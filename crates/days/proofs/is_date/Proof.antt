@@ -1,6 +1,5 @@
 use Rattle.days.specs.Dates.{validDate}
 use borrow.Author.Tests.{le-leb, lt-leb}
-use borrow.Author.Needs.{needs}
 use Rattle.days.proofs.is_date.Statement.{statement}
 use Rattle.days.proofs.is_date.Tie as tie
 
@@ -25,7 +24,7 @@ unfolding validDate
 returns-5 c = simp (le-leb _ _ (c .before .before .before .before .if1 .left), le-leb _ _ (c .before .before .before .if2 .left), le-leb _ _ (c .before .before .if3 .left), le-leb _ _ (c .before .if4 .left), lt-leb _ _ (c .if5 .taken))
 
 month-length-requires : tie.Need-month-length-requires
-month-length-requires c κs = search needs
+month-length-requires c κs = tt
 
 returns-6 : tie.Need-returns-6
 unfolding validDate

@@ -4,12 +4,11 @@ use Rattle.questions.specs.Search.{oneOf}
 use mathlib.Core.Logic.{inl, inr}
 use borrow.Author.Tests.{eq-eqb, ne-eqb}
 use mathlib.Core.Path.{_∙_, sym}
-use borrow.Author.Needs.{needs}
 use Rattle.days.proofs.month_length.Statement.{statement}
 use Rattle.days.proofs.month_length.Tie as tie
 
 is-leap-year-requires : tie.Need-is-leap-year-requires
-is-leap-year-requires c κs = search needs
+is-leap-year-requires c κs = tt
 
 returns : tie.Need-returns
 unfolding monthLength lengthIn

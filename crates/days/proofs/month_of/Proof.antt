@@ -3,7 +3,6 @@ use Rattle.days.proofs.Years.{in-year}
 use Rattle.days.proofs.Months.{month-past, month-next, month-here}
 use Rattle.days.specs.Gregorian.{firstDay}
 use Prim.Native.Nat.{_-_, _≤_, _<_}
-use borrow.Author.Needs.{needs}
 use native.Mathlib.Omega.{arith}
 use mathlib.Core.Path.{sym}
 use Rattle.days.proofs.month_of.Statement.{statement}
@@ -19,7 +18,7 @@ returns : tie.Need-returns Inv-loop μ-loop
 returns c = sym (month-past _ (c .if1 .taken))
 
 year-of-requires : tie.Need-year-of-requires Inv-loop μ-loop
-year-of-requires c κs = search needs
+year-of-requires c κs = tt
 
 sub-m : tie.Need-sub-m Inv-loop μ-loop
 sub-m c = omega (arith, in-year _ (c .before .if1 .left))
@@ -34,7 +33,7 @@ add-first-day : tie.Need-add-first-day Inv-loop μ-loop
 add-first-day c = omega arith
 
 first-day-requires : tie.Need-first-day-requires Inv-loop μ-loop
-first-day-requires c κs = search needs
+first-day-requires c κs = tt
 
 add-m : tie.Need-add-m Inv-loop μ-loop
 add-m c = omega arith

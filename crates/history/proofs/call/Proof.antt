@@ -4,7 +4,7 @@ use Rattle.history.proofs.call.Statement.{statement}
 use Rattle.history.proofs.call.Tie as tie
 
 roll-requires : tie.Need-roll-requires
-roll-requires c κs = search needs
+roll-requires c κs = tt
 
 returns : tie.Need-returns
 returns c = rw (eq-eqb _ _ (c .before .if1 .taken)) (c .roll .ensures)

@@ -1,7 +1,6 @@
 use Rattle.history.proofs.Answers.{Replaying, begins, long, turns, ends-table, ends-numbers, not-run, run-done, unequal, too-short, fitting}
 use Rattle.history.proofs.Answers.{Replaying, begins, long, turns, ends-table, ends-numbers}
 use lib.ListN.{length}
-use borrow.Author.Needs.{needs}
 use Prim.Native.Nat.{_-_, _*_, _≤_}
 use native.Mathlib.Omega.{arith}
 use mathlib.Core.Path.{_≡_}
@@ -15,7 +14,7 @@ abbrev μ-loop : tie.MeasureT-loop
 μ-loop file date kinds days buffer₀ refusal t₀ n i₀ buffer t i = length kinds - i
 
 open-requires : tie.Need-open-requires Inv-loop μ-loop
-open-requires c κs = search needs
+open-requires c κs = tt
 
 returns : tie.Need-returns Inv-loop μ-loop
 returns c = not-run _ _ _ _ _ _ _ (c .before .before .«open» .ensures) (unequal _ _ _ (c .if1 .taken))
@@ -38,7 +37,7 @@ shared-slice-read-call-2 : tie.Need-shared-slice-read-call-2 Inv-loop μ-loop
 shared-slice-read-call-2 c = omega arith
 
 call-requires : tie.Need-call-requires Inv-loop μ-loop
-call-requires c κs = search needs
+call-requires c κs = tt
 
 write-reply-requires : tie.Need-write-reply-requires Inv-loop μ-loop
 write-reply-requires c κs =

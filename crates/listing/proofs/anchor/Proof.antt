@@ -4,15 +4,14 @@ use Rattle.listing.specs.Rules.{taken}
 use Prim.Native.Nat.{_-_}
 use native.Mathlib.Omega.{arith}
 use mathlib.Core.Path.{_∙_, sym}
-use borrow.Author.Needs.{needs}
 use Rattle.listing.proofs.anchor.Statement.{statement}
 use Rattle.listing.proofs.anchor.Tie as tie
 
 third-friday-requires : tie.Need-third-friday-requires
-third-friday-requires c κs = search needs
+third-friday-requires c κs = tt
 
 is-italian-requires : tie.Need-is-italian-requires
-is-italian-requires c κs = search needs
+is-italian-requires c κs = tt
 
 sub-result : tie.Need-sub-result
 sub-result c = omega (arith, c .before .before .third-friday .ensures, third-is (c .before .before .before .args .month))

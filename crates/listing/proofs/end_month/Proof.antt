@@ -3,15 +3,14 @@ use Rattle.days.specs.Dates.{monthOf}
 use Prim.Native.Nat.{_-_}
 use native.Mathlib.Omega.{arith}
 use mathlib.Core.Path.{_∙_, ap}
-use borrow.Author.Needs.{needs}
 use Rattle.listing.proofs.end_month.Statement.{statement}
 use Rattle.listing.proofs.end_month.Tie as tie
 
 cover-end-requires : tie.Need-cover-end-requires
-cover-end-requires c κs = search needs
+cover-end-requires c κs = tt
 
 month-of-requires : tie.Need-month-of-requires
-month-of-requires c κs = search needs
+month-of-requires c κs = tt
 
 returns : tie.Need-returns
 returns c = (c .month-of .ensures ∙ ap monthOf (c .before .cover-end .ensures .0), omega (arith, c .month-of .ensures, month-most (c .before .cover-end .result)))

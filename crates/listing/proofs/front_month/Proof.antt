@@ -5,7 +5,6 @@ use Rattle.questions.specs.Search.{firstFrom}
 use lib.Dec.{leb}
 use borrow.Author.Tests.{le-leb, lt-leb}
 use Prim.Native.Nat.{_-_}
-use borrow.Author.Needs.{needs}
 use native.Mathlib.Omega.{arith}
 use mathlib.Core.Path.{_≡_, _∙_, sym}
 use Rattle.listing.proofs.front_month.Statement.{statement}
@@ -18,17 +17,17 @@ abbrev μ-loop : tie.MeasureT-loop
 μ-loop cal group date end month₀ month = end - month
 
 end-month-requires : tie.Need-end-month-requires Inv-loop μ-loop
-end-month-requires c κs = search needs
+end-month-requires c κs = tt
 
 month-of-requires : tie.Need-month-of-requires Inv-loop μ-loop
-month-of-requires c κs = search needs
+month-of-requires c κs = tt
 
 loop-holds : tie.Need-loop-holds Inv-loop μ-loop
 unfolding frontMonth
 loop-holds c = rw (c .month-of .ensures, c .before .end-month .ensures .0)
 
 last-trading-day-requires : tie.Need-last-trading-day-requires Inv-loop μ-loop
-last-trading-day-requires c κs = search needs
+last-trading-day-requires c κs = tt
 
 returns : tie.Need-returns Inv-loop μ-loop
 returns c = sym (search-here _ _ _ _ (c .before .before .loop-test .taken) (rw (c .before .last-trading-day .ensures) at (le-leb _ _ (c .if1 .taken)))) ∙ c .before .before .before .loop .inv

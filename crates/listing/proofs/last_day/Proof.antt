@@ -4,12 +4,11 @@ use Rattle.questions.proofs.Search.{latest-zero}
 use Prim.Native.Nat.{_-_}
 use native.Mathlib.Omega.{arith}
 use mathlib.Core.Path.{_≡_, _∙_, sym}
-use borrow.Author.Needs.{needs}
 use Rattle.listing.proofs.last_day.Statement.{statement}
 use Rattle.listing.proofs.last_day.Tie as tie
 
 is-trading-day-requires : tie.Need-is-trading-day-requires
-is-trading-day-requires c κs = search needs
+is-trading-day-requires c κs = tt
 
 returns : tie.Need-returns
 unfolding lastDay
@@ -22,7 +21,7 @@ returns-2 c =
     simp (sym (c .before .before .is-trading-day .ensures) ∙ c .before .if1 .left, z, latest-zero (tradingDay (c .before .before .before .args .cal)) 0 (omega arith))
 
 latest-trading-day-requires : tie.Need-latest-trading-day-requires
-latest-trading-day-requires c κs = search needs
+latest-trading-day-requires c κs = tt
 
 returns-3 : tie.Need-returns-3
 unfolding lastDay

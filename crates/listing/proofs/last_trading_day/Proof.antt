@@ -1,14 +1,13 @@
 use Rattle.listing.specs.Months.{lastTradingDay}
 use Prim.Native.Nat.{_-_}
-use borrow.Author.Needs.{needs}
 use Rattle.listing.proofs.last_trading_day.Statement.{statement}
 use Rattle.listing.proofs.last_trading_day.Tie as tie
 
 anchor-requires : tie.Need-anchor-requires
-anchor-requires c κs = search needs
+anchor-requires c κs = tt
 
 last-day-requires : tie.Need-last-day-requires
-last-day-requires c κs = search needs
+last-day-requires c κs = tt
 
 returns : tie.Need-returns
 unfolding lastTradingDay

@@ -5,7 +5,6 @@ use Rattle.listing.specs.Rules.{taken, complete}
 use lib.ListN.{replicate}
 use mathlib.Core.List.{_++_}
 use Prim.Native.Nat.{_+_, _-_, _≤_}
-use borrow.Author.Needs.{needs}
 use native.Mathlib.Omega.{arith}
 use mathlib.Core.Path.{_∙_}
 use Rattle.listing.proofs.list.Statement.{statement}
@@ -26,16 +25,16 @@ abbrev μ-steps : tie.MeasureT-steps
 μ-steps cal group date row end maturities₀ listed₀ from₀ complete₀ step₀ maturities listed from complete step = 4 - step
 
 kind-number-requires : tie.Need-kind-number-requires Inv-loop μ-loop Inv-steps μ-steps
-kind-number-requires c κs = search needs
+kind-number-requires c κs = tt
 
 cast-row : tie.Need-cast-row Inv-loop μ-loop Inv-steps μ-steps
 cast-row c = omega (arith, c .kind-number .ensures, kind-below (c .before .args .kind))
 
 end-month-requires : tie.Need-end-month-requires Inv-loop μ-loop Inv-steps μ-steps
-end-month-requires c κs = search needs
+end-month-requires c κs = tt
 
 front-month-requires : tie.Need-front-month-requires Inv-loop μ-loop Inv-steps μ-steps
-front-month-requires c κs = search needs
+front-month-requires c κs = tt
 
 steps-holds : tie.Need-steps-holds Inv-loop μ-loop Inv-steps μ-steps
 steps-holds c =
@@ -58,7 +57,7 @@ next-in-set-requires : tie.Need-next-in-set-requires Inv-loop μ-loop Inv-steps 
 next-in-set-requires c κs = c .before .before .before .steps-test .taken
 
 last-trading-day-requires : tie.Need-last-trading-day-requires Inv-loop μ-loop Inv-steps μ-steps
-last-trading-day-requires c κs = search needs
+last-trading-day-requires c κs = tt
 
 mul-maturities : tie.Need-mul-maturities Inv-loop μ-loop Inv-steps μ-steps
 mul-maturities c = let w = c .before .before .before in omega (arith, has-room _ _ _ _ (w .before .loop .inv .0) (w .loop-test .taken))

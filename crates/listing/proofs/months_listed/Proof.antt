@@ -4,7 +4,6 @@ use Rattle.listing.specs.Months.{monthSets, placesOf, rowOf}
 use Rattle.listing.specs.Rules.{taken}
 use lib.ListN.{length}
 use Prim.Native.Nat.{ℕ, _+_, _-_, _≤_, _<_}
-use borrow.Author.Needs.{needs}
 use native.Mathlib.Omega.{arith}
 use mathlib.Core.Path.{_≡_, ap}
 use Rattle.listing.proofs.months_listed.Statement.{statement}
@@ -17,7 +16,7 @@ abbrev μ-loop : tie.MeasureT-loop
 μ-loop row sum₀ step₀ sum step = 4 - step
 
 kind-number-requires : tie.Need-kind-number-requires Inv-loop μ-loop
-kind-number-requires c κs = search needs
+kind-number-requires c κs = tt
 
 cast-row : tie.Need-cast-row Inv-loop μ-loop
 cast-row c = omega (arith, c .kind-number .ensures, kind-below (c .before .args .kind))

@@ -8,10 +8,10 @@ use Rattle.listing.proofs.third_friday.Statement.{statement}
 use Rattle.listing.proofs.third_friday.Tie as tie
 
 first-day-requires : tie.Need-first-day-requires
-first-day-requires c κs = search needs
+first-day-requires c κs = tt
 
 weekday-requires : tie.Need-weekday-requires
-weekday-requires c κs = search needs
+weekday-requires c κs = tt
 
 sub-result : tie.Need-sub-result
 sub-result c = search needs

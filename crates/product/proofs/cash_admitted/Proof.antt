@@ -1,19 +1,18 @@
 use Rattle.product.specs.Prices.{cashAdmitted}
-use borrow.Author.Needs.{needs}
 use Rattle.product.proofs.cash_admitted.Statement.{statement}
 use Rattle.product.proofs.cash_admitted.Tie as tie
 
 price-right-requires : tie.Need-price-right-requires
-price-right-requires c κs = search needs
+price-right-requires c κs = tt
 
 final-right-requires : tie.Need-final-right-requires
-final-right-requires c κs = search needs
+final-right-requires c κs = tt
 
 contracts-right-requires : tie.Need-contracts-right-requires
-contracts-right-requires c κs = search needs
+contracts-right-requires c κs = tt
 
 size-right-requires : tie.Need-size-right-requires
-size-right-requires c κs = search needs
+size-right-requires c κs = tt
 
 returns : tie.Need-returns
 unfolding cashAdmitted

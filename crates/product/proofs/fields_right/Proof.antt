@@ -1,28 +1,27 @@
 use Rattle.product.specs.Fields.{fieldsRight}
-use borrow.Author.Needs.{needs}
 use Rattle.product.proofs.fields_right.Statement.{statement}
 use Rattle.product.proofs.fields_right.Tie as tie
 
 id-right-requires : tie.Need-id-right-requires
-id-right-requires c κs = search needs
+id-right-requires c κs = tt
 
 group-right-requires : tie.Need-group-right-requires
-group-right-requires c κs = search needs
+group-right-requires c κs = tt
 
 market-right-requires : tie.Need-market-right-requires
-market-right-requires c κs = search needs
+market-right-requires c κs = tt
 
 kind-right-requires : tie.Need-kind-right-requires
-kind-right-requires c κs = search needs
+kind-right-requires c κs = tt
 
 size-right-requires : tie.Need-size-right-requires
-size-right-requires c κs = search needs
+size-right-requires c κs = tt
 
 tick-right-requires : tie.Need-tick-right-requires
-tick-right-requires c κs = search needs
+tick-right-requires c κs = tt
 
 currency-right-requires : tie.Need-currency-right-requires
-currency-right-requires c κs = search needs
+currency-right-requires c κs = tt
 
 returns : tie.Need-returns
 unfolding fieldsRight

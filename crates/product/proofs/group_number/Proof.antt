@@ -3,15 +3,14 @@ use mathlib.Core.Bool.{true, _&&_}
 use native.Mathlib.Omega.{arith}
 use Rattle.product.specs.Fields.{digit}
 use Rattle.product.proofs.Groups.{Digits, are-digits, number-of, no-number}
-use borrow.Author.Needs.{needs}
 use Rattle.product.proofs.group_number.Statement.{statement}
 use Rattle.product.proofs.group_number.Tie as tie
 
 is-digit-requires : tie.Need-is-digit-requires
-is-digit-requires c κs = search needs
+is-digit-requires c κs = tt
 
 is-digit-requires-2 : tie.Need-is-digit-requires-2
-is-digit-requires-2 c κs = search needs
+is-digit-requires-2 c κs = tt
 
 told : (c : tie.Then1) → (digit (c .before .before .before .args .tens) && digit (c .before .before .before .args .ones)) ≡ true
 told c = cc

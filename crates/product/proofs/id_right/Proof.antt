@@ -1,19 +1,18 @@
 use Rattle.product.specs.Fields.{idRight}
-use borrow.Author.Needs.{needs}
 use Rattle.product.proofs.id_right.Statement.{statement}
 use Rattle.product.proofs.id_right.Tie as tie
 
 id-of-requires : tie.Need-id-of-requires
-id-of-requires c κs = search needs
+id-of-requires c κs = tt
 
 id-of-requires-2 : tie.Need-id-of-requires-2
-id-of-requires-2 c κs = search needs
+id-of-requires-2 c κs = tt
 
 id-of-requires-3 : tie.Need-id-of-requires-3
-id-of-requires-3 c κs = search needs
+id-of-requires-3 c κs = tt
 
 id-of-requires-4 : tie.Need-id-of-requires-4
-id-of-requires-4 c κs = search needs
+id-of-requires-4 c κs = tt
 
 returns : tie.Need-returns
 unfolding idRight

@@ -1,12 +1,11 @@
-use borrow.Author.Needs.{needs}
 use Rattle.product.proofs.is_id_character.Statement.{statement}
 use Rattle.product.proofs.is_id_character.Tie as tie
 
 is-letter-requires : tie.Need-is-letter-requires
-is-letter-requires c κs = search needs
+is-letter-requires c κs = tt
 
 is-digit-requires : tie.Need-is-digit-requires
-is-digit-requires c κs = search needs
+is-digit-requires c κs = tt
 
 returns : tie.Need-returns
 returns c = cc

@@ -8,25 +8,25 @@ array-read-is-letter : tie.Need-array-read-is-letter
 array-read-is-letter c = search needs
 
 is-letter-requires : tie.Need-is-letter-requires
-is-letter-requires c κs = search needs
+is-letter-requires c κs = tt
 
 array-read-is-letter-2 : tie.Need-array-read-is-letter-2
 array-read-is-letter-2 c = search needs
 
 is-letter-requires-2 : tie.Need-is-letter-requires-2
-is-letter-requires-2 c κs = search needs
+is-letter-requires-2 c κs = tt
 
 array-read-is-letter-3 : tie.Need-array-read-is-letter-3
 array-read-is-letter-3 c = search needs
 
 is-letter-requires-3 : tie.Need-is-letter-requires-3
-is-letter-requires-3 c κs = search needs
+is-letter-requires-3 c κs = tt
 
 array-read-is-letter-4 : tie.Need-array-read-is-letter-4
 array-read-is-letter-4 c = search needs
 
 is-letter-requires-4 : tie.Need-is-letter-requires-4
-is-letter-requires-4 c κs = search needs
+is-letter-requires-4 c κs = tt
 
 returns : tie.Need-returns
 unfolding marketRight every

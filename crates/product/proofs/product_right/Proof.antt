@@ -1,13 +1,12 @@
 use Rattle.product.specs.Fields.{productRight}
-use borrow.Author.Needs.{needs}
 use Rattle.product.proofs.product_right.Statement.{statement}
 use Rattle.product.proofs.product_right.Tie as tie
 
 kind-number-requires : tie.Need-kind-number-requires
-kind-number-requires c κs = search needs
+kind-number-requires c κs = tt
 
 fields-right-requires : tie.Need-fields-right-requires
-fields-right-requires c κs = search needs
+fields-right-requires c κs = tt
 
 returns : tie.Need-returns
 unfolding productRight

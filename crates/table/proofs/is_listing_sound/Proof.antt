@@ -9,19 +9,19 @@ use Rattle.table.proofs.is_listing_sound.Statement.{statement}
 use Rattle.table.proofs.is_listing_sound.Tie as tie
 
 list-requires : tie.Need-list-requires
-list-requires c κs = search needs
+list-requires c κs = tt
 
 returns : tie.Need-returns
 returns c = simp (said-no (complete-is _ _ _ _ _ (c .before .before .list .ensures)) (c .if1 .taken))
 
 months-listed-requires : tie.Need-months-listed-requires
-months-listed-requires c κs = search needs
+months-listed-requires c κs = tt
 
 cast-are-places-right : tie.Need-cast-are-places-right
 cast-are-places-right c = search needs
 
 are-places-right-requires : tie.Need-are-places-right-requires
-are-places-right-requires c κs = search needs
+are-places-right-requires c κs = tt
 
 returns-2 : tie.Need-returns-2
 returns-2 c = sym (listing-unlike _ (said-yes (complete-is _ _ _ _ _ (c .before .before .before .before .before .before .list .ensures)) (c .before .before .before .before .if1 .left)) (said-no (lists-is _ _ _ _ (c .before .before .before .before .before .before .list .ensures) (c .before .before .months-listed .ensures .0) (c .before .are-places-right .ensures)) (c .if2 .taken)))
@@ -39,7 +39,7 @@ returns-4 : tie.Need-returns-4
 returns-4 c = sym (listing-few (c .before .before .before .before .before .before .before .before .before .before .before .before .before .before .before .args .t) (said-yes (complete-is _ _ _ _ _ (c .before .before .before .before .before .before .before .before .before .before .list .ensures)) (c .before .before .before .before .before .before .before .before .if1 .left)) (said-yes (lists-is (c .before .before .before .before .before .before .before .before .before .before .before .before .before .before .before .args .t) _ _ _ (c .before .before .before .before .before .before .before .before .before .before .list .ensures) (c .before .before .before .before .before .before .months-listed .ensures .0) (c .before .before .before .before .before .are-places-right .ensures)) (c .before .before .before .before .if2 .left)) (said-yes (numbers-is (c .before .before .before .before .before .before .before .before .before .before .before .before .before .before .before .args .t) _ _ (c .before .before .before .before .before .before .months-listed .ensures .0) (c .before .before .before .are-numbers-right .ensures)) (c .before .before .if3 .left)) _ (c .before .before .before .before .before .before .months-listed .ensures .0) (c .if4 .taken))
 
 months-before-requires : tie.Need-months-before-requires
-months-before-requires c κs = search needs
+months-before-requires c κs = tt
 
 returns-5 : tie.Need-returns-5
 returns-5 c = listing-rest (c .before .before .before .before .before .before .before .before .before .before .before .before .before .before .before .before .before .args .t) (said-yes (complete-is _ _ _ _ _ (c .before .before .before .before .before .before .before .before .before .before .before .before .list .ensures)) (c .before .before .before .before .before .before .before .before .before .before .if1 .left)) (said-yes (lists-is (c .before .before .before .before .before .before .before .before .before .before .before .before .before .before .before .before .before .args .t) _ _ _ (c .before .before .before .before .before .before .before .before .before .before .before .before .list .ensures) (c .before .before .before .before .before .before .before .before .months-listed .ensures .0) (c .before .before .before .before .before .before .before .are-places-right .ensures)) (c .before .before .before .before .before .before .if2 .left)) (said-yes (numbers-is (c .before .before .before .before .before .before .before .before .before .before .before .before .before .before .before .before .before .args .t) _ _ (c .before .before .before .before .before .before .before .before .months-listed .ensures .0) (c .before .before .before .before .before .are-numbers-right .ensures)) (c .before .before .before .before .if3 .left)) _ (c .before .before .before .before .before .before .before .before .months-listed .ensures .0) _ (c .before .before .if4 .left) (c .months-before .ensures .0)

@@ -1,47 +1,46 @@
 use Rattle.table.specs.Table.{sound}
 use Rattle.questions.proofs.Bools.{said-no, said-yes}
 use Prim.Native.Nat.{_-_}
-use borrow.Author.Needs.{needs}
 use Rattle.table.proofs.is_sound.Statement.{statement}
 use Rattle.table.proofs.is_sound.Tie as tie
 
 product-right-requires : tie.Need-product-right-requires
-product-right-requires c κs = search needs
+product-right-requires c κs = tt
 
 returns : tie.Need-returns
 unfolding sound
 returns c = simp (said-no (c .before .product-right .ensures) (c .if1 .taken))
 
 is-valid-cover-requires : tie.Need-is-valid-cover-requires
-is-valid-cover-requires c κs = search needs
+is-valid-cover-requires c κs = tt
 
 returns-2 : tie.Need-returns-2
 unfolding sound
 returns-2 c = simp (said-yes (c .before .before .before .product-right .ensures) (c .before .before .if1 .left), said-no (c .before .is-valid-cover .ensures) (c .if2 .taken))
 
 is-clean-requires : tie.Need-is-clean-requires
-is-clean-requires c κs = search needs
+is-clean-requires c κs = tt
 
 returns-3 : tie.Need-returns-3
 unfolding sound
 returns-3 c = simp (said-yes (c .before .before .before .before .before .product-right .ensures) (c .before .before .before .before .if1 .left), said-yes (c .before .before .before .is-valid-cover .ensures) (c .before .before .if2 .left), said-no (c .before .is-clean .ensures) (c .if3 .taken))
 
 every-week-trades-requires : tie.Need-every-week-trades-requires
-every-week-trades-requires c κs = search needs
+every-week-trades-requires c κs = tt
 
 returns-4 : tie.Need-returns-4
 unfolding sound
 returns-4 c = simp (said-yes (c .before .before .before .before .before .before .before .product-right .ensures) (c .before .before .before .before .before .before .if1 .left), said-yes (c .before .before .before .before .before .is-valid-cover .ensures) (c .before .before .before .before .if2 .left), said-yes (c .before .before .before .is-clean .ensures) (c .before .before .if3 .left), said-no (c .before .every-week-trades .ensures) (c .if4 .taken))
 
 in-cover-requires : tie.Need-in-cover-requires
-in-cover-requires c κs = search needs
+in-cover-requires c κs = tt
 
 returns-5 : tie.Need-returns-5
 unfolding sound
 returns-5 c = simp (said-yes (c .before .before .before .before .before .before .before .before .before .product-right .ensures) (c .before .before .before .before .before .before .before .before .if1 .left), said-yes (c .before .before .before .before .before .before .before .is-valid-cover .ensures) (c .before .before .before .before .before .before .if2 .left), said-yes (c .before .before .before .before .before .is-clean .ensures) (c .before .before .before .before .if3 .left), said-yes (c .before .before .before .every-week-trades .ensures) (c .before .before .if4 .left), said-no (c .before .in-cover .ensures) (c .if5 .taken))
 
 is-listing-sound-requires : tie.Need-is-listing-sound-requires
-is-listing-sound-requires c κs = search needs
+is-listing-sound-requires c κs = tt
 
 returns-6 : tie.Need-returns-6
 unfolding sound

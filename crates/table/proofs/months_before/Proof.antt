@@ -3,18 +3,17 @@ use Rattle.table.proofs.Calls.{front-most}
 use Prim.Native.Nat.{_-_}
 use native.Mathlib.Omega.{arith}
 use mathlib.Core.Path.{_∙_, ap}
-use borrow.Author.Needs.{needs}
 use Rattle.table.proofs.months_before.Statement.{statement}
 use Rattle.table.proofs.months_before.Tie as tie
 
 front-month-requires : tie.Need-front-month-requires
-front-month-requires c κs = search needs
+front-month-requires c κs = tt
 
 cover-start-requires : tie.Need-cover-start-requires
-cover-start-requires c κs = search needs
+cover-start-requires c κs = tt
 
 month-of-requires : tie.Need-month-of-requires
-month-of-requires c κs = search needs
+month-of-requires c κs = tt
 
 returns : tie.Need-returns
 returns c =

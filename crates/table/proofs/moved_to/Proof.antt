@@ -6,7 +6,7 @@ use Rattle.table.proofs.moved_to.Statement.{statement}
 use Rattle.table.proofs.moved_to.Tie as tie
 
 months-listed-requires : tie.Need-months-listed-requires
-months-listed-requires c κs = search needs
+months-listed-requires c κs = tt
 
 cast-n : tie.Need-cast-n
 cast-n c = search needs

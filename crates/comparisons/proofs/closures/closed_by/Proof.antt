@@ -10,10 +10,10 @@ abbrev μ-loop : tie.MeasureT-loop
 μ-loop pattern cal₀ end day₀ cal day = end - day
 
 cover-end-requires : tie.Need-cover-end-requires Inv-loop μ-loop
-cover-end-requires c κs = search needs
+cover-end-requires c κs = tt
 
 cover-start-requires : tie.Need-cover-start-requires Inv-loop μ-loop
-cover-start-requires c κs = search needs
+cover-start-requires c κs = tt
 
 loop-holds : tie.Need-loop-holds Inv-loop μ-loop
 loop-holds c = search needs

@@ -13,7 +13,7 @@ loop-holds : tie.Need-loop-holds Inv-loop μ-loop
 loop-holds c = search needs
 
 month-dates-requires : tie.Need-month-dates-requires Inv-loop μ-loop
-month-dates-requires c κs = search needs
+month-dates-requires c κs = tt
 
 add-year : tie.Need-add-year Inv-loop μ-loop
 add-year c = search needs

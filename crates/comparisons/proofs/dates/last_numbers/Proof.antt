@@ -13,7 +13,7 @@ loop-holds : tie.Need-loop-holds Inv-loop μ-loop
 loop-holds c = search needs
 
 number-requires : tie.Need-number-requires Inv-loop μ-loop
-number-requires c κs = search needs
+number-requires c κs = tt
 
 add-n : tie.Need-add-n Inv-loop μ-loop
 add-n c = search needs

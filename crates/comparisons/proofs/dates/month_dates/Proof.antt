@@ -13,25 +13,25 @@ loop-holds : tie.Need-loop-holds Inv-loop μ-loop
 loop-holds c = search needs
 
 date-requires : tie.Need-date-requires Inv-loop μ-loop
-date-requires c κs = search needs
+date-requires c κs = tt
 
 date-requires-2 : tie.Need-date-requires-2 Inv-loop μ-loop
-date-requires-2 c κs = search needs
+date-requires-2 c κs = tt
 
 date-requires-3 : tie.Need-date-requires-3 Inv-loop μ-loop
-date-requires-3 c κs = search needs
+date-requires-3 c κs = tt
 
 date-requires-4 : tie.Need-date-requires-4 Inv-loop μ-loop
-date-requires-4 c κs = search needs
+date-requires-4 c κs = tt
 
 date-requires-5 : tie.Need-date-requires-5 Inv-loop μ-loop
-date-requires-5 c κs = search needs
+date-requires-5 c κs = tt
 
 date-requires-6 : tie.Need-date-requires-6 Inv-loop μ-loop
-date-requires-6 c κs = search needs
+date-requires-6 c κs = tt
 
 date-requires-7 : tie.Need-date-requires-7 Inv-loop μ-loop
-date-requires-7 c κs = search needs
+date-requires-7 c κs = tt
 
 add-month : tie.Need-add-month Inv-loop μ-loop
 add-month c = search needs

@@ -13,7 +13,7 @@ loop-holds : tie.Need-loop-holds Inv-loop μ-loop
 loop-holds c = search needs
 
 first-day-requires : tie.Need-first-day-requires Inv-loop μ-loop
-first-day-requires c κs = search needs
+first-day-requires c κs = tt
 
 slice-aggregate-start-line : tie.Need-slice-aggregate-start-line Inv-loop μ-loop
 slice-aggregate-start-line c = search needs
@@ -28,7 +28,7 @@ put-requires-2 : tie.Need-put-requires-2 Inv-loop μ-loop
 put-requires-2 c κs = search needs
 
 weekday-requires : tie.Need-weekday-requires Inv-loop μ-loop
-weekday-requires c κs = search needs
+weekday-requires c κs = tt
 
 put-requires-3 : tie.Need-put-requires-3 Inv-loop μ-loop
 put-requires-3 c κs = search needs
@@ -40,13 +40,13 @@ add-month-length-2 : tie.Need-add-month-length-2 Inv-loop μ-loop
 add-month-length-2 c = search needs
 
 month-length-requires : tie.Need-month-length-requires Inv-loop μ-loop
-month-length-requires c κs = search needs
+month-length-requires c κs = tt
 
 put-requires-4 : tie.Need-put-requires-4 Inv-loop μ-loop
 put-requires-4 c κs = search needs
 
 end-line-requires : tie.Need-end-line-requires Inv-loop μ-loop
-end-line-requires c κs = search needs
+end-line-requires c κs = tt
 
 add-k : tie.Need-add-k Inv-loop μ-loop
 add-k c = search needs

@@ -13,7 +13,7 @@ loop-holds : tie.Need-loop-holds Inv-loop μ-loop
 loop-holds c = search needs
 
 closed-by-requires : tie.Need-closed-by-requires Inv-loop μ-loop
-closed-by-requires c κs = search needs
+closed-by-requires c κs = tt
 
 slice-aggregate-start-line : tie.Need-slice-aggregate-start-line Inv-loop μ-loop
 slice-aggregate-start-line c = search needs
@@ -31,13 +31,13 @@ put-requires-3 : tie.Need-put-requires-3 Inv-loop μ-loop
 put-requires-3 c κs = search needs
 
 end-line-requires : tie.Need-end-line-requires Inv-loop μ-loop
-end-line-requires c κs = search needs
+end-line-requires c κs = tt
 
 group-lines-requires : tie.Need-group-lines-requires Inv-loop μ-loop
-group-lines-requires c κs = search needs
+group-lines-requires c κs = tt
 
 group-lines-requires-2 : tie.Need-group-lines-requires-2 Inv-loop μ-loop
-group-lines-requires-2 c κs = search needs
+group-lines-requires-2 c κs = tt
 
 add-pattern : tie.Need-add-pattern Inv-loop μ-loop
 add-pattern c = search needs

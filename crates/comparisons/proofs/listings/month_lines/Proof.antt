@@ -12,16 +12,16 @@ abbrev μ-loop : tie.MeasureT-loop
 μ-loop cal group first end month₀ t6 month = end - month
 
 cover-start-requires : tie.Need-cover-start-requires Inv-loop μ-loop
-cover-start-requires c κs = search needs
+cover-start-requires c κs = tt
 
 month-of-requires : tie.Need-month-of-requires Inv-loop μ-loop
-month-of-requires c κs = search needs
+month-of-requires c κs = tt
 
 cover-end-requires : tie.Need-cover-end-requires Inv-loop μ-loop
-cover-end-requires c κs = search needs
+cover-end-requires c κs = tt
 
 month-of-requires-2 : tie.Need-month-of-requires-2 Inv-loop μ-loop
-month-of-requires-2 c κs = search needs
+month-of-requires-2 c κs = tt
 
 loop-holds : tie.Need-loop-holds Inv-loop μ-loop
 loop-holds c = (
@@ -39,19 +39,19 @@ put-requires : tie.Need-put-requires Inv-loop μ-loop
 put-requires c κs = search needs
 
 third-friday-requires : tie.Need-third-friday-requires Inv-loop μ-loop
-third-friday-requires c κs = search needs
+third-friday-requires c κs = tt
 
 put-requires-2 : tie.Need-put-requires-2 Inv-loop μ-loop
 put-requires-2 c κs = search needs
 
 last-trading-day-requires : tie.Need-last-trading-day-requires Inv-loop μ-loop
-last-trading-day-requires c κs = search needs
+last-trading-day-requires c κs = tt
 
 put-requires-3 : tie.Need-put-requires-3 Inv-loop μ-loop
 put-requires-3 c κs = search needs
 
 end-line-requires : tie.Need-end-line-requires Inv-loop μ-loop
-end-line-requires c κs = search needs
+end-line-requires c κs = tt
 
 add-month : tie.Need-add-month Inv-loop μ-loop
 add-month c = search needs

@@ -19,7 +19,7 @@ add-group-line-2 : tie.Need-add-group-line-2 Inv-loop μ-loop
 add-group-line-2 c = search needs
 
 group-line-requires : tie.Need-group-line-requires Inv-loop μ-loop
-group-line-requires c κs = search needs
+group-line-requires c κs = tt
 
 add-i : tie.Need-add-i Inv-loop μ-loop
 add-i c = search needs
@@ -31,10 +31,10 @@ loop-again : tie.Need-loop-again Inv-loop μ-loop
 loop-again c = search needs
 
 group-line-requires-2 : tie.Need-group-line-requires-2 Inv-loop μ-loop
-group-line-requires-2 c κs = search needs
+group-line-requires-2 c κs = tt
 
 group-line-requires-3 : tie.Need-group-line-requires-3 Inv-loop μ-loop
-group-line-requires-3 c κs = search needs
+group-line-requires-3 c κs = tt
 
 returns : tie.Need-returns Inv-loop μ-loop
 returns c = search needs

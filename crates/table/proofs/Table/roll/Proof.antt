@@ -4,39 +4,38 @@ use Rattle.questions.proofs.Bools.{said-no, said-yes}
 use borrow.Author.Tests.{le-leb, lt-leb}
 use Prim.Native.Nat.{_-_}
 use mathlib.Core.Path.{refl, _∙_, sym}
-use borrow.Author.Needs.{needs}
 use Rattle.table.proofs.Table.roll.Statement.{statement}
 use Rattle.table.proofs.Table.roll.Tie as tie
 
 is-sound-requires : tie.Need-is-sound-requires
-is-sound-requires c κs = search needs
+is-sound-requires c κs = tt
 
 refused-requires : tie.Need-refused-requires
-refused-requires c κs = search needs
+refused-requires c κs = tt
 
 returns : tie.Need-returns
 returns c = c .refused .ensures ∙ sym (roll-10 _ _ (said-no (c .before .before .is-sound .ensures) (c .before .if1 .taken)))
 
 in-cover-requires : tie.Need-in-cover-requires
-in-cover-requires c κs = search needs
+in-cover-requires c κs = tt
 
 refused-requires-2 : tie.Need-refused-requires-2
-refused-requires-2 c κs = search needs
+refused-requires-2 c κs = tt
 
 returns-2 : tie.Need-returns-2
 returns-2 c = c .refused2 .ensures ∙ sym (roll-11 _ _ (said-yes (c .before .before .before .before .before .before .is-sound .ensures) (c .before .before .before .before .before .if1 .left)) (said-no (c .before .before .in-cover .ensures) (c .before .if2 .taken)))
 
 refused-requires-3 : tie.Need-refused-requires-3
-refused-requires-3 c κs = search needs
+refused-requires-3 c κs = tt
 
 returns-3 : tie.Need-returns-3
 returns-3 c = c .refused3 .ensures ∙ sym (roll-12 _ _ (said-yes (c .before .before .before .before .before .before .before .before .is-sound .ensures) (c .before .before .before .before .before .before .before .if1 .left)) (said-yes (c .before .before .before .before .in-cover .ensures) (c .before .before .before .if2 .left)) (lt-leb _ _ (c .before .if3 .taken)))
 
 list-requires : tie.Need-list-requires
-list-requires c κs = search needs
+list-requires c κs = tt
 
 refused-requires-4 : tie.Need-refused-requires-4
-refused-requires-4 c κs = search needs
+refused-requires-4 c κs = tt
 
 returns-4 : tie.Need-returns-4
 returns-4 c =

@@ -7,13 +7,13 @@ use Rattle.table.proofs.opening.open.Statement.{statement}
 use Rattle.table.proofs.opening.open.Tie as tie
 
 load-requires : tie.Need-load-requires
-load-requires c κs = search needs
+load-requires c κs = tt
 
 zero-table-requires : tie.Need-zero-table-requires
-zero-table-requires c κs = search needs
+zero-table-requires c κs = tt
 
 refused-requires : tie.Need-refused-requires
-refused-requires c κs = search needs
+refused-requires c κs = tt
 
 returns : tie.Need-returns
 returns c = rw (c .refused .ensures, c .before .zero-table .ensures) (open-refused _ _ _ _ (load-is _ _ (c .before .before .before .load .ensures)) (c .before .before .if1 .taken))
@@ -28,10 +28,10 @@ enum-told : tie.Need-enum-told
 enum-told c = search needs
 
 zero-table-requires-2 : tie.Need-zero-table-requires-2
-zero-table-requires-2 c κs = search needs
+zero-table-requires-2 c κs = tt
 
 refused-requires-2 : tie.Need-refused-requires-2
-refused-requires-2 c κs = search needs
+refused-requires-2 c κs = tt
 
 returns-2 : tie.Need-returns-2
 returns-2 c =
@@ -39,16 +39,16 @@ returns-2 c =
     (sym (open-9 _ _ _ (sym (load-is _ _ (c .before .before .before .before .before .before .load .ensures)) ∙ c .before .before .before .before .before .if1 .left) (find-none _ _ (rw (c .before .before .enum-told .given .1) at (c .before .before .before .before .find .ensures)))))
 
 calendar-of-requires : tie.Need-calendar-of-requires
-calendar-of-requires c κs = search needs
+calendar-of-requires c κs = tt
 
 in-cover-requires : tie.Need-in-cover-requires
-in-cover-requires c κs = search needs
+in-cover-requires c κs = tt
 
 zero-table-requires-3 : tie.Need-zero-table-requires-3
-zero-table-requires-3 c κs = search needs
+zero-table-requires-3 c κs = tt
 
 refused-requires-3 : tie.Need-refused-requires-3
-refused-requires-3 c κs = search needs
+refused-requires-3 c κs = tt
 
 returns-3 : tie.Need-returns-3
 returns-3 c =
@@ -58,16 +58,16 @@ returns-3 c =
     (sym (open-11 _ _ _ (sym (load-is _ _ (c .before .before .before .before .before .before .before .before .before .before .before .load .ensures)) ∙ c .before .before .before .before .before .before .before .before .before .before .if1 .left) there (rw cal at (said-no (c .before .before .before .in-cover .ensures) (c .before .before .if2 .taken)))))
 
 product-at-requires : tie.Need-product-at-requires
-product-at-requires c κs = search needs
+product-at-requires c κs = tt
 
 list-requires : tie.Need-list-requires
-list-requires c κs = search needs
+list-requires c κs = tt
 
 zero-table-requires-4 : tie.Need-zero-table-requires-4
-zero-table-requires-4 c κs = search needs
+zero-table-requires-4 c κs = tt
 
 refused-requires-4 : tie.Need-refused-requires-4
-refused-requires-4 c κs = search needs
+refused-requires-4 c κs = tt
 
 returns-4 : tie.Need-returns-4
 returns-4 c =
@@ -80,7 +80,7 @@ returns-4 c =
     (sym (open-16 _ _ _ (sym (load-is _ _ (c .before .before .before .before .before .before .before .before .before .before .before .before .before .before .before .before .load .ensures)) ∙ c .before .before .before .before .before .before .before .before .before .before .before .before .before .before .before .if1 .left) there (rw cal at (said-yes (c .before .before .before .before .before .before .before .before .in-cover .ensures) (c .before .before .before .before .before .before .before .if2 .left))) (said-no (complete-is _ _ _ _ _ l) (c .before .before .if3 .taken))))
 
 opened-with-requires : tie.Need-opened-with-requires
-opened-with-requires c κs = search needs
+opened-with-requires c κs = tt
 
 returns-5 : tie.Need-returns-5
 returns-5 c =

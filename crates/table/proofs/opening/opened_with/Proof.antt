@@ -5,7 +5,7 @@ use Rattle.table.proofs.opening.opened_with.Statement.{statement}
 use Rattle.table.proofs.opening.opened_with.Tie as tie
 
 months-listed-requires : tie.Need-months-listed-requires
-months-listed-requires c κs = search needs
+months-listed-requires c κs = tt
 
 cast-number-from-one : tie.Need-cast-number-from-one
 cast-number-from-one c = search needs

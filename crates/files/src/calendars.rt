@@ -1,0 +1,39 @@
+// The calendar of a file.
+use crate::text::end_line;
+use crate::text::put;
+use crate::text::put_short;
+use crate::text::start_line;
+use calendar::Calendar;
+
+// The number of closed days of the cover and the sum of their day numbers.
+struct Closed {
+    count: u64,
+    sum: u64,
+}
+
+fn closed_days(cal: Calendar) -> Closed {
+    let end = calendar::cover_end(cal.cover);
+    let mut day = calendar::cover_start(cal.cover);
+    let mut count: u64 = 0;
+    let mut sum: u64 = 0;
+    while day < end {
+        if calendar::is_closed(cal, day) {
+            count += 1;
+            sum += day as u64;
+        }
+        day += 1;
+    }
+    Closed { count, sum }
+}
+
+pub(crate) fn print(file: &[u8]) {
+    let cal = master::calendar_of(file);
+    let cover = cal.cover;
+    let closed = closed_days(cal);
+    start_line(b"C");
+    put_short(cover.first_year);
+    put_short(cover.years);
+    put(closed.count);
+    put(closed.sum);
+    end_line();
+}
