@@ -5,6 +5,7 @@ program: python3 tests/expected.py NAME
 import sys
 
 import cases
+import histories
 from second import dates, listing, master, product, trading
 from second.trading import Calendar
 
@@ -306,6 +307,7 @@ def files():
 PROGRAMS = {
     'comparisons': comparisons,
     'files': files,
+    'tables': histories.lines,
 }
 
 

@@ -1,0 +1,53 @@
+use Prim.Native.Nat.{_+_, _*_, _≤_}
+use borrow.Author.Needs.{needs}
+use Rattle.tables.proofs.show.calendar_sum.Statement.{statement}
+use Rattle.tables.proofs.show.calendar_sum.Tie as tie
+
+abbrev Inv-loop : tie.InvT-loop
+Inv-loop closed bytes₀ sum₀ i₀ bytes sum i = (i ≤ 736) × (bytes + 255 * i ≤ 187680) × (sum + 187680 * i ≤ 138132480)
+
+abbrev μ-loop : tie.MeasureT-loop
+μ-loop closed bytes₀ sum₀ i₀ bytes sum i = i
+
+loop-holds : tie.Need-loop-holds Inv-loop μ-loop
+loop-holds c = search needs
+
+sub-i : tie.Need-sub-i Inv-loop μ-loop
+sub-i c = search needs
+
+array-read-wide : tie.Need-array-read-wide Inv-loop μ-loop
+array-read-wide c = search needs
+
+wide-requires : tie.Need-wide-requires Inv-loop μ-loop
+wide-requires c κs = tt
+
+add-bytes : tie.Need-add-bytes Inv-loop μ-loop
+add-bytes c = search needs
+
+add-sum : tie.Need-add-sum Inv-loop μ-loop
+add-sum c = search needs
+
+loop-less : tie.Need-loop-less Inv-loop μ-loop
+loop-less c = search needs
+
+loop-again : tie.Need-loop-again Inv-loop μ-loop
+loop-again c = search needs
+
+returns : tie.Need-returns Inv-loop μ-loop
+returns c = search needs
+
+pub calendar-sum-spec : {M : Type 1} → statement M
+calendar-sum-spec =
+    tie.close
+    (tie.spec
+    Inv-loop
+    μ-loop
+    loop-holds
+    sub-i
+    array-read-wide
+    wide-requires
+    add-bytes
+    add-sum
+    loop-less
+    loop-again
+    returns)

@@ -1,0 +1,36 @@
+// The calls of a script on the table.
+use crate::reading::read_master;
+use crate::reading::two;
+use crate::show::put_outcome;
+use table::Table;
+
+// The table of zeros that open gives back for an empty file.
+pub(crate) fn no_table() -> Table {
+    let o = table::open(b"", [0, 0, 0, 0], 0);
+    let t = o.table;
+    t
+}
+
+pub(crate) fn open(bytes: [u8; 16]) -> Table {
+    let id = [bytes[4], bytes[5], bytes[6], bytes[7]];
+    let mut file = io::large_buffer();
+    let n = read_master(bytes[1], &mut file);
+    let o = table::open(&file[..n], id, two(bytes[2], bytes[3]));
+    put_outcome(b"O", o);
+    let t = o.table;
+    t
+}
+
+pub(crate) fn roll(t: Table, date: u16) -> Table {
+    let o = t.roll(date);
+    put_outcome(b"R", o);
+    let next = o.table;
+    next
+}
+
+pub(crate) fn close(t: Table, day: u16) -> Table {
+    let o = t.close(day);
+    put_outcome(b"C", o);
+    let next = o.table;
+    next
+}

@@ -1,0 +1,99 @@
+// Runs a script of table calls on master files and prints every outcome. The second program writes the same text.
+mod calls;
+mod damage;
+mod histories;
+mod reading;
+mod show;
+mod text;
+mod values;
+
+use reading::two;
+use table::Table;
+use text::end_line;
+use text::start_line;
+
+// The letters of the operations.
+const OPEN: u8 = b'O';
+
+const ROLL: u8 = b'R';
+
+const CLOSE: u8 = b'C';
+
+const DAMAGE: u8 = b'D';
+
+const HISTORY: u8 = b'H';
+
+const SAVE: u8 = b'S';
+
+const RESTORE: u8 = b'B';
+
+// The table of the script and the saved one.
+pub struct State {
+    pub table: Table,
+    pub saved: Table,
+}
+
+// The operations that may change the table.
+fn table_step(fd: i32, bytes: [u8; 16], t: Table) -> Table {
+    let operation = bytes[0];
+    let number = two(bytes[2], bytes[3]);
+    match operation {
+        OPEN => calls::open(bytes),
+        ROLL => calls::roll(t, number),
+        CLOSE => calls::close(t, number),
+        DAMAGE => damage::damage(t, bytes[1], number, two(bytes[4], bytes[5])),
+        HISTORY => histories::run(fd, bytes),
+        _ => t,
+    }
+}
+
+// One record of the script.
+fn step(fd: i32, bytes: [u8; 16], state: State) -> State {
+    let operation = bytes[0];
+    let t = state.table;
+    let saved = state.saved;
+    if operation == SAVE {
+        start_line(b"S");
+        end_line();
+        return State { table: t, saved: t };
+    }
+    if operation == RESTORE {
+        start_line(b"B");
+        end_line();
+        return State {
+            table: saved,
+            saved: saved,
+        };
+    }
+    values::print(bytes, t);
+    let next = table_step(fd, bytes, t);
+    State {
+        table: next,
+        saved: saved,
+    }
+}
+
+fn run_script(fd: i32) {
+    let empty = calls::no_table();
+    let mut state = State {
+        table: empty,
+        saved: empty,
+    };
+    let mut turns: u32 = 1000000;
+    while 0 < turns {
+        let record = reading::next(fd);
+        if !record.there {
+            break;
+        }
+        let bytes = record.bytes;
+        state = step(fd, bytes, state);
+        turns -= 1;
+    }
+}
+
+fn main() {
+    let fd = os::open_read(b"script.bin");
+    if 0 <= fd {
+        run_script(fd);
+    }
+}

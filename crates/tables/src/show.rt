@@ -1,0 +1,99 @@
+// The line of a table: date, given, first year, years, the sums of the calendar and of the product, and all 15 maturities.
+use crate::text::end_line;
+use crate::text::put;
+use crate::text::put_long;
+use crate::text::start_line;
+use listing::Maturity;
+use product::Product;
+use table::Outcome;
+use table::Table;
+ghost use Prim.Native.Nat.{_≤_, _<_};
+
+fn wide(byte: u8) -> u32
+    ensures { λ r. ⌜ r ≤ 255 ⌝ }
+{
+    byte as u32
+}
+
+// The sum of (i + 1) times byte i of the map of closed days, mod 65,521. From the last byte on, a byte joins the running sum once for each place from its own to the first.
+fn calendar_sum(closed: [u8; 736]) -> u32 {
+    let mut bytes: u32 = 0;
+    let mut sum: u32 = 0;
+    let mut i: usize = 736;
+    while 0 < i {
+        i -= 1;
+        bytes += wide(closed[i]);
+        sum += bytes;
+    }
+    sum % 65521
+}
+
+// 31 times a sum and a number more, mod 65,521.
+fn mix(sum: u32, number: u32) -> u32
+    requires { ⌜ (sum < 65521) × (number < 65536) ⌝ }
+    ensures { λ r. ⌜ r < 65521 ⌝ }
+{
+    (31 * sum + number) % 65521
+}
+
+fn mix_bytes(sum: u32, a: u8, b: u8, c: u8, d: u8) -> u32
+    requires { ⌜ sum < 65521 ⌝ }
+    ensures { λ r. ⌜ r < 65521 ⌝ }
+{
+    mix(mix(mix(mix(sum, wide(a)), wide(b)), wide(c)), wide(d))
+}
+
+// The sum of a product's fields.
+fn product_sum(p: Product) -> u32 {
+    let id = p.id;
+    let group = p.group;
+    let market = p.market;
+    let currency = p.currency;
+    let kind = p.kind;
+    let ids = mix_bytes(0, id[0], id[1], id[2], id[3]);
+    let groups = mix_bytes(ids, group[0], group[1], group[2], group[3]);
+    let markets = mix_bytes(groups, market[0], market[1], market[2], market[3]);
+    let kinds = mix_bytes(
+        markets,
+        product::kind_number(kind),
+        currency[0],
+        currency[1],
+        currency[2],
+    );
+    mix(mix(kinds, p.size as u32), p.tick as u32)
+}
+
+fn put_maturities(maturities: [Maturity; 15]) {
+    for i in 0..15usize {
+        let m = maturities[i];
+        put(m.month);
+        put(m.day);
+        put(m.number);
+    }
+}
+
+pub(crate) fn put_table(t: Table) {
+    let cal = t.calendar;
+    let cover = cal.cover;
+    let closed = cal.closed;
+    let p = t.product;
+    let maturities = t.maturities;
+    put(t.date);
+    put(t.given);
+    put(cover.first_year);
+    put(cover.years);
+    put_long(calendar_sum(closed));
+    put_long(product_sum(p));
+    put_maturities(maturities);
+}
+
+// Refusal, entered, left and the table.
+pub(crate) fn put_outcome(letter: &[u8], o: Outcome) {
+    let t = o.table;
+    start_line(letter);
+    put(o.refusal as u16);
+    put(o.entered);
+    put(o.left);
+    put_table(t);
+    end_line();
+}

@@ -1,0 +1,355 @@
+"""Histories of tables: the master files and the script that the program tables
+reads, and the lines that it must print.
+
+python3 tests/histories.py --write crates/tables/data
+python3 tests/histories.py --check crates/tables/data
+"""
+
+import sys
+from functools import lru_cache
+from pathlib import Path
+
+from second import dates, product, trading
+from second.book import Book
+from tables.damages import damaged_tables, date_before_cover, every_call_on_zeros
+from tables.files import (EXAMPLE, ONE_YEAR, SEED, SEVEN_YEARS, SIXTEEN_YEARS, THREE_YEARS, TWO_YEARS,
+                          Numbers, accepted_files, all_files, calendar_of, easter_sunday, file_name,
+                          first_date, last_date, openable, product_of, refused_files)
+from tables.moments import PRICES, push_calls, some_calls, some_value
+from tables.script import Script, book_call, make
+
+
+# ---- Mixed histories ----
+
+# A history of mixed calls, with value calls among them.
+def mixed_history(script, numbers, number, code, date, length):
+    script.open(number, code, date)
+    for _ in range(length):
+        make(script, some_calls(numbers, script.book))
+        if numbers.below(3) == 0:
+            some_value(script, numbers)
+
+
+# Mixed histories of every product of the accepted files that can be opened.
+def mixed_histories(script, numbers):
+    for number, code in [(number, code) for number in range(EXAMPLE + 1) for code in openable(number)]:
+        span = last_date(number, code) - first_date(number) + 1
+        mixed_history(script, numbers, number, code, first_date(number) + numbers.below(span) // 2, 15)
+
+
+# 01, "March 2008 and its neighbours": the example's three calls, and the
+# closures that its sentences name.
+def example_history(script):
+    day = dates.day_of(2008, 3, 20)
+    script.open(EXAMPLE, b'AXA ', day)
+    make(script, (('R', day + 1), ('C', day), ('R', day + 1), ('R', day)))
+    for code in (b'AXA ', b'ENI '):
+        script.open(EXAMPLE, code, day - 2)
+        script.close(day)
+        script.last_trading_day(98)
+        script.roll(day - 1)
+        script.roll(day)
+
+
+# ---- Rolls to the cover's end ----
+
+# Dates from one to another, at most a number of days apart.
+def dates_between(numbers, start, end, step):
+    stops = [start]
+    while stops[-1] < end:
+        stops.append(min(end, stops[-1] + 1 + numbers.below(step)))
+    return stops
+
+
+# 01, question 16, by rolls to the last date that it accepts, one day at a time at
+# the end, and to dates after it, which are refused.
+def roll_to_the_end(script, numbers, number, code, step):
+    end = last_date(number, code)
+    script.open(number, code, first_date(number))
+    for date in (*dates_between(numbers, first_date(number), end - 3, step), *range(end - 2, end + 4),
+                 trading.last_day(script.book.calendar)):
+        script.roll(date)
+
+
+# Rolls to the end in covers of 2, 3, 7 and 16 years, all kinds.
+def rolls_to_the_end(script, numbers):
+    for number, code, step in ((TWO_YEARS, b'ENI ', 25), (THREE_YEARS, b'TIT ', 30),
+                               (THREE_YEARS, b'FIAT', 30), (SEVEN_YEARS, b'ENEL', 60),
+                               (SEVEN_YEARS, b'DAI ', 60), (SIXTEEN_YEARS, b'BP  ', 160),
+                               (SIXTEEN_YEARS, b'MSFT', 160), (SIXTEEN_YEARS, b'NOK1', 160)):
+        roll_to_the_end(script, numbers, number, code, step)
+
+
+# ---- Closures ----
+
+# The front month pushed out several times in one history, or rolled past where
+# question 15 keeps its last trading day.
+def push_often(script, number, code, date):
+    script.open(number, code, date)
+    for _ in range(5):
+        make(script, [*push_calls(script.book), ('R', script.book.maturities[0][1] + 1)])
+
+
+# The same for each kind and for Italian groups.
+def pushed_histories(script):
+    for number, code, date in ((EXAMPLE, b'AXA ', 2930), (EXAMPLE, b'AXAF', 2930), (EXAMPLE, b'ENI ', 2930),
+                               (SEVEN_YEARS, b'FIAT', 6980), (SEVEN_YEARS, b'ENEL', 6980),
+                               (SIXTEEN_YEARS, b'TIT ', 30700), (SIXTEEN_YEARS, b'DAI ', 30700),
+                               (SIXTEEN_YEARS, b'BAY ', 30700)):
+        push_often(script, number, code, date)
+
+
+# 01, question 16 by a close: the same at the cover's end, where the month that
+# would enter lies beyond the cover. The close is refused and nothing changes.
+def pushed_at_the_end(script):
+    for number, code in ((EXAMPLE, b'AXA '), (EXAMPLE, b'AXAF'), (EXAMPLE, b'ENI '),
+                         (SEVEN_YEARS, b'TIT '), (SEVEN_YEARS, b'DAI '), (SIXTEEN_YEARS, b'FIAT')):
+        script.open(number, code, last_date(number, code) - 20)
+        make(script, push_calls(script.book))
+        script.roll(script.table.date)
+
+
+# 01, Questions: "the number of the first answered no": 15 and not 16, where the
+# front month would be pushed out by the last day of its week at the cover's end.
+def closed_week_at_the_end(script):
+    for number, code in ((EXAMPLE, b'AXA '), (EXAMPLE, b'AXAF')):
+        script.open(number, code, last_date(number, code) - 20)
+        friday = script.book.maturities[0][1]
+        make(script, [*(('C', day) for day in range(friday - 4, friday)), ('R', friday - 1), ('C', friday)])
+
+
+# 01, question 15: the days of a week closed one after the other, the last
+# refused; then the first again, refused by 14.
+def closed_weeks(script, numbers):
+    for number, code in ((ONE_YEAR, b'ENI '), (SEVEN_YEARS, b'NOK1'), (SIXTEEN_YEARS, b'1   ')):
+        start = first_date(number)
+        monday = start + 7 - dates.weekday(start) + 7 * numbers.below(5)
+        script.open(number, code, start)
+        make(script, [('C', day) for day in (*range(monday, monday + 5), monday)])
+
+
+# Many closures one after the other, with a roll after each ten.
+def many_closures(script, numbers, number, code, date, count):
+    script.open(number, code, date)
+    for step in range(count):
+        soon = script.book.date + 1 + numbers.below(30)
+        script.close(numbers.one_of([soon, *(day for _, day, _ in script.book.maturities)]))
+        if step % 10 == 9:
+            script.roll(script.book.date + numbers.below(25))
+
+
+# Histories of many closures: all kinds, Italian groups and others.
+def closure_histories(script, numbers):
+    many_closures(script, numbers, EXAMPLE, b'AXAF', 2922, 50)
+    many_closures(script, numbers, TWO_YEARS, b'ENI ', 2560, 50)
+    many_closures(script, numbers, SEVEN_YEARS, b'BAY ', 7000, 50)
+    many_closures(script, numbers, SIXTEEN_YEARS, b'ENEL', 33000, 50)
+
+
+# ---- Refused opens ----
+
+# 01, questions 1 to 8 of open, by files that they refuse and by one that is not
+# there; also where 9 and 11 would be answered no.
+def opens_of_refused_files(script):
+    first = len(accepted_files())
+    for place, (number, _) in enumerate(refused_files()):
+        if script.open(first + place, b'AXA ', 4400) != number:
+            raise ValueError(f'file {first + place} is not refused by {number}')
+        script.open(first + place, b'NONE', 65535)
+    script.open(99, b'AXA ', 4400)
+
+
+# 01, question 9 of open.
+def opens_of_absent_ids(script):
+    script.open(ONE_YEAR, b'NONE', 65535)
+    for code in (b'AXB ', b'    ', b'AX  ', b'axa ', bytes(4), b'ZZZZ', b'0   '):
+        script.open(ONE_YEAR, code, 4400)
+
+
+# 01, questions 11 and 16 of open: dates at the ends of each cover and outside it.
+def opens_at_the_ends(script):
+    for number in range(EXAMPLE + 1):
+        start, end = first_date(number), trading.last_day(calendar_of(number))
+        open_each(script, number, (max(0, start - 1), start, end, end + 1, 65535))
+
+
+# One product opened on several dates.
+def open_each(script, number, days):
+    for date in days:
+        script.open(number, b'AXA ', date)
+
+
+# 01, question 16 of open: a cover too short for the product's kind.
+def opens_in_short_covers(script):
+    for number, code in ((ONE_YEAR, b'DAI '), (TWO_YEARS, b'FIAT'), (THREE_YEARS, b'ENEL')):
+        script.open(number, code, first_date(number))
+
+
+# ---- Value calls ----
+
+# 01, Due day: "the n-th trading day after a given trading day", around Easter
+# and to the cover's end.
+def due_calls(script):
+    end = trading.last_day(script.book.calendar)
+    easter = easter_sunday(2020)
+    for day in (*range(easter - 6, easter + 4), *range(end - 7, end + 2)):
+        script.due(day)
+
+
+# 01, question 18: the months from the one before the front month on.
+def month_calls(script):
+    front = script.book.maturities[0][0]
+    for month in range(front - 1, front + 18):
+        script.last_trading_day(month)
+
+
+# 01, questions 19 and 20.
+def tick_calls(script):
+    for price in PRICES:
+        script.tick(price)
+
+
+# 01, cash: "contracts × size × (final − agreed), signed", and questions 19 to 22.
+def cash_calls(script):
+    for contracts, agreed, final in ((3, 123400, 125000), (3, 125000, 123400), (1, 100, 100),
+                                     (100000, 999999900, 0), (100000, 100, 999999999),
+                                     (100001, 100, 100), (0, 100, 100), (1, 0, 0),
+                                     (1, 1000000000, 0), (1, 7, 0), (1, 100, 1000000000)):
+        script.cash(contracts, agreed, final)
+
+
+# The value calls of products with each count of days to settlement.
+def value_calls(script):
+    for code in (b'AXAF', b'DAI ', b'ENI ', b'NOK1', b'BP  ', b'CRH ', b'BAY ', b'FIAT'):
+        script.open(SEVEN_YEARS, code, 7000)
+        due_calls(script)
+        month_calls(script)
+        tick_calls(script)
+        cash_calls(script)
+
+
+# ---- Whole histories in one call ----
+
+# The calls of a mixed history, chosen by the book alone.
+def calls_of(numbers, number, code, date, length):
+    item = product_of(number, code)
+    book = Book(item.kind, item.group, calendar_of(number), date)
+    calls = []
+    while len(calls) < length:
+        more = some_calls(numbers, book)[:length - len(calls)]
+        calls += [(call, book_call(book, *call)) for call in more]
+    return [call for call, _ in calls]
+
+
+# 01, The table: "Demand 3 is a single claim about the list": lists of many
+# lengths, the empty one among them.
+def whole_histories(script, numbers):
+    for number, code, date, length in ((EXAMPLE, b'AXA ', 2930, 120), (THREE_YEARS, b'TIT ', 2930, 120),
+                                       (SEVEN_YEARS, b'ENEL', 6950, 200), (SIXTEEN_YEARS, b'FIAT', 30700, 256),
+                                       (SIXTEEN_YEARS, b'CRH ', 33000, 100), (ONE_YEAR, b'AXA ', 4383, 60),
+                                       (TWO_YEARS, b'BAY ', 2557, 60), (EXAMPLE, b'ENI ', 3000, 0)):
+        script.history(number, code, date, calls_of(numbers, number, code, date, length))
+
+
+# A buffer longer than the answers; one too short, and lists of unequal length,
+# with which no call is made; an open that is refused.
+def odd_histories(script, numbers):
+    calls = calls_of(numbers, EXAMPLE, b'AXA ', 3000, 5)
+    script.history(EXAMPLE, b'AXA ', 3000, calls, buffer_lent=17)
+    script.history(EXAMPLE, b'AXA ', 3000, calls, buffer_lent=14)
+    script.history(EXAMPLE, b'AXA ', 3000, calls, days_lent=4)
+    script.history(EXAMPLE, b'AXA ', 3000, calls, days_lent=6)
+    script.history_without_open(EXAMPLE, b'NONE', 3000, calls)
+
+
+# ---- The whole script ----
+
+# 01, Questions: the numbers that each call can give back.
+ANSWERS = {
+    'O': (0, 1, 2, 3, 4, 5, 6, 7, 8, 9, 11, 16),
+    'R': (0, 10, 11, 12, 16),
+    'C': (0, 10, 11, 13, 14, 15, 16),
+    'L': (0, 10, 18),
+    'U': (0, 10, 11, 14, 17),
+    'T': (0, 10, 19, 20),
+    'Q': (0, 10, 19, 20, 21, 22),
+}
+
+
+# What the script must have: every answer of every call, and closures that push
+# the front month out, for each kind, with an Italian group and with another.
+def wanted():
+    answers = {(letter, number) for letter, given in ANSWERS.items() for number in given}
+    return answers | {('pushed', kind, italian) for kind in product.KINDS for italian in (False, True)}
+
+
+# The script with all its histories.
+@lru_cache(maxsize=1)
+def whole_script():
+    numbers = Numbers(SEED + 1)
+    script = Script(all_files())
+    opens_of_refused_files(script)
+    opens_of_absent_ids(script)
+    opens_at_the_ends(script)
+    opens_in_short_covers(script)
+    example_history(script)
+    pushed_histories(script)
+    pushed_at_the_end(script)
+    closed_week_at_the_end(script)
+    closed_weeks(script, numbers)
+    closure_histories(script, numbers)
+    rolls_to_the_end(script, numbers)
+    mixed_histories(script, numbers)
+    value_calls(script)
+    damaged_tables(script)
+    date_before_cover(script)
+    every_call_on_zeros(script)
+    whole_histories(script, numbers)
+    odd_histories(script, numbers)
+    if wanted() - script.seen:
+        raise ValueError(f'the script has no {sorted(wanted() - script.seen)}')
+    return script
+
+
+# What the program tables must print.
+def lines():
+    return whole_script().lines
+
+
+# The folder's files by name.
+def folder():
+    files = {file_name(number): file for number, file in enumerate(all_files())}
+    files['script.bin'] = b''.join(whole_script().records)
+    return files
+
+
+# Writes the folder's files.
+def write(path):
+    for name, data in folder().items():
+        (path / name).write_bytes(data)
+
+
+# The names of the stored files that are not what is written, or are missing.
+def others(path):
+    files = folder()
+    stored = {one.name: one.read_bytes() for one in path.iterdir()} if path.is_dir() else {}
+    return sorted(name for name in files.keys() | stored.keys() if files.get(name) != stored.get(name))
+
+
+# Writes the folder's files, or says which of the stored ones are others.
+def main(arguments):
+    if len(arguments) != 2 or arguments[0] not in ('--write', '--check'):
+        print('usage: histories.py --write FOLDER | --check FOLDER', file=sys.stderr)
+        return 2
+    path = Path(arguments[1])
+    if arguments[0] == '--write':
+        write(path)
+        return 0
+    wrong = others(path)
+    for name in wrong:
+        print(f'{path / name} is not what histories.py writes')
+    return 1 if wrong else 0
+
+
+if __name__ == '__main__':
+    sys.exit(main(sys.argv[1:]))

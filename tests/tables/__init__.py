@@ -1,0 +1,1 @@
+"""The scripts of table calls and what they must print."""

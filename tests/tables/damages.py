@@ -1,0 +1,184 @@
+"""Damaged tables: one field of a sound table changed, and every call on it (01,
+"A table is sound if")."""
+
+from second import dates, listing, product, table, trading
+from tables.files import EXAMPLE, SEVEN_YEARS, SIXTEEN_YEARS, ONE_YEAR, first_date
+from tables.script import (CLOSED, CURRENCY, DATE, DAY, FIRST_YEAR, GIVEN, GROUP, ID, KIND, MARKET,
+                           MONTH, NUMBER, SIZE, TICK, YEARS)
+
+
+# 01, The table: "its product fields [..] satisfy [..] 7", each field in turn.
+def product_damages(item):
+    other = 48 if item.kind else 49
+    return [(ID, 0, 32), (ID, 0, 97), (ID, 1, 0), (ID, 3, 33),
+            (GROUP, 0, 97), (GROUP, 1, 48), (GROUP, 2, other), (GROUP, 2, 50), (GROUP, 3, 58),
+            (MARKET, 0, 32), (MARKET, 2, 48), (MARKET, 3, 97),
+            *((KIND, 0, kind) for kind in product.KINDS if kind != item.kind),
+            (SIZE, 0, 0), (TICK, 0, 0), (TICK, 0, 2), (TICK, 0, 65535),
+            (CURRENCY, 0, 74), (CURRENCY, 1, 69), (CURRENCY, 2, 0)]
+
+
+# The place in the map of a day's byte and the day's bit in it.
+def map_place(calendar, day):
+    position = trading.position_of(calendar.first_year, day)
+    return position // 8, 1 << (7 - position % 8)
+
+
+# The place in the map and the bits of the open days, Monday to Friday, of a week
+# of the cover that has no third Friday and lies in one byte.
+def week_in_one_byte(calendar):
+    friday = trading.first_day(calendar)
+    while not (dates.weekday(friday) == dates.FRIDAY and map_place(calendar, friday)[1] < 16
+               and friday - 4 >= trading.first_day(calendar)
+               and listing.third_friday(dates.month_of(friday)) != friday):
+        friday += 1
+    days = [day for day in range(friday - 4, friday + 1) if trading.is_trading_day(calendar, day)]
+    return map_place(calendar, friday)[0], sum(map_place(calendar, day)[1] for day in days)
+
+
+# 01, The table: its "calendar satisfy questions 5, 6 [..], with 1 to 16 years
+# from 2000 to 2099": the cover changed; a weekend bit; a bit after a year's
+# end; a byte of a year beyond the cover; a whole week; a last trading day that
+# is now closed.
+def calendar_damages(now):
+    calendar = now.calendar
+    first_year, years = calendar.first_year, calendar.years
+    saturday = now.date - dates.weekday(now.date) + 5
+    damages = [(FIRST_YEAR, 0, first_year + 1), (FIRST_YEAR, 0, first_year - 1), (FIRST_YEAR, 0, 0),
+               (FIRST_YEAR, 0, 1999), (FIRST_YEAR, 0, 2100), (FIRST_YEAR, 0, 65535),
+               (YEARS, 0, 0), (YEARS, 0, 17), (YEARS, 0, 65535), (YEARS, 0, 1),
+               (CLOSED, *map_place(calendar, saturday)), (CLOSED, *map_place(calendar, saturday + 1)),
+               (CLOSED, 45, 1), (CLOSED, *week_in_one_byte(calendar)),
+               (CLOSED, *map_place(calendar, now.places[1][1]))]
+    if years < trading.YEARS_AT_MOST:
+        damages += [(CLOSED, trading.BYTES_PER_YEAR * years, 16), (CLOSED, trading.MAP_BYTES - 1, 1)]
+    return damages
+
+
+# 01, The table: "its date is in the cover"; "its months and days are the fresh
+# listing [..] and unused places are zero".
+def listing_damages(now):
+    calendar = now.calendar
+    used = len(table.maturities(now))
+    month, day, _ = now.places[0]
+    unused = [(MONTH + place % 3, place, 1) for place in range(used, table.PLACES)]
+    return [(DATE, 0, max(0, trading.first_day(calendar) - 1)), (DATE, 0, trading.last_day(calendar) + 1),
+            (DATE, 0, trading.last_day(calendar)), (DATE, 0, 65535), (DATE, 0, day + 1),
+            (MONTH, 0, month + 1), (MONTH, 0, month - 1), (MONTH, used - 1, 0),
+            (MONTH, used - 1, now.places[used - 1][0] + 1), (MONTH, 1, 65535),
+            (DAY, 0, day - 1), (DAY, 0, day + 1), (DAY, 0, 0), (DAY, used - 1, 65535),
+            (DAY, used - 1, now.places[used - 2][1]), *unused]
+
+
+# 01, The table: "its numbers are distinct, from 1 to the count given; and given
+# − listed is at least 0 and at most the number of cover months before the front
+# month": doubled, zero, above given; given too small and too large.
+def number_damages(now):
+    used = len(table.maturities(now))
+    most = used + now.places[0][0] - trading.first_month(now.calendar)
+    return [(NUMBER, 0, now.places[1][2]), (NUMBER, used - 1, now.places[0][2]),
+            (NUMBER, 2, now.places[used - 1][2]), (NUMBER, 0, 0), (NUMBER, used - 1, 0),
+            (NUMBER, 0, now.given + 1), (NUMBER, used - 1, now.given + 1), (NUMBER, 1, 65535),
+            (GIVEN, 0, used - 1), (GIVEN, 0, now.places[used - 1][2] - 1), (GIVEN, 0, 0),
+            (GIVEN, 0, most + 1), (GIVEN, 0, 65535)]
+
+
+# Changes that leave a table sound: another id, market, size and tick, a closed
+# day in the distance, the largest count given.
+def harmless_changes(now):
+    used = len(table.maturities(now))
+    most = used + now.places[0][0] - trading.first_month(now.calendar)
+    day = now.places[1][1] + 7
+    while not trading.is_trading_day(now.calendar, day):
+        day += 1
+    return [(ID, 0, 90), (ID, 0, 48), (MARKET, 3, 65), (SIZE, 0, 65535), (SIZE, 0, 1), (TICK, 0, 5),
+            (CLOSED, *map_place(now.calendar, day)), (GIVEN, 0, most)]
+
+
+# The first day after a sound table's date that it can close.
+def day_to_close(now):
+    day = now.date + 1
+    while table.close(now, day)[0]:
+        day += 1
+    return day
+
+
+# Every call, with arguments that the saved table would accept: the refusals.
+def every_call(script):
+    now = script.saved
+    return {script.roll(now.date), script.close(day_to_close(now)),
+            script.last_trading_day(now.places[0][0]), script.due(now.places[0][1]),
+            script.tick(100), script.cash(1, 100, 200)}
+
+
+# 01, Questions: "the number of the first answered no": 10 also where later
+# questions would be answered no.
+def every_call_refused_twice(script):
+    refusals = {script.roll(65535), script.roll(0), script.close(65535), script.close(0),
+                script.last_trading_day(65535), script.due(65535), script.due(5),
+                script.tick(0), script.tick(7), script.cash(0, 0, 0), script.cash(0, 100, 100)}
+    if refusals != {10}:
+        raise ValueError('a damaged table is refused by another question than 10')
+
+
+# Every call on a damaged table: 01, question 10, "With it: table calls return
+# the same table and counts 0 and 0".
+def try_damage(script, change):
+    script.restore()
+    script.damage(*change)
+    if every_call(script) != {10}:
+        raise ValueError(f'{change} leaves the table sound')
+
+
+# Every damage of a table.
+def damages_of(now):
+    return (*product_damages(now.product), *calendar_damages(now),
+            *listing_damages(now), *number_damages(now))
+
+
+# The saved table damaged in each way.
+def try_damages(script):
+    for change in damages_of(script.saved):
+        try_damage(script, change)
+    every_call_refused_twice(script)
+
+
+# The saved table with each of the changes that leave it sound.
+def try_harmless_changes(script):
+    for change in harmless_changes(script.saved):
+        script.restore()
+        script.damage(*change)
+        if 10 in every_call(script):
+            raise ValueError(f'{change} does not leave the table sound')
+
+
+# Tables of each kind after a roll and a closure.
+BASES = ((EXAMPLE, b'AXA ', 3000, 100), (EXAMPLE, b'AXAF', 2930, 45), (SEVEN_YEARS, b'TIT ', 6980, 200),
+         (SEVEN_YEARS, b'ENEL', 6980, 150), (SIXTEEN_YEARS, b'FIAT', 31000, 3100))
+
+
+# The damages and the harmless changes of each of these tables.
+def damaged_tables(script):
+    for number, code, date, later in BASES:
+        script.open(number, code, date)
+        script.roll(date + later)
+        script.close(script.book.maturities[1][1])
+        script.save()
+        try_damages(script)
+        try_harmless_changes(script)
+
+
+# 01, The table: "its date is in the cover": the day before the cover, on which
+# the listing would be that of the first day.
+def date_before_cover(script):
+    for name in (b'AXA ', b'AXAF', b'ENI '):
+        start = first_date(EXAMPLE)
+        script.open(EXAMPLE, name, start)
+        script.save()
+        try_damage(script, (DATE, 0, start - 1))
+
+
+# The table of zeros that a refused open gives back is not sound.
+def every_call_on_zeros(script):
+    script.open(ONE_YEAR, b'NONE', 4400)
+    every_call_refused_twice(script)

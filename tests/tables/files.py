@@ -1,0 +1,197 @@
+"""The master files that the scripts of table calls open (01, "Master file")."""
+
+from functools import lru_cache
+
+from second import dates, listing, master, trading
+from second.product import Product
+from second.trading import Calendar
+
+SEED = 20080321
+
+
+# Numbers that look random and are the same in every run.
+class Numbers:
+
+    def __init__(self, seed):
+        self.state = seed
+
+    # A number from 0 to n - 1.
+    def below(self, n):
+        self.state = (self.state * 6364136223846793005 + 1442695040888963407) % 2**64
+        return (self.state >> 33) % n
+
+    # One of several items.
+    def one_of(self, items):
+        return items[self.below(len(items))]
+
+
+# ---- The files ----
+
+# Easter Sunday of a year, as a day number (Gregorian rule of Meeus and Jones).
+def easter_sunday(year):
+    a, b, c = year % 19, year // 100, year % 100
+    h = (19 * a + b - b // 4 - (b - (b + 8) // 25 + 1) // 3 + 15) % 30
+    k = (32 + 2 * (b % 4) + 2 * (c // 4) - h - c % 4) % 7
+    m = (a + 11 * h + 22 * k) // 451
+    month, day = divmod(h + k - 7 * m + 114, 31)
+    return dates.day_of(year, month, day + 1)
+
+
+# The days around the third Friday that a month closes: none, one of them or
+# several in a row.
+def near_third_friday(numbers, month):
+    friday = listing.third_friday(month)
+    back = numbers.one_of(((), (), (0,), (1,), (0, 1), (0, 1, 2), (1, 2, 3), (0, 1, 2, 3), (-3,)))
+    return [friday - days for days in back]
+
+
+# Good Friday, Easter Monday, Christmas and the turn of the year, in some years
+# with the days between.
+def feasts(numbers, year):
+    easter = easter_sunday(year)
+    days_of_december = numbers.one_of(((24, 25, 26, 31), (25, 26), (24, 25, 26, 28, 29, 30, 31)))
+    return ([easter - 2, easter + 1, dates.day_of(year, 1, 1)]
+            + [dates.day_of(year, 12, day) for day in days_of_december])
+
+
+# 01, question 6, for the runs of seven days that have the day.
+def week_still_trades(closed, day):
+    shut = closed | {day}
+    return all(any(dates.is_weekday(one) and one not in shut for one in range(start, start + 7))
+               for start in range(day - 6, day + 1))
+
+
+# The days of a list that may be closed one after the other.
+def closable(days):
+    closed = frozenset()
+    for day in days:
+        if dates.is_weekday(day) and week_still_trades(closed, day):
+            closed |= {day}
+    return closed
+
+
+# A calendar with closures near third Fridays, Easter and the ends of years.
+def clustered(numbers, first_year, years):
+    days = []
+    for year in range(first_year, first_year + years):
+        first = dates.month_number(year, 1)
+        days += feasts(numbers, year)
+        days += [day for month in range(first, first + 12) for day in near_third_friday(numbers, month)]
+    return Calendar(first_year, years, closable(days))
+
+
+# A product from a line: id, group, market, kind, size, tick, currency.
+def product_from(line):
+    code, group, market, kind, size, tick, currency = line.encode('ascii').split()
+    return Product(code.ljust(4), group, market, int(kind), int(size), int(tick), currency)
+
+
+# All kinds, Italian groups and others, every count of days to settlement.
+PRODUCTS = tuple(product_from(line) for line in (
+    '1 CH01 XSWX 0 10 1 CHF',
+    'ABB SE11 XSTO 1 100 5 EUR',
+    'AXA FR11 XPAR 1 100 100 EUR',
+    'AXAF FR01 XPAR 0 100 100 EUR',
+    'BAY DE12 XETR 2 100 10 EUR',
+    'BP GB11 XLON 1 1000 5 GBX',
+    'CRH IE11 XDUB 2 65535 1 EUR',
+    'DAI DE11 XETR 3 100 1 EUR',
+    'ENEL IT11 XMIL 3 500 5 EUR',
+    'ENI IT11 XMIL 1 500 1 EUR',
+    'FIAT IT01 XMIL 0 500 1 EUR',
+    'MSFT US01 XNAS 0 100 10 USD',
+    'NOK1 FI14 XHEL 3 1 5 EUR',
+    'TIT IT11 XMIL 2 1000 10 EUR',
+    'VOD GB01 XLON 0 65535 100 GBP',
+))
+
+
+# The products with these ids, by rising id.
+def products_of(*names):
+    return [item for item in PRODUCTS if item.id.rstrip().decode() in names]
+
+
+# The accepted files: covers of 1, 2, 3, 7 and 16 years, and 01's example.
+def accepted_files():
+    numbers = Numbers(SEED)
+    example = Calendar(2008, 3, frozenset((dates.day_of(2008, 3, 21),)))
+    return [
+        master.build(clustered(numbers, 2012, 1), products_of('AXA', 'ENI', 'DAI')),
+        master.build(clustered(numbers, 2007, 2), products_of('AXA', 'BAY', 'BP', 'ENI', 'TIT', 'FIAT')),
+        master.build(clustered(numbers, 2008, 3), list(PRODUCTS)),
+        master.build(clustered(numbers, 2019, 7), list(PRODUCTS)),
+        master.build(clustered(numbers, 2084, 16), list(PRODUCTS), per_block=9),
+        master.build(example, products_of('AXA', 'AXAF', 'ENI')),
+    ]
+
+
+ONE_YEAR, TWO_YEARS, THREE_YEARS, SEVEN_YEARS, SIXTEEN_YEARS, EXAMPLE = range(6)
+
+
+# Files that questions 1 to 8 refuse, with the number of the question.
+def refused_files():
+    calendar = Calendar(2012, 1, frozenset((4482, 4483)))
+    items = products_of('AXA', 'ENI', 'DAI')
+    week = Calendar(2012, 1, frozenset(range(4510, 4515)))
+
+    def damaged(*damage):
+        return master.build(calendar, items, damages=(damage,))
+
+    return [
+        (1, b''),
+        (1, damaged('length', 1023)),
+        (2, damaged('check', 1, 1)),
+        (2, damaged('bytes only', 0, 20, b'\x01')),
+        (3, damaged('bytes', 0, 2, master.two_bytes(1999))),
+        (3, damaged('bytes', 1, 15, b'\x01')),
+        (4, damaged('exchange', 0, 1)),
+        (4, damaged('repeat', 0)),
+        (5, damaged('bytes', 0, 16, b'\x80')),
+        (5, damaged('bytes', 0, 62, b'\x01')),
+        (6, master.build(week, items)),
+        (7, damaged('bytes', 1, 16 + 12, b'\x04')),
+        (7, damaged('bytes', 1, 16 + 32 * 3, b'\x01')),
+        (8, master.build(calendar, items[::-1])),
+    ]
+
+
+# All master files in the order of their numbers.
+@lru_cache(maxsize=1)
+def all_files():
+    return [*accepted_files(), *(file for _, file in refused_files())]
+
+
+# A file's name in the folder.
+def file_name(number):
+    return f'master{number:02d}.bin'
+
+
+# The calendar of an accepted file.
+def calendar_of(number):
+    return master.contents(all_files()[number])[0]
+
+
+# The product of an accepted file with an id.
+def product_of(number, code):
+    return master.contents(all_files()[number])[1][code]
+
+
+# The first date of an accepted file's cover.
+def first_date(number):
+    return trading.first_day(calendar_of(number))
+
+
+# The last date of a cover on which a product can be opened.
+def last_date(number, code):
+    calendar, item = calendar_of(number), product_of(number, code)
+    date = trading.last_day(calendar)
+    while not listing.listing_in_cover(calendar, item.group, item.kind, date):
+        date -= 1
+    return date
+
+
+# The ids of a file whose listing fits its cover on the first date.
+def openable(number):
+    calendar, products = master.contents(all_files()[number])
+    return [item.id for item in products.values() if listing.listing_in_cover(
+        calendar, item.group, item.kind, trading.first_day(calendar))]

@@ -1,0 +1,88 @@
+"""Calls that fit the moment of a history: the dates, days, months and prices that
+decide between answers (01, "Questions")."""
+
+from second import dates, trading
+
+
+# A date to roll to: equal, a little later, at and after the front month's last
+# trading day, earlier, near the cover's end, outside the cover.
+def some_date(numbers, book):
+    front = book.maturities[0][1]
+    end = trading.last_day(book.calendar)
+    return numbers.one_of((
+        book.date, book.date + 1, book.date + numbers.below(12), front, front, front + 1,
+        front + 1 + numbers.below(40), max(0, book.date - 1 - numbers.below(40)),
+        end - numbers.below(20), end + 1 + numbers.below(400),
+        max(0, trading.first_day(book.calendar) - 1 - numbers.below(400)),
+    ))
+
+
+# A day to close: a last trading day or the day before, one soon after the date,
+# a Saturday, a day already closed, one not after the date, one outside the cover.
+def some_day(numbers, book):
+    _, last, _ = numbers.one_of(book.maturities)
+    front = book.maturities[0][1]
+    soon = book.date + 1 + numbers.below(60)
+    return numbers.one_of((
+        front, front - 1, front, last, last - 1, soon, soon, soon - dates.weekday(soon) + 5,
+        numbers.one_of(sorted(book.calendar.closed)), book.date - numbers.below(3),
+        trading.last_day(book.calendar) + 1 + numbers.below(400),
+        max(0, trading.first_day(book.calendar) - 1 - numbers.below(400)),
+    ))
+
+
+# 01, Where loaders go astray: "Keeping a front month whose day a closure has
+# just moved before the date." The trading day before the front month's last one
+# is closed, the date rolls to the day before the last one, and the last one is
+# closed too.
+def push_calls(book):
+    last = book.maturities[0][1]
+    before = trading.latest_trading_day(book.calendar, last - 1)
+    earlier = trading.latest_trading_day(book.calendar, (before or last) - 1)
+    if earlier is None:
+        return [('C', last)]
+    return [('R', earlier), ('C', before), ('R', last - 1), ('C', last)]
+
+
+# A roll, a close, or calls that push the front month out.
+def some_calls(numbers, book):
+    choice = numbers.below(6)
+    if choice == 0:
+        return push_calls(book)
+    if choice < 3:
+        return [('R', some_date(numbers, book))]
+    return [('C', some_day(numbers, book))]
+
+
+PRICES = (0, 1, 5, 6, 100, 123400, 123456, 999999900, 999999999, 1000000000, 4294967295)
+FINALS = (0, 1, 125000, 999999999, 1000000000, 4294967295)
+CONTRACTS = (0, 1, 3, 100000, 100001, 4294967295)
+
+
+# A month for the call of a listed month: listed, just before and after the
+# listing, between two listed ones, out of range.
+def some_month(numbers, book):
+    month, _, _ = numbers.one_of(book.maturities)
+    return numbers.one_of((month, month, max(0, month - 1), month + 1, 1200, 65535))
+
+
+# A day for the due day: near the date, a last trading day, near the cover's
+# end, outside the cover.
+def some_due_day(numbers, book):
+    _, last, _ = numbers.one_of(book.maturities)
+    end = trading.last_day(book.calendar)
+    return numbers.one_of((last, last, book.date + numbers.below(9), end - numbers.below(6),
+                           end - numbers.below(6), end + 1 + numbers.below(400)))
+
+
+# One of the calls that give values.
+def some_value(script, numbers):
+    choice = numbers.below(4)
+    if choice == 0:
+        script.last_trading_day(some_month(numbers, script.book))
+    elif choice == 1:
+        script.due(some_due_day(numbers, script.book))
+    elif choice == 2:
+        script.tick(numbers.one_of(PRICES))
+    else:
+        script.cash(numbers.one_of(CONTRACTS), numbers.one_of(PRICES), numbers.one_of(FINALS))

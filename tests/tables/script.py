@@ -1,0 +1,280 @@
+"""A script of table calls: its records, the lines that they must print, and the
+table and the book that they leave (01, "The table", "Questions")."""
+
+from dataclasses import replace
+from functools import lru_cache
+
+from second import master, product, table
+from second.book import Book
+from second.trading import Calendar
+
+RECORD = 16
+SUM_MODULUS = 65521
+
+
+# ---- Records of the script ----
+
+# A record: the operation's letter, one byte, one number of two bytes, then
+# further bytes.
+def record(letter, small=0, number=0, rest=b''):
+    return (letter.encode('ascii') + bytes([small]) + number.to_bytes(2, 'big')
+            + rest).ljust(RECORD, b'\0')
+
+
+# Numbers of four bytes, big-endian.
+def long_numbers(*values):
+    return b''.join(value.to_bytes(4, 'big') for value in values)
+
+
+# ---- Printed lines ----
+
+# The sum of (i + 1) × byte i of the calendar's map, mod 65,521.
+@lru_cache(maxsize=256)
+def calendar_sum(calendar):
+    return sum((i + 1) * byte for i, byte in enumerate(calendar.to_map())) % SUM_MODULUS
+
+
+# The sum of a product's fields: at each one 31 times the sum so far, and the
+# field, mod 65,521.
+def product_sum(item):
+    fields = (*item.id, *item.group, *item.market, item.kind, *item.currency, item.size, item.tick)
+    total = 0
+    for field in fields:
+        total = (31 * total + field) % SUM_MODULUS
+    return total
+
+
+# Numbers with a space before each.
+def words(*numbers):
+    return ''.join(f' {number}' for number in numbers)
+
+
+# The words on a table: date, given, first year, years, the two sums, then
+# month, day and number of all 15 places.
+def table_words(item, calendar, date, places, given):
+    unused = [(0, 0, 0)] * (table.PLACES - len(places))
+    return (words(date, given, calendar.first_year, calendar.years,
+                  calendar_sum(calendar), product_sum(item))
+            + ''.join(words(*place) for place in [*places, *unused]))
+
+
+# ---- Damage: one field of a table changed ----
+
+# The fields by number, as the record says them.
+(ID, GROUP, MARKET, KIND, SIZE, TICK, CURRENCY, FIRST_YEAR, YEARS, CLOSED, DATE,
+ MONTH, DAY, NUMBER, GIVEN) = range(15)
+CODES = {ID: 'id', GROUP: 'group', MARKET: 'market', CURRENCY: 'currency'}
+PLAIN = {KIND: 'kind', SIZE: 'size', TICK: 'tick'}
+
+
+# The product with one field changed.
+def damage_product(item, field, place, value):
+    if field in PLAIN:
+        return replace(item, **{PLAIN[field]: value})
+    code = bytearray(getattr(item, CODES[field]))
+    code[place] = value
+    return replace(item, **{CODES[field]: bytes(code)})
+
+
+# The calendar with one field changed; the bytes of its map stay as they are, or
+# one of them is xored with the value.
+def damage_calendar(calendar, field, place, value):
+    data = bytearray(calendar.to_map())
+    first_year, years = calendar.first_year, calendar.years
+    if field == FIRST_YEAR:
+        first_year = value
+    elif field == YEARS:
+        years = value
+    else:
+        data[place] ^= value
+    return Calendar.from_map(first_year, years, bytes(data))
+
+
+# The places with one number of one of them changed.
+def damage_places(places, field, place, value):
+    changed = list(places[place])
+    changed[field - MONTH] = value
+    return (*places[:place], tuple(changed), *places[place + 1:])
+
+
+# The table with one field changed.
+def damage(old, field, place, value):
+    if field in CODES or field in PLAIN:
+        return replace(old, product=damage_product(old.product, field, place, value))
+    if field in (FIRST_YEAR, YEARS, CLOSED):
+        return replace(old, calendar=damage_calendar(old.calendar, field, place, value))
+    if field in (MONTH, DAY, NUMBER):
+        return replace(old, places=damage_places(old.places, field, place, value))
+    return replace(old, **{'date' if field == DATE else 'given': value})
+
+
+# ---- The script ----
+
+# A difference between the table and the book.
+class Differs(Exception):
+    pass
+
+
+# The records written so far, the lines they must print, the table and the book
+# that they leave, and the answers seen.
+class Script:
+
+    def __init__(self, files):
+        self.files = files
+        self.records = []
+        self.lines = []
+        self.table = table.ZERO_TABLE
+        self.saved = table.ZERO_TABLE
+        self.book = None
+        self.seen = set()
+
+    # The file with a number; an empty one where there is none.
+    def file(self, number):
+        return self.files[number] if number < len(self.files) else b''
+
+    # One record and its line.
+    def write(self, entry, line, refusal=None):
+        self.records.append(entry)
+        self.lines.append(line)
+        if refusal is not None:
+            self.seen.add((line[0], refusal))
+
+    # The record of a call that gives the table back, and its line.
+    def write_outcome(self, entry, outcome):
+        refusal, self.table, entered, left = outcome
+        now = self.table
+        self.write(entry, chr(entry[0]) + words(refusal, entered, left) + table_words(
+            now.product, now.calendar, now.date, now.places, now.given), refusal)
+        return refusal
+
+    # 01, The table: the book "is fed the opened product's kind and group, the
+    # file's calendar and the opening's date".
+    def open(self, number, code, date):
+        file = self.file(number)
+        outcome = table.open_table(file, code, date)
+        self.book = None
+        if outcome[0] == 0:
+            calendar, products = master.contents(file)
+            item = products[code]
+            self.book = Book(item.kind, item.group, calendar, date)
+        refusal = self.write_outcome(record('O', number, date, code), outcome)
+        self.compare_with_book(outcome, (0, self.table.given, 0))
+        return refusal
+
+    # 01, The table: "the table's calendar, date, maturities (month, day,
+    # number) and count given are the book's; so are every call's acceptance or
+    # refusal number and its two counts".
+    def compare_with_book(self, outcome, answer):
+        book = self.book
+        if book is None:
+            return
+        refusal, now, entered, left = outcome
+        held = (now.calendar, now.date, table.maturities(now), now.given)
+        if ((refusal, entered, left) != answer
+                or held != (book.calendar, book.date, book.maturities, book.given)):
+            raise Differs(f'after record {len(self.records)}: {outcome} and {answer}')
+
+    def roll(self, date):
+        outcome = table.roll(self.table, date)
+        answer = self.book.roll(date) if self.book else None
+        refusal = self.write_outcome(record('R', number=date), outcome)
+        self.compare_with_book(outcome, answer)
+        return refusal
+
+    def close(self, day):
+        outcome = table.close(self.table, day)
+        answer = self.book.close(day) if self.book else None
+        refusal = self.write_outcome(record('C', number=day), outcome)
+        self.compare_with_book(outcome, answer)
+        if outcome[3]:
+            item = self.table.product
+            self.seen.add(('pushed', item.kind, product.is_italian(item.group)))
+        return refusal
+
+    # 01, Questions: "Last trading day of a listed month: 10, 18."
+    def last_trading_day(self, month):
+        refusal, day = table.last_trading_day(self.table, month)
+        self.write(record('L', number=month), 'L' + words(refusal, day), refusal)
+        return refusal
+
+    # 01, Questions: "Due: 10, 11, 14, 17."
+    def due(self, day):
+        refusal, due_day = table.due(self.table, day)
+        self.write(record('U', number=day), 'U' + words(refusal, due_day), refusal)
+        return refusal
+
+    # 01, Questions: "Tick: 10, 19, 20."
+    def tick(self, price):
+        refusal = table.tick(self.table, price)
+        self.write(record('T', rest=long_numbers(price)), 'T' + words(refusal), refusal)
+        return refusal
+
+    # 01, Questions: "Cash: 10, 19–22."
+    def cash(self, contracts, agreed, final):
+        refusal, amount = table.cash(self.table, contracts, agreed, final)
+        entry = record('Q', rest=long_numbers(contracts, agreed, final))
+        self.write(entry, 'Q' + words(refusal, amount), refusal)
+        return refusal
+
+    def save(self):
+        self.saved = self.table
+        self.write(record('S'), 'S')
+
+    def restore(self):
+        self.table = self.saved
+        self.book = None
+        self.write(record('B'), 'B')
+
+    def damage(self, field, place, value):
+        self.table = damage(self.table, field, place, value)
+        self.book = None
+        entry = record('D', field, place, master.two_bytes(value))
+        self.write(entry, 'D' + words(field, place, value))
+
+    # 01, The table: "The list of rolls and closes starts from the table that an
+    # accepted open gave back". The expected table and answers are the book's.
+    # Where the lists or the buffer do not fit, no call is made.
+    def history(self, number, code, date, calls, days_lent=None, buffer_lent=None):
+        calendar, products = master.contents(self.file(number))
+        item = products[code]
+        book = Book(item.kind, item.group, calendar, date)
+        days_lent = len(calls) if days_lent is None else days_lent
+        buffer_lent = 3 * len(calls) if buffer_lent is None else buffer_lent
+        fits = days_lent == len(calls) and 3 * len(calls) <= buffer_lent
+        answers = [book_call(book, *call) if fits else (0, 0, 0) for call in calls]
+        self.write_history(number, code, date, calls, days_lent, buffer_lent)
+        self.lines.append('H' + words(int(fits), 0) + table_words(
+            item, book.calendar, book.date, book.maturities, book.given))
+        self.lines += ['A' + words(*answer) for answer in answers]
+        self.table = table.ZERO_TABLE
+        self.book = None
+
+    # The same with an id that the file has not: every call is refused by 10.
+    def history_without_open(self, number, code, date, calls):
+        zero = table.ZERO_TABLE
+        self.write_history(number, code, date, calls, len(calls), 3 * len(calls))
+        self.lines.append('H' + words(1, 9) + table_words(
+            zero.product, zero.calendar, zero.date, zero.places, zero.given))
+        self.lines += ['A' + words(10, 0, 0) for _ in calls]
+        self.table = zero
+        self.book = None
+
+    # The record of a history and those of its calls.
+    def write_history(self, number, code, date, calls, days_lent, buffer_lent):
+        lengths = b''.join(map(master.two_bytes, (len(calls), days_lent, buffer_lent)))
+        self.records.append(record('H', number, date, code + lengths))
+        self.records += [record(letter, number=day) for letter, day in calls]
+
+
+# A call of a history, asked of the book: (number, entered, left).
+def book_call(book, letter, day):
+    return book.roll(day) if letter == 'R' else book.close(day)
+
+
+# Rolls and closes one after the other.
+def make(script, calls):
+    for letter, day in calls:
+        if letter == 'R':
+            script.roll(day)
+        else:
+            script.close(day)
