@@ -1,124 +1,65 @@
--- The run of days with no trading before a day, and the test of every seven days.
+-- Weeks that are known to hold a trading day, and the test of every seven days.
 -- Assumes nothing.
 use mathlib.Core.Path.{_≡_, refl, _∙_, sym, ap}
-use mathlib.Core.Bool.{Bool, true, false, _||_, cond, or-true, or-false}
+use mathlib.Core.Bool.{Bool, true, false, _&&_, and-false}
 use mathlib.Core.Logic.{_⊎_, inl, inr}
 use Prim.Native.Nat.{ℕ, zero, suc, _+_, _-_, _≤_, _<_}
-use native.Mathlib.Nat.{le-refl, add-suc, add-assoc}
+use native.Mathlib.Nat.{le-refl}
 use native.Mathlib.Omega.{arith}
-use lib.Dec.{ltb, leb·suc-suc}
-use borrow.Author.Tests.{lt-ltb, le-ltb}
 use Rattle.questions.specs.Search.{every, some, latest}
-use Rattle.questions.proofs.Bools.{lt-or-ge}
-use Rattle.questions.proofs.Search.{every-at, every-none, every-more, every-not, some-one, latest-ge}
+use Rattle.questions.proofs.Bools.{clash, is-false, lt-or-ge}
+use Rattle.questions.proofs.Search.{every-at, every-all, every-not, some-at, some-one, latest-le, latest-ge, latest-passes}
 use Rattle.calendar.specs.declared.Calendar.{Calendar}
-use Rattle.calendar.specs.Trading.{coverStart, coverEnd, tradingDay, someTrades, everyWeek}
-
-module _ (f : ℕ → Bool) (s : ℕ) where
-  -- how many of the days just before s + n, from s on, do not pass
-  pub idle : ℕ → ℕ
-  idle zero = 0
-  idle (suc n) = cond (f (s + n)) 0 (suc (idle n))
-
-  idle-zero : idle 0 ≡ 0
-  unfolding idle
-  idle-zero = refl
-
-  idle-trades : (n : ℕ) → f (s + n) ≡ true → idle (suc n) ≡ 0
-  unfolding idle
-  idle-trades n e = rw e
-
-  idle-more : (n : ℕ) → f (s + n) ≡ false → idle (suc n) ≡ suc (idle n)
-  unfolding idle
-  idle-more n e = rw e
-
-  idle-le : (n : ℕ) → idle n ≤ n
-  idle-le zero = omega (arith, idle-zero)
-  idle-le (suc n) = go (f (s + n)) refl (idle-le n)
-    where
-      go : (b : Bool) → f (s + n) ≡ b → idle n ≤ n → idle (suc n) ≤ suc n
-      go true e h = omega (arith, idle-trades n e)
-      go false e h = omega (arith, idle-more n e)
-
-  -- of j days one passes where fewer than j before their end do not
-  some-idle : (k j : ℕ) → some j (λ i. f (s + k + i)) ≡ ltb (idle (k + j)) j
-  unfolding some
-  some-idle k zero = sym (le-ltb (idle (k + 0)) 0 (omega arith))
-  some-idle k (suc j) = go (f (s + k + j)) refl (some-idle k j)
-    where
-      go : (b : Bool) → f (s + k + j) ≡ b → some j (λ i. f (s + k + i)) ≡ ltb (idle (k + j)) j → (some j (λ i. f (s + k + i)) || b) ≡ ltb (idle (k + suc j)) (suc j)
-      go true e ih =
-          let q : idle (suc (k + j)) ≡ 0 = idle-trades (k + j) (ap f (sym (add-assoc s k j)) ∙ e) in
-          or-true (some j (λ i. f (s + k + i))) ∙ sym (lt-ltb (idle (k + suc j)) (suc j) (rw (add-suc k j) (omega arith)))
-      go false e ih =
-          let q : idle (suc (k + j)) ≡ suc (idle (k + j)) = idle-more (k + j) (ap f (sym (add-assoc s k j)) ∙ e) in
-          or-false (some j (λ i. f (s + k + i))) ∙ ih ∙
-          sym (ap (λ (x : ℕ). ltb x (suc j)) (ap idle (add-suc k j) ∙ q) ∙ leb·suc-suc (suc (idle (k + j))) j)
-
-cond-top : (b : Bool) (i : ℕ) → cond b 0 (i + 1) ≤ i + 1
-cond-top true i = omega arith
-cond-top false i = omega arith
+use Rattle.calendar.specs.Trading.{coverStart, coverEnd, inCover, tradingDay, someTrades, everyWeek}
 
 -- one of the seven days from the k-th day after s on passes
-abbrev pub week : (ℕ → Bool) → ℕ → ℕ → Bool
+abbrev week : (ℕ → Bool) → ℕ → ℕ → Bool
 week f s k = some 7 (λ i. f (s + k + i))
 
--- the loop's state at the day d of the days from s to e: i days just before d do not pass, and every week before d holds one that does
-pub record Run (f : ℕ → Bool) (s e i d : ℕ) : Type 0 where
+-- the loop's state: every week that begins at s or later and before d holds a day that passes
+pub record Held (f : ℕ → Bool) (s e d : ℕ) : Type 0 where
   pub from : s ≤ d
   pub to : d ≤ e
-  pub few : i < 7
-  pub count : i ≡ idle f s (d - s)
-  pub held : every (d - s - 6) (week f s) ≡ true
+  pub held : (k : ℕ) → s + k < d → week f s k ≡ true
 
 module _ (f : ℕ → Bool) (s e : ℕ) where
-  pub run-start : s ≤ e → Run f s e 0 s
-  run-start h =
-      let z : s - s ≡ 0 = omega arith in
-      let y : s - s - 6 ≡ 0 = omega arith in
-      record {
-        from = le-refl s;
-        to = h;
-        few = omega arith;
-        count = sym (ap (idle f s) z ∙ idle-zero f s);
-        held = ap (λ (n : ℕ). every n (week f s)) y ∙ every-none (week f s);
-      }
+  pub held-start : s ≤ e → Held f s e s
+  held-start h = record { from = le-refl s; to = h; held = λ k l. absurd (omega arith) }
 
-  module _ (i d j : ℕ) (r : Run f s e i d) (l : d < e) (q : j ≡ cond (f d) 0 (i + 1)) where
-    counted : j ≡ idle f s (suc (d - s))
-    counted = go (f d) refl q
+  module _ (d : ℕ) (h : Held f s e d) (l : d + 7 ≤ e) where
+    -- the latest day of the week from d on that passes is in the weeks that begin up to it
+    pub held-step : 0 < latest f (d + 6) → d ≤ latest f (d + 6) → Held f s e (latest f (d + 6) + 1)
+    held-step p q = record { from = omega arith; to = omega (arith, latest-le f (d + 6)); held = λ k b. side k b (lt-or-ge (s + k) d) }
       where
-        at : s + (d - s) ≡ d
-        at = omega arith
+        side : (k : ℕ) → s + k < latest f (d + 6) + 1 → (s + k < d) ⊎ (d ≤ s + k) → week f s k ≡ true
+        side k b (inl r) = h .held k r
+        side k b (inr r) =
+            let i = latest f (d + 6) - (s + k) in
+            let at : s + k + i ≡ latest f (d + 6) = omega arith in
+            some-at (λ i. f (s + k + i)) 7 i (ap f at ∙ latest-passes f (d + 6) p) (omega (arith, latest-le f (d + 6)))
 
-        go : (b : Bool) → f d ≡ b → j ≡ cond b 0 (i + 1) → j ≡ idle f s (suc (d - s))
-        go true t p = omega (arith, idle-trades f s (d - s) (ap f at ∙ t))
-        go false t p = omega (arith, idle-more f s (d - s) (ap f at ∙ t))
-
-    -- the run of seven days that ends with d
-    last-week : 6 ≤ d - s → week f s (d - s - 6) ≡ ltb j 7
-    last-week h = some-idle f s (d - s - 6) 7 ∙ ap (λ (x : ℕ). ltb x 7) (ap (idle f s) (omega arith) ∙ sym counted)
-
-    pub run-step : (j ≡ 7 → ⊥) → Run f s e j (d + 1)
-    run-step ne =
-        record { from = omega arith; to = omega arith; few = few; count = counted ∙ ap (idle f s) (omega arith); held = go (lt-or-ge (d - s) 6) }
+    -- no day of the week from d on passes
+    pub held-fails : f 0 ≡ false → (0 < latest f (d + 6) → latest f (d + 6) < d) → every (e - s - 6) (week f s) ≡ false
+    held-fails z q = every-not (week f s) (e - s - 6) (d - s) (is-false (week f s (d - s)) none) (omega arith)
       where
-        few : j < 7
-        few = omega (arith, cond-top (f d) i)
+        none : week f s (d - s) ≡ true → ⊥
+        none t =
+            let p = some-one (λ i. f (s + (d - s) + i)) 7 t in
+            let x = s + (d - s) + p .at in
+            let b : x ≤ latest f (d + 6) = latest-ge f (d + 6) x (omega arith) (p .passes) in
+            zero-or x (p .passes) (λ c. omega (arith, q (omega arith)))
+          where
+            zero-or : (x : ℕ) → f x ≡ true → (0 < x → ⊥) → ⊥
+            zero-or zero a c = clash a z
+            zero-or (suc x) a c = c (omega arith)
 
-        go : (d - s < 6) ⊎ (6 ≤ d - s) → every (d + 1 - s - 6) (week f s) ≡ true
-        go (inl h) = ap (λ (n : ℕ). every n (week f s)) (omega arith) ∙ every-none (week f s)
-        go (inr h) =
-            ap (λ (n : ℕ). every n (week f s)) (omega arith) ∙
-            every-more (week f s) (d - s - 6) (r .held) (last-week h ∙ lt-ltb j 7 few)
+  pub held-ends : (d : ℕ) → Held f s e d → e < d + 7 → every (e - s - 6) (week f s) ≡ true
+  held-ends d h l = every-all (week f s) (e - s - 6) (λ k b. h .held k (omega arith))
 
-    pub run-fails : j ≡ 7 → every (e - s - 6) (week f s) ≡ false
-    run-fails t =
-        let h : 6 ≤ d - s = omega (arith, idle-le f s (suc (d - s)), counted) in
-        every-not (week f s) (e - s - 6) (d - s - 6) (last-week h ∙ le-ltb j 7 (omega arith)) (omega arith)
-
-  pub run-ends : (i d : ℕ) → Run f s e i d → e ≤ d → every (e - s - 6) (week f s) ≡ true
-  run-ends i d r h = ap (λ (n : ℕ). every n (week f s)) (omega arith) ∙ r .held
+-- day 0 is a Saturday
+pub zero-idle : (cal : Calendar) → tradingDay cal 0 ≡ false
+unfolding tradingDay
+zero-idle cal = and-false (inCover (cal .cover) 0)
 
 -- every seven consecutive days wholly in the cover hold a trading day
 pub every-week : (cal : Calendar) → everyWeek cal ≡ true → (s : ℕ) → coverStart (cal .cover) ≤ s → s + 7 ≤ coverEnd (cal .cover) → someTrades cal s 7 ≡ true

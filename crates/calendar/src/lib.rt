@@ -234,23 +234,21 @@ pub fn is_clean(cal: Calendar) -> bool
 }
 
 // Question 6: every run of seven days in the cover holds a trading day.
+// The latest trading day of the run that begins at `first` is also in the runs that begin after it and up to that day.
 pub fn every_week_trades(cal: Calendar) -> bool
     ensures { λ r. ⌜ r ≡ everyWeek cal ⌝ }
 {
-    let start = cover_start(cal.cover);
     let end = cover_end(cal.cover);
-    let mut idle: u16 = 0;
-    let mut d = start;
-    while d < end {
-        if is_trading_day(cal, d) {
-            idle = 0;
-        } else {
-            idle += 1;
-        }
-        if idle == 7 {
+    let mut first = cover_start(cal.cover);
+    while first + 7 <= end {
+        let last = latest_trading_day(cal, first + 6);
+        if last == 0 {
             return false;
         }
-        d += 1;
+        if last < first {
+            return false;
+        }
+        first = last + 1;
     }
     true
 }
