@@ -15,7 +15,7 @@ use Rattle.listing.specs.Rules.{lastDay, front, taken, freshKeys, complete, pla
 use Rattle.listing.specs.Months.{thirdFriday, anchorOf, lastTradingDay, inSet, placesOf, monthly}
 use Rattle.table.specs.Numbering.{isListed, numberOf, renumbered, numbersRight}
 use Rattle.table.specs.Table.{listsFresh, countFrom, monthsBefore, sound, openedTable}
-use Rattle.table.specs.Values.{tickCall}
+use Rattle.values.specs.Values.{tickCall}
 use Rattle.examples.specs.Examples.{rows, allHold, only21, also20, monthsOn, axa, axaTable}
 
 pub examples-hold : allHold rows ≡ true

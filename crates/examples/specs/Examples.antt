@@ -21,7 +21,7 @@ use Rattle.listing.specs.Rules.{freshKeys}
 use Rattle.listing.specs.Months.{thirdFriday, lastTradingDay, ruleOf}
 use Rattle.table.specs.declared.Table.{Table}
 use Rattle.table.specs.Table.{openedTable}
-use Rattle.table.specs.Values.{tickCall}
+use Rattle.values.specs.Values.{tickCall}
 
 -- a call's refusal and value
 abbrev pub answers : Answer ℕ → ℕ → ℕ → Bool

@@ -7,8 +7,8 @@ use Rattle.questions.proofs.Bools.{and-both}
 use Rattle.master.specs.Calendars.{calendarOf}
 use Rattle.master.specs.Load.{productOf}
 use Rattle.master.proofs.Accepting.{accepted-file}
-use Rattle.table.specs.Opening.{openCall}
-use Rattle.table.proofs.Opened.{opened-from, opened-table}
+use Rattle.opening.specs.Opening.{openCall}
+use Rattle.opening.proofs.Opened.{opened-from, opened-table}
 use Rattle.history.specs.Book.{Call}
 use Rattle.history.specs.History.{opens}
 use Rattle.history.specs.Replay.{FromFile}

@@ -9,7 +9,7 @@ use lib.ListN.{length, drop}
 use Rattle.master.specs.Calendars.{calendarOf}
 use Rattle.master.specs.Load.{productOf}
 use Rattle.table.specs.Table.{openedTable}
-use Rattle.table.specs.Opening.{openCall}
+use Rattle.opening.specs.Opening.{openCall}
 use Rattle.history.specs.declared.Replay.{Replay}
 use Rattle.history.specs.Book.{Call, roll, close, Reply}
 use Rattle.history.specs.History.{tableRun, tableReplies, Demand3}

@@ -46,7 +46,7 @@ pub fn run(
 ) -> Replay
     ensures { λ r. ⌜ Replayed (now (file .entry)) id date (now (kinds .entry)) (now (days .entry)) (now (buffer .entry)) (now (buffer .exit)) r ⌝ }
 {
-    let opened = table::open(file, id, date);
+    let opened = opening::open(file, id, date);
     let refusal = opened.refusal;
     let mut t = opened.table;
     let n = kinds.len();

@@ -25,8 +25,8 @@ use Rattle.listing.proofs.Taking.{rest, rest-room}
 use Rattle.listing.proofs.Fresh.{front-is}
 use Rattle.table.specs.declared.Table.{Table}
 use Rattle.table.specs.declared.Outcome.{Outcome}
-use Rattle.table.specs.Numbering.{numbersRight}
-use Rattle.table.specs.Table.{freshOf, allInCover, placesUsed, placeRight, listsFresh, countFrom, monthsBefore, listingSound, sound, movedTo, moved, refusedWith, answered, rollAsks, rollCall, closeAsks, closeCall}
+use Rattle.table.specs.Numbering.{isListed, numbersRight}
+use Rattle.table.specs.Table.{freshOf, allInCover, placesUsed, held, placeRight, listsFresh, countFrom, monthsBefore, listingSound, sound, movedTo, moved, refusedWith, answered, rollAsks, rollCall, closeAsks, closeCall}
 
 -- a search below b ends below b, or where there is none at a number that is not above it
 first-most : (f : ℕ → Bool) (none n d b : ℕ) → none ≤ b → d + n ≤ b → firstFrom f none n d ≤ b
@@ -62,6 +62,10 @@ used-is t = refl
 pub used-most : (t : Table) → placesUsed t ≤ 15
 unfolding rest
 used-most t = rw (used-is t) (rest-room (t .product .kind))
+
+-- the code's search for the month is in the places that are used
+pub listed-is : (t : Table) (month n : ℕ) (b : Bool) → n ≡ length (placesOf (rowOf (t .product .kind)) monthSets) → b ≡ isListed (take n (t .maturities)) month → b ≡ isListed (held t) month
+listed-is t month n b q r = r ∙ ap (λ (k : ℕ). isListed (take k (t .maturities)) month) (q ∙ sym (used-is t))
 
 -- a complete fresh listing fills the places that are used
 pub fresh-held : (cal : Calendar) (kind : Kind) (group : List ℕ) (date n : ℕ) → n ≡ length (placesOf (rowOf kind) monthSets) → allInCover cal kind group date ≡ true

@@ -1,4 +1,2 @@
 pub mod Parts
 pub mod Calls
-pub mod Opened
-pub mod Answers

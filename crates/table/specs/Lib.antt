@@ -1,4 +1,2 @@
 pub mod Numbering
 pub mod Table
-pub mod Opening
-pub mod Values

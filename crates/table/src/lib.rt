@@ -1,14 +1,9 @@
 // The table of listed maturities of one product, and the calls on it.
 mod numbers;
-mod opening;
-mod values;
 
 use calendar::Calendar;
 use listing::Maturity;
-pub use opening::open;
 use product::Product;
-pub use values::CashReply;
-pub use values::DayReply;
 ghost use mathlib.Core.Path.{_≡_};
 ghost use Prim.Native.Nat.{_-_, _≤_, _<_};
 ghost use lib.ListN.{getD, take};
@@ -16,7 +11,8 @@ ghost use Rattle.questions.specs.Search.{every};
 ghost use Rattle.days.specs.Dates.{monthOf};
 ghost use Rattle.calendar.specs.Trading.{coverStart};
 ghost use Rattle.listing.specs.Months.{frontMonth};
-ghost use Rattle.table.specs.Table.{placeRight, listingSound, sound, placesUsed, movedTo, refusedWith, rollCall, closeCall};
+ghost use Rattle.table.specs.Numbering.{isListed};
+ghost use Rattle.table.specs.Table.{held, placeRight, listingSound, sound, placesUsed, movedTo, refusedWith, rollCall, closeCall};
 
 // A product, its calendar, a date, up to 15 maturities by rising month, and the count of numbers given.
 pub struct Table {
@@ -132,7 +128,19 @@ pub fn is_sound(t: Table) -> bool
     is_listing_sound(t)
 }
 
-fn refused(t: Table, number: u8) -> Outcome
+// Whether a month is listed in the places that are used.
+pub fn is_month_listed(t: Table, month: u16) -> bool
+    ensures { λ r. ⌜ r ≡ isListed (held t) month ⌝ }
+{
+    let p = t.product;
+    let kind = p.kind;
+    let maturities = t.maturities;
+    let n = listing::months_listed(kind) as usize;
+    numbers::is_listed(maturities, n, month)
+}
+
+// The same table with the number of a question and counts 0 and 0.
+pub fn refused(t: Table, number: u8) -> Outcome
     ensures { λ r. ⌜ r ≡ refusedWith t number ⌝ }
 {
     Outcome {

@@ -5,7 +5,7 @@ ghost use mathlib.Core.Bool.{cond};
 ghost use Prim.Native.Nat.{ℕ, _+_, _≤_, _<_};
 ghost use lib.ListN.{length, take};
 ghost use Rattle.listing.specs.Rules.{places15};
-ghost use Rattle.table.specs.Numbering.{isListed, numberOf, missing, renumbered, numberedFresh, numbersRight, unlikeBefore, numberRight, withNumber};
+ghost use Rattle.table.specs.Numbering.{isListed, numberOf, missing, renumbered, numbersRight, unlikeBefore, numberRight, withNumber};
 
 // A maturity with its number, and the count of numbers given after it.
 pub struct NumberedMaturity {
@@ -115,32 +115,6 @@ pub(crate) fn renumber(
         let t = s.maturity;
         maturities[i] = t;
         given_so_far = s.given;
-        i += 1;
-    }
-    maturities
-}
-
-// The first n fresh maturities, numbered 1, 2, ..
-pub(crate) fn number_from_one(fresh: [Maturity; 15], n: usize) -> [Maturity; 15]
-    requires { ⌜ n ≤ 15 ⌝ }
-    ensures { λ r. ⌜ r ≡ places15 (numberedFresh (take n fresh)) ⌝ }
-{
-    let unused = Maturity {
-        month: 0,
-        day: 0,
-        number: 0,
-    };
-    let mut maturities = [unused; 15];
-    let mut given: u16 = 0;
-    let mut i: usize = 0;
-    while i < n {
-        let m = fresh[i];
-        given += 1;
-        maturities[i] = Maturity {
-            month: m.month,
-            day: m.day,
-            number: given,
-        };
         i += 1;
     }
     maturities

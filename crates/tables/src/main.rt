@@ -5,7 +5,7 @@ mod histories;
 mod reading;
 mod show;
 mod text;
-mod values;
+mod value_calls;
 
 use reading::two;
 use table::Table;
@@ -65,7 +65,7 @@ fn step(fd: i32, bytes: [u8; 16], state: State) -> State {
             saved: saved,
         };
     }
-    values::print(bytes, t);
+    value_calls::print(bytes, t);
     let next = table_step(fd, bytes, t);
     State {
         table: next,

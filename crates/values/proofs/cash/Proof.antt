@@ -1,0 +1,86 @@
+use Rattle.values.proofs.Answers.{cash-10, cash-19, cash-20, cash-21, cash-22, cash-yes, both-are}
+use Rattle.questions.proofs.Bools.{said-no, said-yes}
+use mir.Syntax.{w64}
+use mir.Facts.{toZ-ofZ}
+use mathlib.Core.Path.{_∙_, sym}
+use Rattle.values.proofs.cash.Statement.{statement}
+use Rattle.values.proofs.cash.Tie as tie
+
+is-sound-requires : tie.Need-is-sound-requires
+is-sound-requires c κs = tt
+
+no-cash-requires : tie.Need-no-cash-requires
+no-cash-requires c κs = tt
+
+returns : tie.Need-returns
+returns c = c .no-cash .ensures ∙ sym (cash-10 _ _ _ _ (said-no (c .before .before .is-sound .ensures) (c .before .if1 .taken)))
+
+price-right-requires : tie.Need-price-right-requires
+price-right-requires c κs = tt
+
+no-cash-requires-2 : tie.Need-no-cash-requires-2
+no-cash-requires-2 c κs = tt
+
+returns-2 : tie.Need-returns-2
+returns-2 c = c .no-cash2 .ensures ∙ sym (cash-19 _ _ _ _ (said-yes (c .before .before .before .before .is-sound .ensures) (c .before .before .before .if1 .left)) (said-no (c .before .before .price-right .ensures) (c .before .if2 .taken)))
+
+is-multiple-requires : tie.Need-is-multiple-requires
+is-multiple-requires c κs = tt
+
+no-cash-requires-3 : tie.Need-no-cash-requires-3
+no-cash-requires-3 c κs = tt
+
+returns-3 : tie.Need-returns-3
+returns-3 c = c .no-cash3 .ensures ∙ sym (cash-20 _ _ _ _ (said-yes (c .before .before .before .before .before .before .before .is-sound .ensures) (c .before .before .before .before .before .before .if1 .left)) (said-yes (c .before .before .before .before .before .price-right .ensures) (c .before .before .before .before .if2 .left)) (said-no (c .before .before .is-multiple .ensures) (c .before .if3 .taken)))
+
+is-future-requires : tie.Need-is-future-requires
+is-future-requires c κs = tt
+
+no-cash-requires-4 : tie.Need-no-cash-requires-4
+no-cash-requires-4 c κs = tt
+
+returns-4 : tie.Need-returns-4
+returns-4 c = c .no-cash4 .ensures ∙ sym (cash-21 _ _ _ _ (said-yes (c .before .before .before .before .before .before .before .before .before .is-sound .ensures) (c .before .before .before .before .before .before .before .before .if1 .left)) (said-yes (c .before .before .before .before .before .before .before .price-right .ensures) (c .before .before .before .before .before .before .if2 .left)) (said-yes (c .before .before .before .before .is-multiple .ensures) (c .before .before .before .if3 .left)) (said-no (c .before .before .is-future .ensures) (c .before .if4 .taken)))
+
+final-right-requires : tie.Need-final-right-requires
+final-right-requires c κs = tt
+
+contracts-right-requires : tie.Need-contracts-right-requires
+contracts-right-requires c κs = tt
+
+no-cash-requires-5 : tie.Need-no-cash-requires-5
+no-cash-requires-5 c κs = tt
+
+returns-5 : tie.Need-returns-5
+returns-5 c = c .no-cash5 .ensures ∙ sym (cash-22 _ _ _ _ (said-yes (c .before .before .before .before .before .before .before .before .before .before .before .before .is-sound .ensures) (c .before .before .before .before .before .before .before .before .before .before .before .if1 .left)) (said-yes (c .before .before .before .before .before .before .before .before .before .before .price-right .ensures) (c .before .before .before .before .before .before .before .before .before .if2 .left)) (said-yes (c .before .before .before .before .before .before .before .is-multiple .ensures) (c .before .before .before .before .before .before .if3 .left)) (said-yes (c .before .before .before .before .before .is-future .ensures) (c .before .before .before .before .if4 .left)) (said-no (both-are (c .before .before .before .final-right .ensures) (c .before .before .contracts-right .ensures)) (c .before .if5 .taken)))
+
+cash-requires : tie.Need-cash-requires
+cash-requires c κs = tt
+
+returns-6 : tie.Need-returns-6
+returns-6 c =
+    let amount = toZ-ofZ {w = w64} {z = c .cash .result} (record { sfits = c .cash .ok }) ∙ c .cash .ensures in
+    sym (cash-yes _ _ _ _ (said-yes (c .before .before .before .before .before .before .before .before .before .before .before .before .is-sound .ensures) (c .before .before .before .before .before .before .before .before .before .before .before .if1 .left)) (said-yes (c .before .before .before .before .before .before .before .before .before .before .price-right .ensures) (c .before .before .before .before .before .before .before .before .before .if2 .left)) (said-yes (c .before .before .before .before .before .before .before .is-multiple .ensures) (c .before .before .before .before .before .before .if3 .left)) (said-yes (c .before .before .before .before .before .is-future .ensures) (c .before .before .before .before .if4 .left)) (said-yes (both-are (c .before .before .before .final-right .ensures) (c .before .before .contracts-right .ensures)) (c .before .if5 .left)) _ amount)
+
+pub cash-spec : {M : Type 1} → statement M
+cash-spec =
+    tie.close
+    (tie.spec
+    is-sound-requires
+    no-cash-requires
+    returns
+    price-right-requires
+    no-cash-requires-2
+    returns-2
+    is-multiple-requires
+    no-cash-requires-3
+    returns-3
+    is-future-requires
+    no-cash-requires-4
+    returns-4
+    final-right-requires
+    contracts-right-requires
+    no-cash-requires-5
+    returns-5
+    cash-requires
+    returns-6)

@@ -1,0 +1,38 @@
+use Rattle.values.proofs.Answers.{tick-10, tick-19, tick-20, tick-yes}
+use Rattle.questions.proofs.Bools.{said-no, said-yes}
+use mathlib.Core.Path.{sym}
+use Rattle.values.proofs.tick.Statement.{statement}
+use Rattle.values.proofs.tick.Tie as tie
+
+is-sound-requires : tie.Need-is-sound-requires
+is-sound-requires c κs = tt
+
+returns : tie.Need-returns
+returns c = sym (tick-10 _ _ (said-no (c .before .is-sound .ensures) (c .if1 .taken)))
+
+price-right-requires : tie.Need-price-right-requires
+price-right-requires c κs = tt
+
+returns-2 : tie.Need-returns-2
+returns-2 c = sym (tick-19 _ _ (said-yes (c .before .before .before .is-sound .ensures) (c .before .before .if1 .left)) (said-no (c .before .price-right .ensures) (c .if2 .taken)))
+
+is-multiple-requires : tie.Need-is-multiple-requires
+is-multiple-requires c κs = tt
+
+returns-3 : tie.Need-returns-3
+returns-3 c = sym (tick-20 _ _ (said-yes (c .before .before .before .before .before .before .is-sound .ensures) (c .before .before .before .before .before .if1 .left)) (said-yes (c .before .before .before .before .price-right .ensures) (c .before .before .before .if2 .left)) (said-no (c .before .is-multiple .ensures) (c .if3 .taken)))
+
+returns-4 : tie.Need-returns-4
+returns-4 c = sym (tick-yes _ _ (said-yes (c .before .before .before .before .before .before .is-sound .ensures) (c .before .before .before .before .before .if1 .left)) (said-yes (c .before .before .before .before .price-right .ensures) (c .before .before .before .if2 .left)) (said-yes (c .before .is-multiple .ensures) (c .if3 .left)))
+
+pub tick-spec : {M : Type 1} → statement M
+tick-spec =
+    tie.close
+    (tie.spec
+    is-sound-requires
+    returns
+    price-right-requires
+    returns-2
+    is-multiple-requires
+    returns-3
+    returns-4)
