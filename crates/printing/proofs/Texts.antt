@@ -1,0 +1,65 @@
+-- The texts of numbers, days and maturities, case by case.
+-- Assumes nothing.
+use mathlib.Core.Path.{_≡_, refl, _∙_, sym, ap}
+use mathlib.Core.Bool.{Bool, true, false, cond}
+use mathlib.Core.List.{List, [], _∷_, _++_}
+use Prim.Native.Nat.{ℕ, suc, _+_, _/_, _%_, _≤_, _<_}
+use native.Mathlib.Numerals.{add-one}
+use native.Mathlib.Omega.{arith}
+use lib.ListN.{getD}
+use borrow.Author.Tests.{lt-ltb, le-ltb}
+use Rattle.questions.specs.Questions.{Answer}
+use Rattle.days.specs.declared.Date.{Date}
+use Rattle.days.specs.declared.DateAnswer.{DateAnswer}
+use Rattle.days.specs.declared.DateAnswer.the-variants.{Is, NotADay}
+use Rattle.days.specs.Dates.{dateCall, dateAnswer, noDate}
+use Rattle.listing.specs.declared.Maturity.{Maturity}
+use Rattle.listing.specs.Rules.{unused}
+use Rattle.printing.specs.Text.{lastDigit, two, four, decimal, maturityText, maturitiesText}
+use Rattle.printing.specs.Buffer.{Written}
+
+-- a number by how many digits it has
+module _ (n : ℕ) where
+  pub decimal-1 : n < 10 → decimal n ≡ lastDigit n ∷ []
+  unfolding decimal
+  decimal-1 a = rw (lt-ltb n 10 a) refl
+
+  module _ (a : 10 ≤ n) where
+    pub decimal-2 : n < 100 → decimal n ≡ two n
+    unfolding decimal
+    decimal-2 b = rw (le-ltb n 10 a, lt-ltb n 100 b) refl
+
+    module _ (b : 100 ≤ n) where
+      pub decimal-3 : n < 1000 → decimal n ≡ lastDigit (n / 100) ∷ two (n % 100)
+      unfolding decimal
+      decimal-3 d = rw (le-ltb n 10 a, le-ltb n 100 b, lt-ltb n 1000 d) refl
+
+      module _ (d : 1000 ≤ n) where
+        pub decimal-4 : n < 10000 → decimal n ≡ four n
+        unfolding decimal
+        decimal-4 e = rw (le-ltb n 10 a, le-ltb n 100 b, le-ltb n 1000 d, lt-ltb n 10000 e) refl
+
+        pub decimal-5 : 10000 ≤ n → decimal n ≡ lastDigit (n / 10000) ∷ four (n % 10000)
+        unfolding decimal
+        decimal-5 e = rw (le-ltb n 10 a, le-ltb n 100 b, le-ltb n 1000 d, le-ltb n 10000 e) refl
+
+-- the date in the answer of the call from a day to its date
+pub is-date : (a : DateAnswer) (d : ℕ) (x : Date) → dateAnswer a ≡ dateCall d → a ≡ Is x → x ≡ dateCall d .value
+is-date a d x e q = ap (λ (r : Answer Date). r .value) (sym (ap dateAnswer q) ∙ e)
+
+pub no-date : (a : DateAnswer) (d : ℕ) → dateAnswer a ≡ dateCall d → a ≡ NotADay → noDate ≡ dateCall d .value
+no-date a d e q = ap (λ (r : Answer Date). r .value) (sym (ap dateAnswer q) ∙ e)
+
+-- no maturity, and one more
+pub no-lines : (a : List ℕ) (at : ℕ) (ms : List Maturity) → Written a a at at (maturitiesText 0 ms)
+unfolding maturitiesText
+no-lines a at ms = record { is = refl; to = omega arith; long = refl }
+
+pub more-lines : (i : ℕ) (ms : List Maturity) → maturitiesText (i + 1) ms ≡ maturitiesText i ms ++ maturityText (getD ms i unused)
+unfolding maturitiesText
+more-lines i ms = rw (add-one i) refl
+
+pub lines-done : {a b : List ℕ} {at next : ℕ} (i n : ℕ) (ms : List Maturity) → n ≤ i → i ≤ n → Written a b at next (maturitiesText i ms) → Written a b at next (maturitiesText n ms)
+lines-done i n ms h l w =
+    let e : n ≡ i = omega arith in
+    rw e w

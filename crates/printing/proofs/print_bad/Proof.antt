@@ -1,0 +1,31 @@
+use Rattle.printing.proofs.Writing.{printed, unprinted, room-long}
+use Rattle.questions.proofs.Bools.{said-no, said-yes}
+use native.Mathlib.Omega.{arith}
+use borrow.Author.Needs.{needs}
+use Rattle.printing.proofs.print_bad.Statement.{statement}
+use Rattle.printing.proofs.print_bad.Tie as tie
+
+has-room-requires : tie.Need-has-room-requires
+has-room-requires c κs = tt
+
+same-length : tie.Need-same-length
+same-length c = search needs
+
+returns : tie.Need-returns
+returns c = unprinted (said-no (c .before .has-room .ensures) (c .if1 .taken))
+
+put-bad-requires : tie.Need-put-bad-requires
+put-bad-requires c κs = omega (arith, room-long _ _ (said-yes (c .before .before .has-room .ensures) (c .before .if1 .left)))
+
+same-length-2 : tie.Need-same-length-2
+same-length-2 c = c .before .before .put-bad .ensures .0 .long
+
+returns-2 : tie.Need-returns-2
+returns-2 c =
+    let w = c .before .before .put-bad .ensures in
+    printed (said-yes (c .before .before .before .before .before .has-room .ensures) (c .before .before .before .before .if1 .left)) (w .0) (omega (arith, w .1))
+
+pub print-bad-spec : {M : Type 1} → statement M
+print-bad-spec =
+    tie.close
+    (tie.spec has-room-requires same-length returns put-bad-requires same-length-2 returns-2)

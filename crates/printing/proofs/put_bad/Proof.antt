@@ -1,0 +1,29 @@
+use native.Mathlib.Omega.{arith}
+use Rattle.printing.proofs.Writing.{then}
+use Rattle.printing.specs.Text.{badText}
+use borrow.Author.Needs.{needs}
+use Rattle.printing.proofs.put_bad.Statement.{statement}
+use Rattle.printing.proofs.put_bad.Tie as tie
+
+put-requires : tie.Need-put-requires
+put-requires c κs = search needs
+
+put-requires-2 : tie.Need-put-requires-2
+put-requires-2 c κs = search needs
+
+put-requires-3 : tie.Need-put-requires-3
+put-requires-3 c κs = search needs
+
+put-requires-4 : tie.Need-put-requires-4
+put-requires-4 c κs = search needs
+
+same-length : tie.Need-same-length
+same-length c = search needs
+
+returns : tie.Need-returns
+unfolding badText
+returns c = (then (c .before .before .before .before .before .before .before .before .before .before .before .before .before .before .put .ensures .0) (then (c .before .before .before .before .before .before .before .before .before .before .put2 .ensures .0) (then (c .before .before .before .before .before .before .put3 .ensures .0) (c .before .before .put4 .ensures .0))), omega (arith, c .before .before .before .before .before .before .before .before .before .before .before .before .before .before .put .ensures .1, c .before .before .before .before .before .before .before .before .before .before .put2 .ensures .1, c .before .before .before .before .before .before .put3 .ensures .1, c .before .before .put4 .ensures .1))
+
+pub put-bad-spec : {M : Type 1} → statement M
+put-bad-spec =
+    tie.close (tie.spec put-requires put-requires-2 put-requires-3 put-requires-4 same-length returns)

@@ -1,0 +1,29 @@
+use native.Mathlib.Omega.{arith}
+use Rattle.printing.proofs.Writing.{then}
+use Rattle.printing.specs.Text.{dateText, dayText}
+use borrow.Author.Needs.{needs}
+use Rattle.printing.proofs.put_day.Statement.{statement}
+use Rattle.printing.proofs.put_day.Tie as tie
+
+date-or-zeros-requires : tie.Need-date-or-zeros-requires
+date-or-zeros-requires c κs = search needs
+
+put-year-month-requires : tie.Need-put-year-month-requires
+put-year-month-requires c κs = search needs
+
+put-requires : tie.Need-put-requires
+put-requires c κs = search needs
+
+put-two-requires : tie.Need-put-two-requires
+put-two-requires c κs = search needs
+
+same-length : tie.Need-same-length
+same-length c = search needs
+
+returns : tie.Need-returns
+unfolding dayText dateText
+returns c = (rw (← c .before .before .before .before .before .before .before .before .before .before .before .before .date-or-zeros .ensures) (then (c .before .before .before .before .before .before .before .before .before .before .put-year-month .ensures .0) (then (c .before .before .before .before .before .before .put .ensures .0) (c .before .before .put-two .ensures .0))), omega (arith, c .before .before .before .before .before .before .before .before .before .before .put-year-month .ensures .1, c .before .before .before .before .before .before .put .ensures .1, c .before .before .put-two .ensures .1))
+
+pub put-day-spec : {M : Type 1} → statement M
+put-day-spec =
+    tie.close (tie.spec date-or-zeros-requires put-year-month-requires put-requires put-two-requires same-length returns)

@@ -1,0 +1,23 @@
+use native.Mathlib.Omega.{arith}
+use Rattle.printing.proofs.Writing.{then}
+use Rattle.printing.specs.Text.{four}
+use borrow.Author.Needs.{needs}
+use Rattle.printing.proofs.put_four.Statement.{statement}
+use Rattle.printing.proofs.put_four.Tie as tie
+
+put-two-requires : tie.Need-put-two-requires
+put-two-requires c κs = search needs
+
+put-two-requires-2 : tie.Need-put-two-requires-2
+put-two-requires-2 c κs = search needs
+
+same-length : tie.Need-same-length
+same-length c = search needs
+
+returns : tie.Need-returns
+unfolding four
+returns c = (then (c .before .before .before .before .before .before .put-two .ensures .0) (c .before .before .put-two2 .ensures .0), omega (arith, c .before .before .before .before .before .before .put-two .ensures .1, c .before .before .put-two2 .ensures .1))
+
+pub put-four-spec : {M : Type 1} → statement M
+put-four-spec =
+    tie.close (tie.spec put-two-requires put-two-requires-2 same-length returns)

@@ -1,0 +1,38 @@
+use native.Mathlib.Omega.{arith}
+use Rattle.printing.proofs.Writing.{then}
+use Rattle.printing.specs.Text.{headingText}
+use borrow.Author.Needs.{needs}
+use Rattle.printing.proofs.put_heading.Statement.{statement}
+use Rattle.printing.proofs.put_heading.Tie as tie
+
+put-requires : tie.Need-put-requires
+put-requires c κs = search needs
+
+put-requires-2 : tie.Need-put-requires-2
+put-requires-2 c κs = search needs
+
+put-day-requires : tie.Need-put-day-requires
+put-day-requires c κs = search needs
+
+put-spaced-requires : tie.Need-put-spaced-requires
+put-spaced-requires c κs = search needs
+
+put-spaced-requires-2 : tie.Need-put-spaced-requires-2
+put-spaced-requires-2 c κs = search needs
+
+put-spaced-requires-3 : tie.Need-put-spaced-requires-3
+put-spaced-requires-3 c κs = search needs
+
+put-requires-3 : tie.Need-put-requires-3
+put-requires-3 c κs = search needs
+
+same-length : tie.Need-same-length
+same-length c = search needs
+
+returns : tie.Need-returns
+unfolding headingText
+returns c = (then (c .before .before .before .before .before .before .before .before .before .before .before .before .before .before .before .before .before .before .before .before .before .before .before .before .before .before .put .ensures .0) (then (c .before .before .before .before .before .before .before .before .before .before .before .before .before .before .before .before .before .before .before .before .before .before .put2 .ensures .0) (then (c .before .before .before .before .before .before .before .before .before .before .before .before .before .before .before .before .before .before .put-day .ensures .0) (then (c .before .before .before .before .before .before .before .before .before .before .before .before .before .before .put-spaced .ensures .0) (then (c .before .before .before .before .before .before .before .before .before .before .put-spaced2 .ensures .0) (then (c .before .before .before .before .before .before .put-spaced3 .ensures .0) (c .before .before .put3 .ensures .0)))))), omega (arith, c .before .before .before .before .before .before .before .before .before .before .before .before .before .before .before .before .before .before .before .before .before .before .before .before .before .before .put .ensures .1, c .before .before .before .before .before .before .before .before .before .before .before .before .before .before .before .before .before .before .before .before .before .before .put2 .ensures .1, c .before .before .before .before .before .before .before .before .before .before .before .before .before .before .before .before .before .before .put-day .ensures .1, c .before .before .before .before .before .before .before .before .before .before .before .before .before .before .put-spaced .ensures .1, c .before .before .before .before .before .before .before .before .before .before .put-spaced2 .ensures .1, c .before .before .before .before .before .before .put-spaced3 .ensures .1, c .before .before .put3 .ensures .1))
+
+pub put-heading-spec : {M : Type 1} → statement M
+put-heading-spec =
+    tie.close (tie.spec put-requires put-requires-2 put-day-requires put-spaced-requires put-spaced-requires-2 put-spaced-requires-3 put-requires-3 same-length returns)

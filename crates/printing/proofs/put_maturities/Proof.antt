@@ -1,0 +1,66 @@
+use native.Mathlib.Omega.{arith}
+use Rattle.printing.proofs.Writing.{then}
+use Rattle.printing.proofs.Texts.{no-lines, more-lines, lines-done}
+use Rattle.printing.specs.Text.{maturitiesText}
+use Rattle.printing.specs.Buffer.{Written}
+use lib.ListN.{length}
+use Prim.Native.Nat.{_+_, _-_, _*_, _≤_}
+use borrow.Author.Needs.{needs}
+use Rattle.printing.proofs.put_maturities.Statement.{statement}
+use Rattle.printing.proofs.put_maturities.Tie as tie
+
+abbrev Inv-loop : tie.InvT-loop
+Inv-loop out₀ at n maturities next₀ i₀ out next i =
+    (n ≤ 15) × (at + 375 ≤ length out₀) × (i ≤ n) × (next ≤ at + 25 * i) × Written out₀ out at next (maturitiesText i maturities)
+
+abbrev μ-loop : tie.MeasureT-loop
+μ-loop out₀ at n maturities next₀ i₀ out next i = n - i
+
+loop-holds : tie.Need-loop-holds Inv-loop μ-loop
+loop-holds c = (omega arith, omega arith, omega arith, omega arith, no-lines _ _ _)
+
+mul-m : tie.Need-mul-m Inv-loop μ-loop
+mul-m c = omega arith
+
+array-copy-out-m : tie.Need-array-copy-out-m Inv-loop μ-loop
+array-copy-out-m c = omega arith
+
+put-maturity-requires : tie.Need-put-maturity-requires Inv-loop μ-loop
+put-maturity-requires c κs =
+    let v = c .before .before .before .loop .inv in
+    omega (arith, v .0, v .1, v .3, v .4 .long, c .before .before .loop-test .taken)
+
+add-i : tie.Need-add-i Inv-loop μ-loop
+add-i c = omega arith
+
+loop-less : tie.Need-loop-less Inv-loop μ-loop
+loop-less c = omega arith
+
+loop-again : tie.Need-loop-again Inv-loop μ-loop
+loop-again c =
+    let v = c .before .before .before .before .before .before .loop .inv in
+    (v .0, v .1, omega arith, omega (arith, v .3, c .before .before .put-maturity .ensures .1), rw (more-lines _ _) (then (v .4) (c .before .before .put-maturity .ensures .0)))
+
+same-length : tie.Need-same-length Inv-loop μ-loop
+same-length c = c .before .loop .inv .4 .long
+
+returns : tie.Need-returns Inv-loop μ-loop
+returns c =
+    let v = c .before .loop .inv in
+    (lines-done _ _ _ (c .loop-test .left) (v .2) (v .4), omega (arith, v .0, v .2, v .3))
+
+pub put-maturities-spec : {M : Type 1} → statement M
+put-maturities-spec =
+    tie.close
+    (tie.spec
+    Inv-loop
+    μ-loop
+    loop-holds
+    mul-m
+    array-copy-out-m
+    put-maturity-requires
+    add-i
+    loop-less
+    loop-again
+    same-length
+    returns)

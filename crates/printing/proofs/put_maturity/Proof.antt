@@ -1,0 +1,35 @@
+use native.Mathlib.Omega.{arith}
+use Rattle.printing.proofs.Writing.{then}
+use Rattle.printing.specs.Text.{maturityText}
+use borrow.Author.Needs.{needs}
+use Rattle.printing.proofs.put_maturity.Statement.{statement}
+use Rattle.printing.proofs.put_maturity.Tie as tie
+
+put-decimal-requires : tie.Need-put-decimal-requires
+put-decimal-requires c κs = search needs
+
+put-requires : tie.Need-put-requires
+put-requires c κs = search needs
+
+put-month-requires : tie.Need-put-month-requires
+put-month-requires c κs = search needs
+
+put-requires-2 : tie.Need-put-requires-2
+put-requires-2 c κs = search needs
+
+put-day-requires : tie.Need-put-day-requires
+put-day-requires c κs = search needs
+
+put-requires-3 : tie.Need-put-requires-3
+put-requires-3 c κs = search needs
+
+same-length : tie.Need-same-length
+same-length c = search needs
+
+returns : tie.Need-returns
+unfolding maturityText
+returns c = (then (c .before .before .before .before .before .before .before .before .before .before .before .before .before .before .before .before .before .before .before .before .before .before .put-decimal .ensures .0) (then (c .before .before .before .before .before .before .before .before .before .before .before .before .before .before .before .before .before .before .put .ensures .0) (then (c .before .before .before .before .before .before .before .before .before .before .before .before .before .before .put-month .ensures .0) (then (c .before .before .before .before .before .before .before .before .before .before .put2 .ensures .0) (then (c .before .before .before .before .before .before .put-day .ensures .0) (c .before .before .put3 .ensures .0))))), omega (arith, c .before .before .before .before .before .before .before .before .before .before .before .before .before .before .before .before .before .before .before .before .before .before .put-decimal .ensures .1, c .before .before .before .before .before .before .before .before .before .before .before .before .before .before .before .before .before .before .put .ensures .1, c .before .before .before .before .before .before .before .before .before .before .before .before .before .before .put-month .ensures .1, c .before .before .before .before .before .before .before .before .before .before .put2 .ensures .1, c .before .before .before .before .before .before .put-day .ensures .1, c .before .before .put3 .ensures .1))
+
+pub put-maturity-spec : {M : Type 1} → statement M
+put-maturity-spec =
+    tie.close (tie.spec put-decimal-requires put-requires put-month-requires put-requires-2 put-day-requires put-requires-3 same-length returns)

@@ -1,0 +1,29 @@
+use native.Mathlib.Omega.{arith}
+use Rattle.printing.proofs.Writing.{then}
+use Rattle.printing.specs.Text.{refusalText}
+use borrow.Author.Needs.{needs}
+use Rattle.printing.proofs.put_refusal.Statement.{statement}
+use Rattle.printing.proofs.put_refusal.Tie as tie
+
+put-requires : tie.Need-put-requires
+put-requires c κs = search needs
+
+put-requires-2 : tie.Need-put-requires-2
+put-requires-2 c κs = search needs
+
+put-spaced-requires : tie.Need-put-spaced-requires
+put-spaced-requires c κs = search needs
+
+put-requires-3 : tie.Need-put-requires-3
+put-requires-3 c κs = search needs
+
+same-length : tie.Need-same-length
+same-length c = search needs
+
+returns : tie.Need-returns
+unfolding refusalText
+returns c = (then (c .before .before .before .before .before .before .before .before .before .before .before .before .before .before .put .ensures .0) (then (c .before .before .before .before .before .before .before .before .before .before .put2 .ensures .0) (then (c .before .before .before .before .before .before .put-spaced .ensures .0) (c .before .before .put3 .ensures .0))), omega (arith, c .before .before .before .before .before .before .before .before .before .before .before .before .before .before .put .ensures .1, c .before .before .before .before .before .before .before .before .before .before .put2 .ensures .1, c .before .before .before .before .before .before .put-spaced .ensures .1, c .before .before .put3 .ensures .1))
+
+pub put-refusal-spec : {M : Type 1} → statement M
+put-refusal-spec =
+    tie.close (tie.spec put-requires put-requires-2 put-spaced-requires put-requires-3 same-length returns)

@@ -1,0 +1,23 @@
+use native.Mathlib.Omega.{arith}
+use Rattle.printing.proofs.Writing.{then}
+use Rattle.printing.specs.Text.{spaced}
+use borrow.Author.Needs.{needs}
+use Rattle.printing.proofs.put_spaced.Statement.{statement}
+use Rattle.printing.proofs.put_spaced.Tie as tie
+
+put-requires : tie.Need-put-requires
+put-requires c κs = search needs
+
+put-decimal-requires : tie.Need-put-decimal-requires
+put-decimal-requires c κs = search needs
+
+same-length : tie.Need-same-length
+same-length c = search needs
+
+returns : tie.Need-returns
+unfolding spaced
+returns c = (then (c .before .before .before .before .before .before .put .ensures .0) (c .before .before .put-decimal .ensures .0), omega (arith, c .before .before .before .before .before .before .put .ensures .1, c .before .before .put-decimal .ensures .1))
+
+pub put-spaced-spec : {M : Type 1} → statement M
+put-spaced-spec =
+    tie.close (tie.spec put-requires put-decimal-requires same-length returns)

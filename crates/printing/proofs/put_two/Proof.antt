@@ -1,0 +1,23 @@
+use native.Mathlib.Omega.{arith}
+use Rattle.printing.proofs.Writing.{then}
+use Rattle.printing.specs.Text.{two}
+use borrow.Author.Needs.{needs}
+use Rattle.printing.proofs.put_two.Statement.{statement}
+use Rattle.printing.proofs.put_two.Tie as tie
+
+put-digit-requires : tie.Need-put-digit-requires
+put-digit-requires c κs = search needs
+
+put-digit-requires-2 : tie.Need-put-digit-requires-2
+put-digit-requires-2 c κs = search needs
+
+same-length : tie.Need-same-length
+same-length c = search needs
+
+returns : tie.Need-returns
+unfolding two
+returns c = (then (c .before .before .before .before .before .before .put-digit .ensures .0) (c .before .before .put-digit2 .ensures .0), omega (arith, c .before .before .before .before .before .before .put-digit .ensures .1, c .before .before .put-digit2 .ensures .1))
+
+pub put-two-spec : {M : Type 1} → statement M
+put-two-spec =
+    tie.close (tie.spec put-digit-requires put-digit-requires-2 same-length returns)

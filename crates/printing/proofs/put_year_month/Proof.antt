@@ -1,0 +1,26 @@
+use native.Mathlib.Omega.{arith}
+use Rattle.printing.proofs.Writing.{then}
+use Rattle.printing.specs.Text.{yearMonth}
+use borrow.Author.Needs.{needs}
+use Rattle.printing.proofs.put_year_month.Statement.{statement}
+use Rattle.printing.proofs.put_year_month.Tie as tie
+
+put-four-requires : tie.Need-put-four-requires
+put-four-requires c κs = search needs
+
+put-requires : tie.Need-put-requires
+put-requires c κs = search needs
+
+put-two-requires : tie.Need-put-two-requires
+put-two-requires c κs = search needs
+
+same-length : tie.Need-same-length
+same-length c = search needs
+
+returns : tie.Need-returns
+unfolding yearMonth
+returns c = (then (c .before .before .before .before .before .before .before .before .before .before .put-four .ensures .0) (then (c .before .before .before .before .before .before .put .ensures .0) (c .before .before .put-two .ensures .0)), omega (arith, c .before .before .before .before .before .before .before .before .before .before .put-four .ensures .1, c .before .before .before .before .before .before .put .ensures .1, c .before .before .put-two .ensures .1))
+
+pub put-year-month-spec : {M : Type 1} → statement M
+put-year-month-spec =
+    tie.close (tie.spec put-four-requires put-requires put-two-requires same-length returns)
