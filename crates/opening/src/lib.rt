@@ -17,7 +17,7 @@ ghost use Rattle.table.specs.Numbering.{numberedFresh};
 ghost use Rattle.opening.specs.Opening.{zeroTable, openedWith, openCall};
 
 // A table of zeros.
-fn zero_table() -> Table
+pub fn zero_table() -> Table
     ensures { λ r. ⌜ r ≡ zeroTable ⌝ }
 {
     let unused = Maturity {

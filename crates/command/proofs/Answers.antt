@@ -1,0 +1,55 @@
+-- What is answered to a command, and what is kept, case by case.
+-- Assumes nothing.
+use mathlib.Core.Path.{_≡_, refl, sym}
+use mathlib.Core.Bool.{true, false, cond}
+use mathlib.Core.List.{List}
+use Prim.Native.Nat.{ℕ}
+use borrow.Author.Tests.{eq-eqb, ne-eqb}
+use Rattle.table.specs.declared.Table.{Table}
+use Rattle.table.specs.declared.Outcome.{Outcome}
+use Rattle.table.specs.Table.{rollCall, closeCall}
+use Rattle.opening.specs.Opening.{openCall}
+use Rattle.printing.specs.Text.{outcomeText, refusalText, badText}
+use Rattle.command.specs.declared.Command.{Command}
+use Rattle.command.specs.declared.Held.{Held}
+use Rattle.command.specs.Sessions.{bad, outcomeOf, answerText, heldAfter}
+
+-- the call of a command by its letter
+module _ (file : List ℕ) (t : Table) (c : Command) where
+  pub opens : c .letter ≡ 79 → openCall file (c .id) (c .day) ≡ outcomeOf file t c
+  unfolding outcomeOf
+  opens e = rw (eq-eqb (c .letter) 79 e) refl
+
+  pub rolls : (c .letter ≡ 79 → ⊥) → c .letter ≡ 82 → rollCall t (c .day) ≡ outcomeOf file t c
+  unfolding outcomeOf
+  rolls n e = rw (ne-eqb (c .letter) 79 n, eq-eqb (c .letter) 82 e) refl
+
+  pub closes : (c .letter ≡ 79 → ⊥) → (c .letter ≡ 82 → ⊥) → closeCall t (c .day) ≡ outcomeOf file t c
+  unfolding outcomeOf
+  closes n m = rw (ne-eqb (c .letter) 79 n, ne-eqb (c .letter) 82 m) refl
+
+module _ (file : List ℕ) (h : Held) (c : Command) where
+  pub bad-held : bad (h .opened) (c .letter) ≡ true → h ≡ heldAfter file h c
+  unfolding heldAfter
+  bad-held b = rw b refl
+
+  pub bad-text : bad (h .opened) (c .letter) ≡ true → badText ≡ answerText file h c
+  unfolding answerText
+  bad-text b = rw b refl
+
+  module _ (b : bad (h .opened) (c .letter) ≡ false) (o : Outcome) (e : o ≡ outcomeOf file (h .table) c) where
+    pub no-held : (o .refusal ≡ 0 → ⊥) → h ≡ heldAfter file h c
+    unfolding heldAfter
+    no-held n = rw (b, ← e, ne-eqb (o .refusal) 0 n) refl
+
+    pub no-text : (o .refusal ≡ 0 → ⊥) → refusalText (o .refusal) ≡ answerText file h c
+    unfolding answerText
+    no-text n = rw (b, ← e, ne-eqb (o .refusal) 0 n) refl
+
+    pub yes-held : o .refusal ≡ 0 → record { opened = true; table = o .table } ≡ heldAfter file h c
+    unfolding heldAfter
+    yes-held n = rw (b, ← e, eq-eqb (o .refusal) 0 n) refl
+
+    pub yes-text : o .refusal ≡ 0 → outcomeText (c .letter) o ≡ answerText file h c
+    unfolding answerText
+    yes-text n = rw (b, ← e, eq-eqb (o .refusal) 0 n) refl

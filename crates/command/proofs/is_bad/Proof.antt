@@ -1,0 +1,13 @@
+use mathlib.Core.Path.{refl}
+use borrow.Author.Needs.{needs}
+use Rattle.command.proofs.is_bad.Statement.{statement}
+use Rattle.command.proofs.is_bad.Tie as tie
+
+returns : tie.Need-returns
+returns c = refl
+
+pub is-bad-spec : {M : Type 1} → statement M
+is-bad-spec =
+    tie.close
+    (tie.spec
+    returns)
