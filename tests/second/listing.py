@@ -1,6 +1,8 @@
 """Last trading days and listed months (01, "Last trading day", "Listed
 months", question 16)."""
 
+from functools import lru_cache
+
 from second import dates, product, trading
 
 # 01, Listed months: the months of the year that each of the four steps takes.
@@ -65,7 +67,9 @@ def front_month(calendar, group, date):
 # 01, Listed months: "Step one takes the front month and those after it; each
 # later step takes the next months of its set that follow the last month taken.
 # Listing stops [..] as soon as a month lies beyond the cover". The answer: the
-# months taken, and whether no month lay beyond the cover.
+# months taken, and whether no month lay beyond the cover. A call asks for the same
+# listing several times, so the last ones are kept.
+@lru_cache(maxsize=64)
 def listed_months(calendar, group, kind, date):
     taken = []
     month = front_month(calendar, group, date)
@@ -73,12 +77,12 @@ def listed_months(calendar, group, kind, date):
         left = count
         while left > 0:
             if is_beyond(calendar, month):
-                return taken, False
+                return tuple(taken), False
             if month % 12 + 1 in months_of_set:
                 taken.append(month)
                 left -= 1
             month += 1
-    return taken, True
+    return tuple(taken), True
 
 
 # 01, The table: "the fresh listing": pairs of month and last trading day by

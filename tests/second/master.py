@@ -3,6 +3,7 @@ to 9) and reading it (01, "Master file")."""
 
 import csv
 from functools import lru_cache
+from operator import mul
 
 from second import dates, product, trading
 from second.product import Product
@@ -28,7 +29,7 @@ MAP_END = HEADER + trading.BYTES_PER_YEAR
 # 01, Master file: "the check, the sum of (i + 1) × byte i over i = 0..509, mod
 # 65,521".
 def check_of(block):
-    return sum((i + 1) * block[i] for i in range(CHECK)) % CHECK_MODULUS
+    return sum(map(mul, range(1, CHECK + 1), block)) % CHECK_MODULUS
 
 
 # Two bytes, big-endian.

@@ -122,25 +122,31 @@ def is_trading_day(calendar, day):
             and in_cover(calendar, day))
 
 
-# 01, question 5: only Mondays to Fridays of the cover are closed.
+# 01, question 5: only Mondays to Fridays of the cover are closed. The verdict on
+# a calendar is kept, as a long session asks it again at every call.
+@lru_cache(maxsize=256)
 def is_clean(calendar):
     return all(dates.is_weekday(day) and in_cover(calendar, day)
                for day in calendar.closed)
 
 
+# The Mondays to Fridays of a cover.
+@lru_cache(maxsize=64)
+def weekdays_of(first_year, years):
+    cover = Calendar(first_year, years, frozenset())
+    return [day for day in range(first_day(cover), last_day(cover) + 1) if dates.is_weekday(day)]
+
+
 # 01, question 6: "Does every run of seven days in the cover hold a trading
-# day?" Runs lie wholly in the cover.
+# day?" Runs lie wholly in the cover. A run without one lies between two trading
+# days that are more than seven days apart; the days just outside the cover
+# bound the first and the last run.
 @lru_cache(maxsize=256)
 def every_week_trades(calendar):
-    without = 0
-    for day in range(first_day(calendar), last_day(calendar) + 1):
-        if dates.is_weekday(day) and day not in calendar.closed:
-            without = 0
-        else:
-            without += 1
-        if without == 7:
-            return False
-    return True
+    days = [day for day in weekdays_of(calendar.first_year, calendar.years)
+            if day not in calendar.closed]
+    bounds = [first_day(calendar) - 1, *days, last_day(calendar) + 1]
+    return all(later - day <= 7 for day, later in zip(bounds, bounds[1:]))
 
 
 # 01, The table: "Close marks one day closed." A day outside the cover changes
