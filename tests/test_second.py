@@ -4,6 +4,7 @@ import ast
 import datetime
 import os
 import random
+import shlex
 import subprocess
 import sys
 import tempfile
@@ -255,7 +256,7 @@ class Listings(unittest.TestCase):
         self.assertEqual(listing.front_month(calendar, b'FR11', last_december + 1), 1200)
         self.assertEqual(listing.fresh_listing(calendar, b'FR11', 1, last_december + 1), [])
         self.assertEqual(listing.listed_months(calendar, b'FR11', 1, last_december),
-                         ([1199], False))
+                         ((1199,), False))
 
     def test_steps_back_from_the_anchor(self):
         month = dates.month_number(2008, 8)
@@ -646,17 +647,55 @@ class Terms(unittest.TestCase):
         lines = terms.answers(file, commands).decode().splitlines()
         return [line for line in lines if line[0] in 'ORCNB']
 
-    def test_lines(self):
-        self.assertEqual(terms.answers(self.FILE, b''), b'')
-        for line in (b'', b' ', b'O', b'O AXA', b'O AXA 2008-03-20 ', b' O AXA 2008-03-20',
-                     b'O  AXA 2008-03-20', b'O AXA 2008-03-20\r', b'O axa 2008-03-20',
-                     b'O AXAAA 2008-03-20', b'O AXA 2008-02-30', b'O AXA 2100-01-01',
-                     b'O AXA 1999-12-31', b'O AXA 2008-3-20', b'O AXA 2008/03/20',
-                     b'o AXA 2008-03-20', b'O\tAXA 2008-03-20', b'O AXA +008-03-20',
-                     b'R 2008-03-20', b'C 2008-03-20', b'\xff', b'\0', b'X 2008-03-20'):
+    # 01: "`BAD` for another line". Each stands alone, and after an accepted O.
+    def test_other_lines(self):
+        lines = (
+            b'', b' ', b'O', b'O ', b'R', b'R ', b'C', b'OAXA 2008-03-20', b'R2008-03-21', b'\xff', b'\0',
+            b' O AXA 2008-03-20', b'O  AXA 2008-03-20', b'O AXA  2008-03-20', b'O AXA 2008-03-20 ',
+            b'O\tAXA 2008-03-20', b'O AXA\xc2\xa02008-03-20', b'R  2008-03-21', b'R 2008-03-21 ',
+            b'O AXA 2008-03-20\r', b'R 2008-03-21\r', b'O AXA 2008-03-20\0', b'\0O AXA 2008-03-20',
+            b'O AXA', b'O 2008-03-20', b'O  2008-03-20', b'O AXA 2008-03-20 2008-03-20', b'O AXA AXA 2008-03-20',
+            b'O AXAAA 2008-03-20', b'O axa 2008-03-20', b'O AXa 2008-03-20', b'O A-A 2008-03-20',
+            b'O AX\0 2008-03-20', b'O AX\xc4 2008-03-20', b'O A/ 2008-03-20', b'O A: 2008-03-20',
+            b'O A@ 2008-03-20', b'O A[ 2008-03-20', b'o AXA 2008-03-20', b'r 2008-03-21', b'c 2008-03-21',
+            b'X 2008-03-21', b'OR 2008-03-21', b'R AXA 2008-03-21', b'C AXA 2008-03-21')
+        for line in lines:
             self.assertEqual(terms.answers(self.FILE, line + b'\n'), b'BAD\n', line)
-        self.assertEqual(terms.answers(self.FILE, b'\n\n'), b'BAD\nBAD\n')
-        self.assertEqual(terms.answers(self.FILE, b'\nX'), b'BAD\nBAD\n')
+            self.assertEqual(self.first_words(b'O AXA 2008-03-20\n' + line + b'\nR 2008-03-20'),
+                             ['O 2008-03-20 6 0 6', 'BAD', 'R 2008-03-20 0 0 6'], line)
+
+    # 01: "a date is year, month, day in 4, 2 and 2 digits joined by hyphens, and
+    # one that 23 refuses makes another line".
+    def test_other_dates(self):
+        for date in (b'2008-02-30', b'2009-02-29', b'2008-00-10', b'2008-13-10', b'2008-04-31', b'2008-04-00',
+                     b'2100-01-01', b'1999-12-31', b'0000-00-00', b'9999-12-31', b'2008-3-20', b'2008-03-2',
+                     b'2008-03-200', b'02008-03-20', b'008-03-20', b'2008/03/20', b'20080320', b'+008-03-20',
+                     b'2008-+3-20', b'2008--3-20', b'2008-03- 2', b'2_08-03-20', b'2008-03-20.', b'-008-03-20',
+                     b'2008\xe2\x80\x9003-20', '\u0662\u0660\u0660\u0668-03-20'.encode(),
+                     '2008-03-\uff12\uff10'.encode(), b'20 08-03-20', b'2O08-03-20', b''):
+            for line in (b'O AXA ' + date, b'R ' + date, b'C ' + date):
+                self.assertIsNone(terms.parse(line), line)
+        for date, day in ((b'2000-01-01', 0), (b'2000-02-29', 59), (b'2099-12-31', 36524)):
+            self.assertEqual(terms.parse(b'O A ' + date), ('O', b'A', day))
+            self.assertEqual(terms.parse(b'O AB09 ' + date), ('O', b'AB09', day))
+            self.assertEqual(terms.parse(b'R ' + date), ('R', b'', day))
+            self.assertEqual(terms.parse(b'C ' + date), ('C', b'', day))
+
+    # 01: "a line, which ends with a line feed or with the input".
+    def test_ends_of_lines(self):
+        for commands, words in ((b'', []), (b'\n', ['BAD']), (b'\n\n', ['BAD', 'BAD']), (b'\nX', ['BAD', 'BAD']),
+                                (b'O AXA 2008-03-20', ['O 2008-03-20 6 0 6']),
+                                (b'O AXA 2008-03-20\n\n', ['O 2008-03-20 6 0 6', 'BAD']),
+                                (b'O AXA 2008-03-20\rR 2008-03-20\n', ['BAD'])):
+            self.assertEqual(self.first_words(commands), words, commands)
+
+    # Lines of any length: a command with other bytes before or after it.
+    def test_long_lines(self):
+        for length in (1, 16, 240, 65536, 65552, 3_000_000):
+            for byte in (b'x', b' ', b'\0', b'0'):
+                line = b'O AXA 2008-03-20' + byte * length
+                self.assertEqual(terms.answers(self.FILE, line), b'BAD\n')
+                self.assertEqual(terms.answers(self.FILE, byte * length + b'O AXA 2008-03-20'), b'BAD\n')
 
     def test_refused_open_keeps_the_table(self):
         self.assertEqual(
@@ -671,13 +710,37 @@ class Terms(unittest.TestCase):
         self.assertEqual(self.first_words(commands),
                          ['O 2008-03-20 6 0 6', 'C 2008-03-20 0 0 6'] * 2)
 
+    # 01: "A `master.bin` that can't be read counts as empty, and one of more than
+    # 65,536 bytes gets 1."
     def test_files(self):
         command = b'O AXA 2008-03-20\n'
-        for file, number in ((b'', 1), (bytes(1024), 3), (bytes(65537), 1), (self.FILE[:-1], 1)):
+        for file, number in ((b'', 1), (bytes(1024), 3), (bytes(65537), 1), (self.FILE[:-1], 1),
+                             (self.FILE + b'\0', 1), (cases.largest() + bytes(512), 1),
+                             (b'\0' + self.FILE[1:], 2)):
             self.assertEqual(terms.answers(file, command), b'NO %d\n' % number)
+        self.assertEqual(terms.answers(b'', b'R 2008-03-20\n' + command + b'C 2008-03-20\n'),
+                         b'BAD\nNO 1\nBAD\n')
+
+    def test_unreadable_files(self):
         with tempfile.TemporaryDirectory() as folder:
+            path = os.path.join(folder, 'master.bin')
             self.assertEqual(terms.read_master(folder), b'')
-            self.assertEqual(terms.read_master(os.path.join(folder, 'master.bin')), b'')
+            self.assertEqual(terms.read_master(path), b'')
+            for target in ('nowhere', 'master.bin', '/proc/self/mem', '/dev/null'):
+                os.symlink(target, path)
+                self.assertEqual(terms.read_master(path), b'', target)
+                os.unlink(path)
+            os.symlink('/dev/zero', path)
+            self.assertEqual(len(terms.read_master(path)), 65537)
+
+    # Standard input closed; standard output full and closed.
+    def test_closed_streams(self):
+        program = shlex.join((sys.executable, os.path.join(TESTS, 'second', 'terms.py')))
+        with tempfile.TemporaryDirectory() as folder:
+            for redirection, status in (('<&-', 0), ('>/dev/full', 1), ('>&-', 1)):
+                ran = subprocess.run(['sh', '-c', f'{program} {redirection}'], cwd=folder,
+                                     input=SESSION_INPUT, capture_output=True)
+                self.assertEqual((ran.returncode, ran.stdout, ran.stderr), (status, b'', b''))
 
 
 class Expected(unittest.TestCase):

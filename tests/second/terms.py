@@ -1,7 +1,8 @@
 """The program `terms` (01, "March 2008 and its neighbours").
 
 python3 tests/second/terms.py reads master.bin in the current folder and
-commands from standard input, and prints the answers.
+commands from standard input, and prints the answers. It ends with status 0, or
+with 1 where standard output can't be written.
 """
 
 import os
@@ -28,6 +29,18 @@ def read_master(path):
             return file.read(master.FILE_AT_MOST + 1)
     except OSError:
         return b''
+
+
+# All bytes of standard input. Where it can't be read, as when it is closed or a
+# folder, the input ends there.
+def read_commands():
+    parts = []
+    try:
+        while part := os.read(0, 1 << 20):
+            parts.append(part)
+    except OSError:
+        pass
+    return b''.join(parts)
 
 
 # 01: "a line [..] ends with a line feed or with the input". A final line feed
@@ -101,5 +114,16 @@ def answers(file, commands):
     return ''.join(line + '\n' for line in printed).encode('ascii')
 
 
+# Reads, answers and writes.
+def main():
+    printed = answers(read_master('master.bin'), read_commands())
+    try:
+        with open(1, 'wb', closefd=False) as out:
+            out.write(printed)
+    except OSError:
+        return 1
+    return 0
+
+
 if __name__ == '__main__':
-    sys.stdout.buffer.write(answers(read_master('master.bin'), sys.stdin.buffer.read()))
+    sys.exit(main())
