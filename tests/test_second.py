@@ -15,6 +15,7 @@ TESTS = os.path.dirname(os.path.abspath(__file__))
 sys.path.insert(0, TESTS)
 
 import cases  # noqa: E402
+from runs.lines import other_lines  # noqa: E402
 from second import dates, listing, master, product, table, terms, trading  # noqa: E402
 from second.book import Book  # noqa: E402
 from second.product import Product  # noqa: E402
@@ -254,7 +255,7 @@ class Listings(unittest.TestCase):
         calendar = Calendar(2099, 1, frozenset())
         self.assertEqual(listing.front_month(calendar, b'FR11', last_december), 1199)
         self.assertEqual(listing.front_month(calendar, b'FR11', last_december + 1), 1200)
-        self.assertEqual(listing.fresh_listing(calendar, b'FR11', 1, last_december + 1), [])
+        self.assertEqual(listing.fresh_listing(calendar, b'FR11', 1, last_december + 1), ())
         self.assertEqual(listing.listed_months(calendar, b'FR11', 1, last_december),
                          ((1199,), False))
 
@@ -649,32 +650,12 @@ class Terms(unittest.TestCase):
 
     # 01: "`BAD` for another line". Each stands alone, and after an accepted O.
     def test_other_lines(self):
-        lines = (
-            b'', b' ', b'O', b'O ', b'R', b'R ', b'C', b'OAXA 2008-03-20', b'R2008-03-21', b'\xff', b'\0',
-            b' O AXA 2008-03-20', b'O  AXA 2008-03-20', b'O AXA  2008-03-20', b'O AXA 2008-03-20 ',
-            b'O\tAXA 2008-03-20', b'O AXA\xc2\xa02008-03-20', b'R  2008-03-21', b'R 2008-03-21 ',
-            b'O AXA 2008-03-20\r', b'R 2008-03-21\r', b'O AXA 2008-03-20\0', b'\0O AXA 2008-03-20',
-            b'O AXA', b'O 2008-03-20', b'O  2008-03-20', b'O AXA 2008-03-20 2008-03-20', b'O AXA AXA 2008-03-20',
-            b'O AXAAA 2008-03-20', b'O axa 2008-03-20', b'O AXa 2008-03-20', b'O A-A 2008-03-20',
-            b'O AX\0 2008-03-20', b'O AX\xc4 2008-03-20', b'O A/ 2008-03-20', b'O A: 2008-03-20',
-            b'O A@ 2008-03-20', b'O A[ 2008-03-20', b'o AXA 2008-03-20', b'r 2008-03-21', b'c 2008-03-21',
-            b'X 2008-03-21', b'OR 2008-03-21', b'R AXA 2008-03-21', b'C AXA 2008-03-21')
-        for line in lines:
+        for line in other_lines():
             self.assertEqual(terms.answers(self.FILE, line + b'\n'), b'BAD\n', line)
             self.assertEqual(self.first_words(b'O AXA 2008-03-20\n' + line + b'\nR 2008-03-20'),
                              ['O 2008-03-20 6 0 6', 'BAD', 'R 2008-03-20 0 0 6'], line)
 
-    # 01: "a date is year, month, day in 4, 2 and 2 digits joined by hyphens, and
-    # one that 23 refuses makes another line".
-    def test_other_dates(self):
-        for date in (b'2008-02-30', b'2009-02-29', b'2008-00-10', b'2008-13-10', b'2008-04-31', b'2008-04-00',
-                     b'2100-01-01', b'1999-12-31', b'0000-00-00', b'9999-12-31', b'2008-3-20', b'2008-03-2',
-                     b'2008-03-200', b'02008-03-20', b'008-03-20', b'2008/03/20', b'20080320', b'+008-03-20',
-                     b'2008-+3-20', b'2008--3-20', b'2008-03- 2', b'2_08-03-20', b'2008-03-20.', b'-008-03-20',
-                     b'2008\xe2\x80\x9003-20', '\u0662\u0660\u0660\u0668-03-20'.encode(),
-                     '2008-03-\uff12\uff10'.encode(), b'20 08-03-20', b'2O08-03-20', b''):
-            for line in (b'O AXA ' + date, b'R ' + date, b'C ' + date):
-                self.assertIsNone(terms.parse(line), line)
+    def test_commands(self):
         for date, day in ((b'2000-01-01', 0), (b'2000-02-29', 59), (b'2099-12-31', 36524)):
             self.assertEqual(terms.parse(b'O A ' + date), ('O', b'A', day))
             self.assertEqual(terms.parse(b'O AB09 ' + date), ('O', b'AB09', day))
@@ -683,7 +664,8 @@ class Terms(unittest.TestCase):
 
     # 01: "a line, which ends with a line feed or with the input".
     def test_ends_of_lines(self):
-        for commands, words in ((b'', []), (b'\n', ['BAD']), (b'\n\n', ['BAD', 'BAD']), (b'\nX', ['BAD', 'BAD']),
+        for commands, words in ((b'', []), (b'\n', ['BAD']), (b'\n\n', ['BAD', 'BAD']),
+                                (b'\nX', ['BAD', 'BAD']),
                                 (b'O AXA 2008-03-20', ['O 2008-03-20 6 0 6']),
                                 (b'O AXA 2008-03-20\n\n', ['O 2008-03-20 6 0 6', 'BAD']),
                                 (b'O AXA 2008-03-20\rR 2008-03-20\n', ['BAD'])):

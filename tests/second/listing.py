@@ -25,6 +25,7 @@ COUNTS = (
 
 # 01, Last trading day: the "third Friday" of a month: the Friday from the 15th
 # to the 21st.
+@lru_cache(maxsize=dates.MONTHS)
 def third_friday(month):
     fifteenth = dates.first_day_of_month(month) + 14
     for day in range(fifteenth, fifteenth + 7):
@@ -87,9 +88,10 @@ def listed_months(calendar, group, kind, date):
 
 # 01, The table: "the fresh listing": pairs of month and last trading day by
 # rising month; months beyond the cover are left out.
+@lru_cache(maxsize=64)
 def fresh_listing(calendar, group, kind, date):
     months, _ = listed_months(calendar, group, kind, date)
-    return [(month, last_trading_day(calendar, group, month)) for month in months]
+    return tuple((month, last_trading_day(calendar, group, month)) for month in months)
 
 
 # 01, question 16: "Are all months of the fresh listing in the cover?"

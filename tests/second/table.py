@@ -83,7 +83,7 @@ def fields_are_sound(table):
 # cover, and unused places are zero".
 def places_are_sound(table):
     fresh = fresh_listing(table)
-    used = [(month, day) for month, day, _ in table.places[:len(fresh)]]
+    used = tuple((month, day) for month, day, _ in table.places[:len(fresh)])
     unused = table.places[len(fresh):]
     return (len(table.places) == PLACES and listing_in_cover(table)
             and used == fresh and all(place == UNUSED for place in unused))

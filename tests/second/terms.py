@@ -31,8 +31,8 @@ def read_master(path):
         return b''
 
 
-# All bytes of standard input. Where it can't be read, as when it is closed or a
-# folder, the input ends there.
+# All bytes of standard input. Where it can't be read, as when it is closed, the
+# input ends there.
 def read_commands():
     parts = []
     try:

@@ -56,18 +56,18 @@ def feasts(numbers, year):
 
 # 01, question 6, for the runs of seven days that have the day.
 def week_still_trades(closed, day):
-    shut = closed | {day}
-    return all(any(dates.is_weekday(one) and one not in shut for one in range(start, start + 7))
+    return all(any(dates.is_weekday(one) and one not in closed and one != day
+                   for one in range(start, start + 7))
                for start in range(day - 6, day + 1))
 
 
 # The days of a list that may be closed one after the other.
 def closable(days):
-    closed = frozenset()
+    closed = set()
     for day in days:
         if dates.is_weekday(day) and week_still_trades(closed, day):
-            closed |= {day}
-    return closed
+            closed.add(day)
+    return frozenset(closed)
 
 
 # A calendar with closures near third Fridays, Easter and the ends of years.

@@ -1,0 +1,1 @@
+"""The runs of the program terms that both programs make."""

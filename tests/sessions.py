@@ -1,0 +1,146 @@
+"""The runs of the program terms that are compared, from a seed: hundreds of
+pairs of a master.bin and an input. Each run depends on the seed and its own
+number alone.
+
+python3 tests/sessions.py SEED NUMBER FOLDER writes one run's files.
+"""
+
+import os
+import sys
+from itertools import combinations, islice
+
+from runs import files, histories, lines
+from runs.case import CLOSED, PIECES, STORED, UNREADABLE, WHOLE, Case, Chance, with_file, write
+
+# The number of runs that is asked for by the issue and holds every family.
+COUNT = 400
+
+# 01, "March 2008 and its neighbours": the input of the example.
+EXAMPLE = b'O AXA 2008-03-20\nR 2008-03-21\nC 2008-03-20\n'
+
+
+# ---- Families: each a list of functions from random choices to a run ----
+
+# 01's example, also in pieces, from a file and without the final line feed.
+def examples():
+    def example(commands, feed):
+        return lambda chance: with_file(f'the example of document 01, {feed}', lines.FILE, commands, feed)
+
+    return [example(EXAMPLE, WHOLE), example(EXAMPLE, PIECES), example(EXAMPLE, STORED),
+            example(EXAMPLE[:-1], WHOLE), example(b'', CLOSED), example(b'', UNREADABLE)]
+
+
+# The shapes of an input.
+def inputs():
+    def fixed(name, commands):
+        return lambda chance: with_file(name, lines.FILE, commands, chance.choice((WHOLE, PIECES, STORED)))
+
+    def made(maker):
+        return lambda chance: with_file(maker.__name__, lines.FILE, maker(chance),
+                                        chance.choice((WHOLE, STORED)))
+
+    return [*(fixed(f'input {commands!r}', commands) for commands in lines.ENDS),
+            *(fixed(f'every byte of {command!r}', lines.every_byte(command))
+              for command in (lines.OPEN, lines.ROLL, lines.CLOSE)),
+            *map(made, lines.RANDOM)]
+
+
+# The states of master.bin that are no file of a legal size, and some of the files
+# of cases.py.
+def states():
+    def made(master):
+        name = f'{master.place} of {len(master.data)} bytes'
+        return lambda chance: Case(name, master, files.STATE_COMMANDS)
+
+    return [*map(made, files.states()), *[files.stored_file] * 12]
+
+
+# The blocks of each file and the questions of its faults: none, one, two, or
+# None for any bytes changed. Every legal size is there; the sizes come in an order
+# in which each family has small and large ones.
+def file_plan():
+    faults = [*[()] * 24, *[(number,) for number in files.FAULTS] * 5,
+              *list(combinations(files.FAULTS, 2)) * 2, *[None] * 16]
+    return [(files.SIZES[37 * k % len(files.SIZES)], questions) for k, questions in enumerate(faults)]
+
+
+# The files of the plan.
+def sized_files():
+    def made(blocks, questions):
+        if questions is None:
+            return lambda chance: files.hurt_file(chance, blocks)
+        return lambda chance: files.sized_file(chance, blocks, questions)
+
+    return [made(*file) for file in file_plan()]
+
+
+# Histories of tables, on covers of each length.
+def tables():
+    def made(maker, years):
+        return lambda chance: maker(chance, years)
+
+    return [made(maker, years) for maker, count in histories.MAKERS
+            for years in histories.COVERS for _ in range(count)]
+
+
+# All makers of runs. There are further mixed histories where more are asked for.
+def makers():
+    yield from (*examples(), *inputs(), *states(), *sized_files(), *tables())
+    while True:
+        yield lambda chance: histories.short_mixed(chance, chance.choice(histories.COVERS))
+
+
+# The runs of a seed, in order.
+def cases(seed, count=COUNT):
+    for number, maker in enumerate(islice(makers(), count)):
+        yield maker(Chance(f'{seed} {number}'))
+
+
+# ---- What the set must have ----
+
+# 01, Questions: the refusals of open, roll and close. 10 can't come: the program
+# holds no table that is not sound. Opens of every kind, by the count of months
+# listed; rolls and closes with which a month left.
+WANTED = frozenset((b'O 6', b'O 8', b'O 12', b'O 15', b'R', b'C', b'R left', b'C left', b'BAD',
+                    *(b'NO %d' % number for number in range(1, 17) if number != 10)))
+
+
+# What a line says: a refusal, BAD, or the kind of an accepted call. None for a
+# maturity's line.
+def answer_of(line):
+    words = line.split(b' ')
+    if words[0] in (b'NO', b'BAD'):
+        return line
+    if words[0] == b'O':
+        return b'O ' + words[2]
+    if words[0] in (b'R', b'C'):
+        return words[0] if words[3] == b'0' else words[0] + b' left'
+    return None
+
+
+# The answers of an output.
+def answers_in(printed):
+    return {answer_of(line) for line in printed.split(b'\n')} - {None}
+
+
+# Writes a run's files into a folder: master.bin and input.
+def put(case, folder):
+    case.master.put(folder)
+    write(os.path.join(folder, 'input'), case.commands)
+
+
+# Writes one run of a seed.
+def main(arguments):
+    if len(arguments) != 3:
+        print(__doc__, file=sys.stderr)
+        return 2
+    seed, number, folder = arguments
+    case = next(islice(cases(seed, int(number) + 1), int(number), None))
+    os.makedirs(folder)
+    put(case, folder)
+    print(f'{folder}: {case.name}')
+    return 0
+
+
+if __name__ == '__main__':
+    sys.exit(main(sys.argv[1:]))
