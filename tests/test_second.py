@@ -715,6 +715,18 @@ class Terms(unittest.TestCase):
             os.symlink('/dev/zero', path)
             self.assertEqual(len(terms.read_master(path)), 65537)
 
+    # The stored session on the example file, and the words that its README says.
+    def test_example_session(self):
+        stored = {}
+        for name in ('master.bin', 'session.txt', 'session.out', 'README.md'):
+            with open(os.path.join(TESTS, os.pardir, 'examples', name), 'rb') as file:
+                stored[name] = file.read()
+        commands = stored['session.txt']
+        self.assertEqual(terms.answers(stored['master.bin'], commands), stored['session.out'])
+        for command, word in zip(commands.decode().splitlines(),
+                                 self.first_words(commands, stored['master.bin']), strict=True):
+            self.assertIn(f'| `{command}` | `{word}` |', stored['README.md'].decode())
+
     # Standard input closed; standard output full and closed.
     def test_closed_streams(self):
         program = shlex.join((sys.executable, os.path.join(TESTS, 'second', 'terms.py')))
