@@ -9,10 +9,15 @@ from runs.files import text
 from runs.lines import OTHER_LINES, text_of
 from second import dates, listing, master, trading
 from second.book import Book
-from tables.files import PRODUCTS, clustered
+from tables.files import PRODUCTS, clustered, product_from
 from tables.moments import push_calls, some_calls
 
 COVERS = (1, 2, 3, 5, 7, 16)
+
+# 01, Last trading day: "for the groups IT01 and IT11 the day before that". All
+# kinds, these groups and others that begin with IT.
+ITEMS = sorted((*PRODUCTS, product_from('FIA2 IT02 XMIL 0 500 1 EUR'), product_from('ENI2 IT12 XMIL 1 500 1 EUR'),
+                product_from('IT IT10 XMIL 3 500 1 EUR')), key=lambda item: item.id)
 
 
 # A day number as a command has it, also one before 2000 or after 2099.
@@ -28,7 +33,7 @@ class Session:
         first_year = chance.choice((2000, 2008, last, chance.randint(2000, last)))
         self.chance = chance
         self.calendar = clustered(chance, min(first_year, last), years)
-        self.file = master.build(self.calendar, PRODUCTS, chance.choice((15, 15, 4, 1)))
+        self.file = master.build(self.calendar, ITEMS, chance.choice((15, 15, 4, 1)))
         self.lines = []
         self.book = None
 
@@ -42,7 +47,7 @@ class Session:
 
     # The products that can be opened on a date.
     def openable(self, date):
-        return [item for item in PRODUCTS
+        return [item for item in ITEMS
                 if listing.listing_in_cover(self.calendar, item.group, item.kind, date)]
 
     # An accepted open of a product.
@@ -156,7 +161,7 @@ def many_opens(chance, years):
     session = Session(chance, years)
     days = [session.first - 1, session.first, session.last, session.last + 1,
             *(chance.randint(session.first, session.last) for _ in range(8))]
-    session.lines = [b'O %s %s' % (item.id.rstrip(), day_word(day)) for item in PRODUCTS for day in days]
+    session.lines = [b'O %s %s' % (item.id.rstrip(), day_word(day)) for item in ITEMS for day in days]
     return session.case('many opens')
 
 
