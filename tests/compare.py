@@ -37,13 +37,16 @@ def input_of(case, folder):
 
 
 # Writes the input through the pipe in a few pieces, with pauses, so that reads
-# come back short.
+# come back short. A program that ends early closes the pipe.
 def feed_pieces(pipe, commands):
     length = max(1, len(commands) // 5)
-    for start in range(0, len(commands), length):
-        pipe.write(commands[start:start + length])
-        pipe.flush()
-        time.sleep(0.002)
+    try:
+        for start in range(0, len(commands), length):
+            pipe.write(commands[start:start + length])
+            pipe.flush()
+            time.sleep(0.002)
+    except BrokenPipeError:
+        pass
 
 
 # Starts the program in the folder; what it prints goes to files there.
@@ -64,8 +67,6 @@ def status_of(child, case, limit):
         if case.feed == PIECES:
             feed_pieces(child.stdin, case.commands)
         child.communicate(case.commands if case.feed == WHOLE else None, timeout=limit)
-    except BrokenPipeError:
-        child.wait()
     except subprocess.TimeoutExpired:
         child.kill()
         child.wait()

@@ -6,6 +6,9 @@ import subprocess
 import sys
 import tempfile
 import unittest
+from contextlib import redirect_stdout
+from io import StringIO
+from unittest import mock
 
 TESTS = os.path.dirname(os.path.abspath(__file__))
 sys.path.insert(0, TESTS)
@@ -69,6 +72,17 @@ class Compare(unittest.TestCase):
 
     def test_program_without_end(self):
         self.assertIn('no end in time', self.found('exec sleep 9', EXAMPLE, limit=0.2))
+
+    # A program that ends while its input still comes.
+    def test_program_that_ends_early(self):
+        pieces = with_file('', lines.FILE, sessions.EXAMPLE, PIECES)
+        self.assertIn('output line 1 (input line 1)', self.found('exit 0', pieces))
+
+    # A set in which some answer never comes is no set to compare by.
+    def test_missing_answers(self):
+        with mock.patch.object(sessions, 'COUNT', 1), redirect_stdout(StringIO()) as said:
+            self.assertEqual(compare.compare(self.program(RIGHT), 5, 1), 1)
+        self.assertIn("terms: no case of seed 5 prints [b'BAD', b'C', b'C left', b'NO 1',", said.getvalue())
 
     # The command line: the first case that differs is named, its files stay, the
     # last line says that it failed, and the status is 1.
