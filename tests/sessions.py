@@ -10,9 +10,9 @@ import sys
 from itertools import combinations, islice
 
 from runs import files, histories, lines
-from runs.case import CLOSED, PIECES, STORED, UNREADABLE, WHOLE, Case, Chance, with_file, write
+from runs.case import CLOSED, LINK, PIECES, STORED, UNREADABLE, WHOLE, Case, Chance, with_file, write
 
-# The number of runs that is asked for by the issue and holds every family.
+# The runs of a whole set: it holds every family.
 COUNT = 400
 
 # 01, "March 2008 and its neighbours": the input of the example.
@@ -24,22 +24,22 @@ EXAMPLE = b'O AXA 2008-03-20\nR 2008-03-21\nC 2008-03-20\n'
 # 01's example, also in pieces, from a file and without the final line feed.
 def examples():
     def example(commands, feed):
-        return lambda chance: with_file(f'the example of document 01, {feed}', lines.FILE, commands, feed)
+        name = f'the example of document 01, {feed}'
+        return lambda chance: with_file(name, lines.EXAMPLE_FILE, commands, feed)
 
     return [example(EXAMPLE, WHOLE), example(EXAMPLE, PIECES), example(EXAMPLE, STORED),
             example(EXAMPLE[:-1], WHOLE), example(b'', CLOSED), example(b'', UNREADABLE)]
 
 
-# The shapes of an input.
+# The shapes of an input. Short ones come in pieces too, as a pipe holds them whole.
 def inputs():
-    def fixed(name, commands):
-        return lambda chance: with_file(name, lines.FILE, commands, chance.choice((WHOLE, PIECES, STORED)))
+    def fixed(name, commands, *feeds):
+        return lambda chance: with_file(name, lines.FILE, commands, chance.choice((WHOLE, STORED, *feeds)))
 
     def made(maker):
-        return lambda chance: with_file(maker.__name__, lines.FILE, maker(chance),
-                                        chance.choice((WHOLE, STORED)))
+        return lambda chance: fixed(maker.__name__.replace('_', ' '), maker(chance))(chance)
 
-    return [*(fixed(f'input {commands!r}', commands) for commands in lines.ENDS),
+    return [*(fixed(f'input {commands!r}', commands, PIECES) for commands in lines.ENDS),
             *(fixed(f'every byte of {command!r}', lines.every_byte(command))
               for command in (lines.OPEN, lines.ROLL, lines.CLOSE)),
             *map(made, lines.RANDOM)]
@@ -49,8 +49,8 @@ def inputs():
 # of cases.py.
 def states():
     def made(master):
-        name = f'{master.place} of {len(master.data)} bytes'
-        return lambda chance: Case(name, master, files.STATE_COMMANDS)
+        what = f'to {master.data.decode()}' if master.place == LINK else f'of {len(master.data)} bytes'
+        return lambda chance: Case(f'{master.place} {what}', master, files.STATE_COMMANDS)
 
     return [*map(made, files.states()), *[files.stored_file] * 12]
 

@@ -7,10 +7,9 @@ from functools import lru_cache
 
 import cases
 from runs.case import FILE, FOLDER, LINK, LOCKED, MISSING, Master, with_file
-from runs.lines import text_of
+from runs.lines import day_word, text_of
 from second import dates, master, trading
 from second.master import BLOCK, FILE_AT_MOST, RECORD, RECORDS_AT_MOST, two_bytes
-from second.terms import day_text
 from second.trading import BYTES_PER_YEAR, YEARS_AT_MOST, Calendar
 from tables.files import closable
 
@@ -187,15 +186,10 @@ def opens(chance, layout):
     days = (first, last, chance.randint(first, last), chance.randint(first, (first + last) // 2))
     names = (name_of(layout.products[0]), name_of(layout.products[-1]),
              name_of(chance.choice(layout.products)), b'0', b'AXA', b'ZZZ9')
-    lines = [b'O %s %s' % (chance.choice(names), text(chance.choice(days))) for _ in range(6)]
-    lines += [b'O %s %s' % (name_of(chance.choice(layout.products)), text(first)),
-              b'R ' + text(chance.choice(days)), b'C ' + text(chance.randint(first, last))]
+    lines = [b'O %s %s' % (chance.choice(names), day_word(chance.choice(days))) for _ in range(6)]
+    lines += [b'O %s %s' % (name_of(chance.choice(layout.products)), day_word(first)),
+              b'R ' + day_word(chance.choice(days)), b'C ' + day_word(chance.randint(first, last))]
     return text_of(lines)
-
-
-# A day as a command has it.
-def text(day):
-    return day_text(day).encode('ascii')
 
 
 # The layout with a fault of each of these questions, done in falling order: what

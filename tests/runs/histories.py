@@ -2,27 +2,21 @@
 table"; issue 6: covers of 1, 2, 3, 5, 7 and 16 years, closure clusters, long
 histories)."""
 
-import datetime
-
 from runs.case import with_file
-from runs.files import text
-from runs.lines import OTHER_LINES, text_of
+from runs.lines import OTHER_LINES, day_word, text_of
 from second import dates, listing, master, trading
 from second.book import Book
 from tables.files import PRODUCTS, clustered, product_from
 from tables.moments import push_calls, some_calls
+from tables.script import book_call
 
 COVERS = (1, 2, 3, 5, 7, 16)
 
 # 01, Last trading day: "for the groups IT01 and IT11 the day before that". All
 # kinds, these groups and others that begin with IT.
-ITEMS = sorted((*PRODUCTS, product_from('FIA2 IT02 XMIL 0 500 1 EUR'), product_from('ENI2 IT12 XMIL 1 500 1 EUR'),
-                product_from('IT IT10 XMIL 3 500 1 EUR')), key=lambda item: item.id)
-
-
-# A day number as a command has it, also one before 2000 or after 2099.
-def day_word(day):
-    return (datetime.date(2000, 1, 1) + datetime.timedelta(day)).isoformat().encode('ascii')
+ITEMS = sorted((*PRODUCTS, product_from('FIA2 IT02 XMIL 0 500 1 EUR'),
+                product_from('ENI2 IT12 XMIL 1 500 1 EUR'), product_from('IT IT10 XMIL 3 500 1 EUR')),
+               key=lambda item: item.id)
 
 
 # The lines written so far and the book that they leave.
@@ -55,24 +49,27 @@ class Session:
         self.lines.append(b'O %s %s' % (item.id.rstrip(), day_word(date)))
         self.book = Book(item.kind, item.group, self.calendar, date)
 
-    # An accepted open of one of the products. A cover of one year holds the
-    # listing of kind 1 as long as the front month is March at the latest.
+    # An accepted open of one of the products, early in the cover or on any date,
+    # or on the first one where no listing fits any more.
     def open_some(self):
-        date = self.first + self.chance.randrange(60)
+        date = self.chance.randint(self.first, self.chance.choice((self.first + 60, self.last)))
+        if not self.openable(date):
+            date = self.first
         self.open(self.chance.choice(self.openable(date)), date)
 
     # Rolls and closes, by the letter and the day.
     def make(self, calls):
         for letter, day in calls:
             self.lines.append(letter.encode('ascii') + b' ' + day_word(day))
-            self.book.roll(day) if letter == 'R' else self.book.close(day)
+            book_call(self.book, letter, day)
 
     # A line that leaves the table as it is: another line, an id that is not
     # there, a date outside the cover, a product whose listing does not fit.
     def disturb(self):
         self.lines.append(self.chance.choice((
-            *OTHER_LINES, b'O NONE ' + text(self.book.date), b'O AXA ' + day_word(self.first - 1),
-            b'O AXA ' + day_word(self.last + 1), b'O DAI ' + text(self.last), b'O FIAT ' + text(self.last))))
+            self.chance.choice(OTHER_LINES), b'O NONE ' + day_word(self.book.date),
+            b'O AXA ' + day_word(self.first - 1), b'O AXA ' + day_word(self.last + 1),
+            b'O DAI ' + day_word(self.last), b'O FIAT ' + day_word(self.last))))
 
     # The run.
     def case(self, name):
@@ -95,13 +92,14 @@ def mixed(chance, years, length):
     return session.case('mixed calls')
 
 
+# Dozens of calls.
+def short_mixed(chance, years):
+    return mixed(chance, years, chance.randint(20, 60))
+
+
 # Hundreds of calls.
 def long_mixed(chance, years):
     return mixed(chance, years, chance.randint(250, 450))
-
-
-def short_mixed(chance, years):
-    return mixed(chance, years, chance.randint(20, 60))
 
 
 # Dates from one on, some days apart, as long as the listing fits the cover.
@@ -165,7 +163,7 @@ def many_opens(chance, years):
     return session.case('many opens')
 
 
-# A closure in every week, to the end of the cover or to a number of closures.
+# A closure in every week, in long covers in every few weeks, to the cover's end.
 def many_closes(chance, years):
     session = Session(chance, years)
     session.open(chance.choice(session.openable(session.first)), session.first)

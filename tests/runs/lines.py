@@ -1,6 +1,8 @@
 """Shapes of standard input (01: "Single spaces part the words of a line, which
 ends with a line feed or with the input"; issue 6, `terms`)."""
 
+import datetime
+
 from second import dates, master
 from second.trading import Calendar
 from tables.files import products_of
@@ -9,9 +11,11 @@ OPEN = b'O AXA 2008-03-20'
 ROLL = b'R 2008-03-21'
 CLOSE = b'C 2008-04-18'
 
-# 01: the example's calendar, with two products more.
-FILE = master.build(Calendar(2008, 3, frozenset((dates.day_of(2008, 3, 21),))),
-                    products_of('AXA', 'AXAF', 'ENI'))
+# 01: "With 2008–2010, only 21 March 2008 closed, and AXA": the example's file, and
+# one with two products more.
+CALENDAR = Calendar(2008, 3, frozenset((dates.day_of(2008, 3, 21),)))
+EXAMPLE_FILE = master.build(CALENDAR, products_of('AXA'))
+FILE = master.build(CALENDAR, products_of('AXA', 'AXAF', 'ENI'))
 
 # 01: "An id is 1 to 4 characters as in a record". Words that are no id.
 OTHER_IDS = (
@@ -38,17 +42,19 @@ OTHER_DATES = (
 OTHER_LINES = (
     b'', b' ', b'  ', b'\t', b'\r', b'\0', b'\xff', b'\x80', b'\x1a', b'\x04', b'-', b'#', b'NO 1', b'BAD',
     b'O', b'O ', b'O  ', b'R', b'R ', b'C', b'C ', b'OAXA 2008-03-20', b'R2008-03-21', b'C2008-04-18',
-    b' O AXA 2008-03-20', b'O  AXA 2008-03-20', b'O AXA  2008-03-20', b'O AXA 2008-03-20 ', b'O AXA 2008-03-20  ',
-    b'O\tAXA 2008-03-20', b'O AXA\t2008-03-20', b'O AXA\xc2\xa02008-03-20', b'O AXA\x0b2008-03-20',
+    b' O AXA 2008-03-20', b'O  AXA 2008-03-20', b'O AXA  2008-03-20', b'O AXA 2008-03-20 ',
+    b'O AXA 2008-03-20  ', b'O\tAXA 2008-03-20', b'O AXA\t2008-03-20', b'O AXA\xc2\xa02008-03-20', b'O AXA\x0b2008-03-20',
     b' R 2008-03-21', b'R  2008-03-21', b'R 2008-03-21 ', b'R\t2008-03-21', b'C  2008-04-18', b'C 2008-04-18 ',
-    b'O AXA 2008-03-20\r', b'R 2008-03-21\r', b'C 2008-04-18\r', b'\rR 2008-03-21', b'R 2008-03-21\rC 2008-04-18',
+    b'O AXA 2008-03-20\r', b'R 2008-03-21\r', b'C 2008-04-18\r', b'\rR 2008-03-21',
+    b'R 2008-03-21\rC 2008-04-18',
     b'O AXA 2008-03-20\0', b'\0O AXA 2008-03-20', b'O\0AXA 2008-03-20', b'R 2008-03-21\0', b'\0', b'\0\0\0',
     b'\xef\xbb\xbfO AXA 2008-03-20', b'\xffR 2008-03-21', b'R 2008-03-21\xff', b'\xcf AXA 2008-03-20',
     b'\xd2 2008-03-21', b'O AXA', b'O 2008-03-20', b'O 2008-03-20 AXA', b'O AXA 2008-03-20 2008-03-20',
     b'O AXA AXA 2008-03-20', b'O AXA 2008-03-20 R 2008-03-21', b'R AXA 2008-03-21', b'C AXA 2008-04-18',
     b'R 2008-03-21 2008-03-22', b'o AXA 2008-03-20', b'r 2008-03-21', b'c 2008-04-18', b'0 AXA 2008-03-20',
     b'X 2008-03-21', b'P 2008-03-21', b'Q 2008-03-21', b'S 2008-03-21', b'OO AXA 2008-03-20', b'RR 2008-03-21',
-    b'OR 2008-03-21', b'N AXA 2008-03-20', b'D 2008-04-18', b'B 2008-04-18', b'O,AXA,2008-03-20', b'"R 2008-03-21"',
+    b'OR 2008-03-21', b'N AXA 2008-03-20', b'D 2008-04-18', b'B 2008-04-18', b'O,AXA,2008-03-20',
+    b'"R 2008-03-21"',
 )
 
 
@@ -60,6 +66,11 @@ def other_lines():
 
 
 # ---- Whole inputs ----
+
+# A day number as a command has it, also one before 2000 or after 2099.
+def day_word(day):
+    return (datetime.date(2000, 1, 1) + datetime.timedelta(day)).isoformat().encode('ascii')
+
 
 # Lines, each ended by a line feed.
 def text_of(lines):
@@ -173,7 +184,8 @@ def many_lines(chance):
 
 # 01: "R or C before an accepted O", also after a refused one.
 def early_calls(chance):
-    calls = [ROLL, CLOSE, b'O X 2008-03-20', b'O AXA 2007-12-31', b'O AXA 2010-12-31', b'O AXAF 2009-12-31', b'']
+    calls = [ROLL, CLOSE, b'O X 2008-03-20', b'O AXA 2007-12-31', b'O AXA 2010-12-31',
+             b'O AXAF 2009-12-31', b'']
     chance.shuffle(calls)
     return text_of((*calls, ROLL, CLOSE, OPEN, *calls, ROLL))
 
