@@ -48,7 +48,8 @@ class Layout:
 def some_calendar(chance, years):
     last = dates.LAST_YEAR + 1 - years
     first_year = chance.choice((dates.FIRST_YEAR, last, chance.randint(dates.FIRST_YEAR, last)))
-    days = trading.weekdays_of(first_year, years)
+    empty = Calendar(first_year, years, frozenset())
+    days = range(trading.first_day(empty), trading.last_day(empty) + 1)
     return Calendar(first_year, years, closable(chance.sample(days, chance.randrange(12 * years))))
 
 

@@ -130,23 +130,19 @@ def is_clean(calendar):
                for day in calendar.closed)
 
 
-# The Mondays to Fridays of a cover.
-@lru_cache(maxsize=64)
-def weekdays_of(first_year, years):
-    cover = Calendar(first_year, years, frozenset())
-    return [day for day in range(first_day(cover), last_day(cover) + 1) if dates.is_weekday(day)]
-
-
 # 01, question 6: "Does every run of seven days in the cover hold a trading
-# day?" Runs lie wholly in the cover. A run without one lies between two trading
-# days that are more than seven days apart; the days just outside the cover
-# bound the first and the last run.
+# day?" Runs lie wholly in the cover.
 @lru_cache(maxsize=256)
 def every_week_trades(calendar):
-    days = [day for day in weekdays_of(calendar.first_year, calendar.years)
-            if day not in calendar.closed]
-    bounds = [first_day(calendar) - 1, *days, last_day(calendar) + 1]
-    return all(later - day <= 7 for day, later in zip(bounds, bounds[1:]))
+    without = 0
+    for day in range(first_day(calendar), last_day(calendar) + 1):
+        if dates.is_weekday(day) and day not in calendar.closed:
+            without = 0
+        else:
+            without += 1
+        if without == 7:
+            return False
+    return True
 
 
 # 01, The table: "Close marks one day closed." A day outside the cover changes
