@@ -13,7 +13,7 @@ use Rattle.product.specs.Settlement.{italian}
 use Rattle.product.specs.Prices.{cashAdmitted, cashOf}
 use Rattle.listing.specs.Rules.{lastDay, front, taken, freshKeys, complete, places15}
 use Rattle.listing.specs.Months.{thirdFriday, anchorOf, lastTradingDay, inSet, placesOf, monthly}
-use Rattle.table.specs.Numbering.{isListed, numberOf, renumbered, numbersRight}
+use Rattle.numbers.specs.Numbering.{isListed, numberOf, renumbered, numbersRight}
 use Rattle.table.specs.Table.{listsFresh, countFrom, monthsBefore, sound, openedTable}
 use Rattle.values.specs.Values.{tickCall}
 use Rattle.examples.specs.Examples.{rows, allHold, only21, also20, monthsOn, axa, axaTable}

@@ -17,7 +17,7 @@ use Rattle.listing.specs.Rules.{places15}
 use Rattle.listing.specs.Months.{lastTradingDay}
 use Rattle.table.specs.declared.Table.{Table}
 use Rattle.table.specs.declared.Outcome.{Outcome}
-use Rattle.table.specs.Numbering.{isListed, numberOf, withNumber}
+use Rattle.numbers.specs.Numbering.{isListed, numberOf, withNumber}
 use Rattle.table.specs.Table.{freshOf, allInCover, held, sound, rollCall, closeCall, openedTable}
 use Rattle.history.specs.Book.{Call, roll, close, Reply, calendarAfter, dateAfter, bookOpened, bookRun, bookReplies}
 

@@ -25,7 +25,7 @@ use Rattle.listing.proofs.Taking.{rest, rest-room}
 use Rattle.listing.proofs.Fresh.{front-is}
 use Rattle.table.specs.declared.Table.{Table}
 use Rattle.table.specs.declared.Outcome.{Outcome}
-use Rattle.table.specs.Numbering.{isListed, numbersRight}
+use Rattle.numbers.specs.Numbering.{placesOfKind, isListed, numbersRight}
 use Rattle.table.specs.Table.{freshOf, allInCover, placesUsed, held, placeRight, listsFresh, countFrom, monthsBefore, listingSound, sound, movedTo, moved, refusedWith, answered, rollAsks, rollCall, closeAsks, closeCall}
 
 -- a search below b ends below b, or where there is none at a number that is not above it
@@ -64,8 +64,8 @@ unfolding rest
 used-most t = rw (used-is t) (rest-room (t .product .kind))
 
 -- the code's search for the month is in the places that are used
-pub listed-is : (t : Table) (month n : ℕ) (b : Bool) → n ≡ length (placesOf (rowOf (t .product .kind)) monthSets) → b ≡ isListed (take n (t .maturities)) month → b ≡ isListed (held t) month
-listed-is t month n b q r = r ∙ ap (λ (k : ℕ). isListed (take k (t .maturities)) month) (q ∙ sym (used-is t))
+pub listed-is : (t : Table) (month : ℕ) (b : Bool) → b ≡ isListed (take (placesOfKind (t .product .kind)) (t .maturities)) month → b ≡ isListed (held t) month
+listed-is t month b r = r ∙ ap (λ (k : ℕ). isListed (take k (t .maturities)) month) (sym (used-is t))
 
 -- a complete fresh listing fills the places that are used
 pub fresh-held : (cal : Calendar) (kind : Kind) (group : List ℕ) (date n : ℕ) → n ≡ length (placesOf (rowOf kind) monthSets) → allInCover cal kind group date ≡ true
@@ -237,8 +237,8 @@ unfolding listsFresh
 lists-is t l n b e q r =
     r ∙ rw (q ∙ sym (used-is t), places-is (t .calendar) (t .product .kind) (t .product .group) (t .date) l e)
 
-pub numbers-is : (t : Table) (n : ℕ) (b : Bool) → n ≡ length (placesOf (rowOf (t .product .kind)) monthSets) → b ≡ numbersRight (t .maturities) n (t .given) → b ≡ numbersRight (t .maturities) (placesUsed t) (t .given)
-numbers-is t n b q r = r ∙ ap (λ (k : ℕ). numbersRight (t .maturities) k (t .given)) (q ∙ sym (used-is t))
+pub numbers-is : (t : Table) (b : Bool) → b ≡ numbersRight (t .maturities) (placesOfKind (t .product .kind)) (t .given) → b ≡ numbersRight (t .maturities) (placesUsed t) (t .given)
+numbers-is t b r = r ∙ ap (λ (k : ℕ). numbersRight (t .maturities) k (t .given)) (sym (used-is t))
 
 -- what is said of the maturities, question by question
 module _ (t : Table) (w : allInCover (t .calendar) (t .product .kind) (t .product .group) (t .date) ≡ true) where

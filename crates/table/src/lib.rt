@@ -1,6 +1,4 @@
 // The table of listed maturities of one product, and the calls on it.
-mod numbers;
-
 use calendar::Calendar;
 use listing::Maturity;
 use product::Product;
@@ -11,7 +9,7 @@ ghost use Rattle.questions.specs.Search.{every};
 ghost use Rattle.days.specs.Dates.{monthOf};
 ghost use Rattle.calendar.specs.Trading.{coverStart};
 ghost use Rattle.listing.specs.Months.{frontMonth};
-ghost use Rattle.table.specs.Numbering.{isListed};
+ghost use Rattle.numbers.specs.Numbering.{isListed};
 ghost use Rattle.table.specs.Table.{held, placeRight, listingSound, sound, placesUsed, movedTo, refusedWith, rollCall, closeCall};
 
 // A product, its calendar, a date, up to 15 maturities by rising month, and the count of numbers given.
@@ -94,7 +92,7 @@ fn is_listing_sound(t: Table) -> bool
     if !are_places_right(maturities, fresh, n as usize) {
         return false;
     }
-    if !numbers::are_numbers_right(maturities, n as usize, t.given) {
+    if !numbers::are_numbers_right(maturities, kind, t.given) {
         return false;
     }
     if t.given < n {
@@ -135,8 +133,7 @@ pub fn is_month_listed(t: Table, month: u16) -> bool
     let p = t.product;
     let kind = p.kind;
     let maturities = t.maturities;
-    let n = listing::months_listed(kind) as usize;
-    numbers::is_listed(maturities, n, month)
+    numbers::is_listed(maturities, kind, month)
 }
 
 // The same table with the number of a question and counts 0 and 0.
@@ -159,10 +156,9 @@ fn moved_to(t: Table, cal: Calendar, date: u16, fresh: [Maturity; 15]) -> Outcom
     let p = t.product;
     let kind = p.kind;
     let old = t.maturities;
-    let n = listing::months_listed(kind) as usize;
-    let entered = numbers::count_missing(fresh, old, n);
-    let left = numbers::count_missing(old, fresh, n);
-    let maturities = numbers::renumber(old, fresh, n, t.given);
+    let entered = numbers::count_missing(fresh, old, kind);
+    let left = numbers::count_missing(old, fresh, kind);
+    let maturities = numbers::renumber(old, fresh, kind, t.given);
     let table = Table {
         product: p,
         calendar: cal,

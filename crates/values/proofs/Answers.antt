@@ -14,7 +14,7 @@ use Rattle.product.specs.Prices.{priceRight, multipleOf, finalRight, contractsR
 use Rattle.product.specs.Settlement.{settlementDays}
 use Rattle.listing.specs.Months.{lastTradingDay}
 use Rattle.table.specs.declared.Table.{Table}
-use Rattle.table.specs.Numbering.{isListed}
+use Rattle.numbers.specs.Numbering.{isListed}
 use Rattle.table.specs.Table.{held, sound}
 use Rattle.values.specs.Values.{noDay, noCash, lastDayAsks, lastDayCall, dueDay, dueAsks, dueCall, tickCall, cashAsks, cashCall}
 use Rattle.table.proofs.Calls.{sound-parts}

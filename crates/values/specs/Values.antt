@@ -13,7 +13,7 @@ use Rattle.listing.specs.Months.{lastTradingDay}
 use Rattle.table.specs.declared.Table.{Table}
 use Rattle.values.specs.declared.DayReply.{DayReply}
 use Rattle.values.specs.declared.CashReply.{CashReply}
-use Rattle.table.specs.Numbering.{isListed}
+use Rattle.numbers.specs.Numbering.{isListed}
 use Rattle.table.specs.Table.{held, sound}
 
 -- 'returns the number of the first answered no', and the value, of a reply with a day

@@ -26,23 +26,20 @@ are-places-right-requires c κs = tt
 returns-2 : tie.Need-returns-2
 returns-2 c = sym (listing-unlike _ (said-yes (complete-is _ _ _ _ _ (c .before .before .before .before .before .before .list .ensures)) (c .before .before .before .before .if1 .left)) (said-no (lists-is _ _ _ _ (c .before .before .before .before .before .before .list .ensures) (c .before .before .months-listed .ensures .0) (c .before .are-places-right .ensures)) (c .if2 .taken)))
 
-cast-are-numbers-right : tie.Need-cast-are-numbers-right
-cast-are-numbers-right c = search needs
-
 are-numbers-right-requires : tie.Need-are-numbers-right-requires
-are-numbers-right-requires c κs = search needs
+are-numbers-right-requires c κs = tt
 
 returns-3 : tie.Need-returns-3
-returns-3 c = sym (listing-numbers (c .before .before .before .before .before .before .before .before .before .before .before .before .before .args .t) (said-yes (complete-is _ _ _ _ _ (c .before .before .before .before .before .before .before .before .list .ensures)) (c .before .before .before .before .before .before .if1 .left)) (said-yes (lists-is (c .before .before .before .before .before .before .before .before .before .before .before .before .before .args .t) _ _ _ (c .before .before .before .before .before .before .before .before .list .ensures) (c .before .before .before .before .months-listed .ensures .0) (c .before .before .before .are-places-right .ensures)) (c .before .before .if2 .left)) (said-no (numbers-is (c .before .before .before .before .before .before .before .before .before .before .before .before .before .args .t) _ _ (c .before .before .before .before .months-listed .ensures .0) (c .before .are-numbers-right .ensures)) (c .if3 .taken)))
+returns-3 c = sym (listing-numbers (c .before .before .before .before .before .before .before .before .before .before .before .before .before .args .t) (said-yes (complete-is _ _ _ _ _ (c .before .before .before .before .before .before .before .before .list .ensures)) (c .before .before .before .before .before .before .if1 .left)) (said-yes (lists-is (c .before .before .before .before .before .before .before .before .before .before .before .before .before .args .t) _ _ _ (c .before .before .before .before .before .before .before .before .list .ensures) (c .before .before .before .before .months-listed .ensures .0) (c .before .before .before .are-places-right .ensures)) (c .before .before .if2 .left)) (said-no (numbers-is (c .before .before .before .before .before .before .before .before .before .before .before .before .before .args .t) _ (c .before .are-numbers-right .ensures)) (c .if3 .taken)))
 
 returns-4 : tie.Need-returns-4
-returns-4 c = sym (listing-few (c .before .before .before .before .before .before .before .before .before .before .before .before .before .before .before .args .t) (said-yes (complete-is _ _ _ _ _ (c .before .before .before .before .before .before .before .before .before .before .list .ensures)) (c .before .before .before .before .before .before .before .before .if1 .left)) (said-yes (lists-is (c .before .before .before .before .before .before .before .before .before .before .before .before .before .before .before .args .t) _ _ _ (c .before .before .before .before .before .before .before .before .before .before .list .ensures) (c .before .before .before .before .before .before .months-listed .ensures .0) (c .before .before .before .before .before .are-places-right .ensures)) (c .before .before .before .before .if2 .left)) (said-yes (numbers-is (c .before .before .before .before .before .before .before .before .before .before .before .before .before .before .before .args .t) _ _ (c .before .before .before .before .before .before .months-listed .ensures .0) (c .before .before .before .are-numbers-right .ensures)) (c .before .before .if3 .left)) _ (c .before .before .before .before .before .before .months-listed .ensures .0) (c .if4 .taken))
+returns-4 c = sym (listing-few (c .before .before .before .before .before .before .before .before .before .before .before .before .before .before .before .args .t) (said-yes (complete-is _ _ _ _ _ (c .before .before .before .before .before .before .before .before .before .before .list .ensures)) (c .before .before .before .before .before .before .before .before .if1 .left)) (said-yes (lists-is (c .before .before .before .before .before .before .before .before .before .before .before .before .before .before .before .args .t) _ _ _ (c .before .before .before .before .before .before .before .before .before .before .list .ensures) (c .before .before .before .before .before .before .months-listed .ensures .0) (c .before .before .before .before .before .are-places-right .ensures)) (c .before .before .before .before .if2 .left)) (said-yes (numbers-is (c .before .before .before .before .before .before .before .before .before .before .before .before .before .before .before .args .t) _ (c .before .before .before .are-numbers-right .ensures)) (c .before .before .if3 .left)) _ (c .before .before .before .before .before .before .months-listed .ensures .0) (c .if4 .taken))
 
 months-before-requires : tie.Need-months-before-requires
 months-before-requires c κs = tt
 
 returns-5 : tie.Need-returns-5
-returns-5 c = listing-rest (c .before .before .before .before .before .before .before .before .before .before .before .before .before .before .before .before .before .args .t) (said-yes (complete-is _ _ _ _ _ (c .before .before .before .before .before .before .before .before .before .before .before .before .list .ensures)) (c .before .before .before .before .before .before .before .before .before .before .if1 .left)) (said-yes (lists-is (c .before .before .before .before .before .before .before .before .before .before .before .before .before .before .before .before .before .args .t) _ _ _ (c .before .before .before .before .before .before .before .before .before .before .before .before .list .ensures) (c .before .before .before .before .before .before .before .before .months-listed .ensures .0) (c .before .before .before .before .before .before .before .are-places-right .ensures)) (c .before .before .before .before .before .before .if2 .left)) (said-yes (numbers-is (c .before .before .before .before .before .before .before .before .before .before .before .before .before .before .before .before .before .args .t) _ _ (c .before .before .before .before .before .before .before .before .months-listed .ensures .0) (c .before .before .before .before .before .are-numbers-right .ensures)) (c .before .before .before .before .if3 .left)) _ (c .before .before .before .before .before .before .before .before .months-listed .ensures .0) _ (c .before .before .if4 .left) (c .months-before .ensures .0)
+returns-5 c = listing-rest (c .before .before .before .before .before .before .before .before .before .before .before .before .before .before .before .before .before .args .t) (said-yes (complete-is _ _ _ _ _ (c .before .before .before .before .before .before .before .before .before .before .before .before .list .ensures)) (c .before .before .before .before .before .before .before .before .before .before .if1 .left)) (said-yes (lists-is (c .before .before .before .before .before .before .before .before .before .before .before .before .before .before .before .before .before .args .t) _ _ _ (c .before .before .before .before .before .before .before .before .before .before .before .before .list .ensures) (c .before .before .before .before .before .before .before .before .months-listed .ensures .0) (c .before .before .before .before .before .before .before .are-places-right .ensures)) (c .before .before .before .before .before .before .if2 .left)) (said-yes (numbers-is (c .before .before .before .before .before .before .before .before .before .before .before .before .before .before .before .before .before .args .t) _ (c .before .before .before .before .before .are-numbers-right .ensures)) (c .before .before .before .before .if3 .left)) _ (c .before .before .before .before .before .before .before .before .months-listed .ensures .0) _ (c .before .before .if4 .left) (c .months-before .ensures .0)
 
 pub is-listing-sound-spec : {M : Type 1} → statement M
 is-listing-sound-spec =
@@ -54,7 +51,6 @@ is-listing-sound-spec =
     cast-are-places-right
     are-places-right-requires
     returns-2
-    cast-are-numbers-right
     are-numbers-right-requires
     returns-3
     returns-4

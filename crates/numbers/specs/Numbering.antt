@@ -1,0 +1,58 @@
+-- Listing numbers: which months entered and left, and the numbers they have (01, The table).
+-- Assumes nothing.
+use Prim.Native.Nat.{ℕ, suc, _-_}
+use mathlib.Core.Bool.{Bool, false, not, _&&_, _||_, cond}
+use mathlib.Core.List.{List, [], _∷_}
+use lib.Dec.{leb, eqb}
+use lib.ListN.{length, getD}
+use Rattle.questions.specs.Search.{every}
+use Rattle.product.specs.declared.Kind.{Kind}
+use Rattle.listing.specs.declared.Maturity.{Maturity}
+use Rattle.listing.specs.Rules.{unused}
+use Rattle.listing.specs.Months.{placesOf, rowOf, monthSets}
+
+-- how many months a complete listing of a kind has, and so the places that are used: as many as its row of counts sums to
+abbrev pub placesOfKind : Kind → ℕ
+placesOfKind kind = length (placesOf (rowOf kind) monthSets)
+
+-- the month is among the maturities
+unfoldable pub isListed : List Maturity → ℕ → Bool
+isListed [] month = false
+isListed (m ∷ ms) month = eqb (m .month) month || isListed ms month
+
+-- the listing number of a month; 0 where it is not listed
+unfoldable pub numberOf : List Maturity → ℕ → ℕ
+numberOf [] month = 0
+numberOf (m ∷ ms) month = cond (eqb (m .month) month) (m .number) (numberOf ms month)
+
+-- the maturities of one list whose months another has not
+unfoldable pub missing : List Maturity → List Maturity → List Maturity
+missing [] others = []
+missing (m ∷ ms) others = cond (isListed others (m .month)) (missing ms others) (m ∷ missing ms others)
+
+-- a maturity with a listing number
+abbrev pub withNumber : Maturity → ℕ → Maturity
+withNumber m n = record { month = m .month; day = m .day; number = n }
+
+-- 'A month in both keeps its number; a new one has entered and takes the next number after given, by rising month'
+unfoldable pub renumbered : List Maturity → ℕ → List Maturity → List Maturity
+renumbered old given [] = []
+renumbered old given (m ∷ ms) =
+    cond (isListed old (m .month)) (withNumber m (numberOf old (m .month)) ∷ renumbered old given ms)
+    (withNumber m (suc given) ∷ renumbered old (suc given) ms)
+
+-- 'numbered 1, 2, .. by rising month'
+abbrev pub numberedFresh : List Maturity → List Maturity
+numberedFresh fresh = renumbered [] 0 fresh
+
+-- 'its numbers are distinct': no place before i has the number of place i
+abbrev pub unlikeBefore : List Maturity → ℕ → Bool
+unlikeBefore ms i = every i (λ j. not (eqb (getD ms j unused .number) (getD ms i unused .number)))
+
+-- 'distinct, from 1 to the count given', of place i
+abbrev pub numberRight : List Maturity → ℕ → ℕ → Bool
+numberRight ms given i = leb 1 (getD ms i unused .number) && (leb (getD ms i unused .number) given && unlikeBefore ms i)
+
+-- 'its numbers are distinct, from 1 to the count given', of the first n places
+unfoldable pub numbersRight : List Maturity → ℕ → ℕ → Bool
+numbersRight ms n given = every n (numberRight ms given)
