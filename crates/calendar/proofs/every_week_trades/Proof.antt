@@ -26,38 +26,38 @@ loop-holds c = held-start _ _ _ (omega (arith, c .before .cover-end .ensures .0,
 add-loop : tie.Need-add-loop Inv-loop μ-loop
 add-loop c = omega (arith, c .loop .inv .to)
 
-add-latest-trading-day : tie.Need-add-latest-trading-day Inv-loop μ-loop
-add-latest-trading-day c = omega arith
+add-at-or-before : tie.Need-add-at-or-before Inv-loop μ-loop
+add-at-or-before c = omega arith
 
-latest-trading-day-requires : tie.Need-latest-trading-day-requires Inv-loop μ-loop
-latest-trading-day-requires c κs = tt
+at-or-before-requires : tie.Need-at-or-before-requires Inv-loop μ-loop
+at-or-before-requires c κs = tt
 
 returns : tie.Need-returns Inv-loop μ-loop
 unfolding everyWeek
 returns c =
     sym
     (rw (← c .before .before .before .before .before .cover-end .ensures .0, ← c .before .before .before .before .cover-start .ensures .0)
-    (held-fails _ _ _ _ (c .before .before .before .loop .inv) (c .before .before .loop-test .taken) (zero-idle _) (λ p. absurd (omega (arith, c .before .latest-trading-day .ensures, c .if1 .taken)))))
+    (held-fails _ _ _ _ (c .before .before .before .loop .inv) (c .before .before .loop-test .taken) (zero-idle _) (λ p. absurd (omega (arith, c .before .at-or-before .ensures, c .if1 .taken)))))
 
 returns-2 : tie.Need-returns-2 Inv-loop μ-loop
 unfolding everyWeek
 returns-2 c =
     sym
     (rw (← c .before .before .before .before .before .before .cover-end .ensures .0, ← c .before .before .before .before .before .cover-start .ensures .0)
-    (held-fails _ _ _ _ (c .before .before .before .before .loop .inv) (c .before .before .before .loop-test .taken) (zero-idle _) (λ p. omega (arith, c .before .before .latest-trading-day .ensures, c .if2 .taken))))
+    (held-fails _ _ _ _ (c .before .before .before .before .loop .inv) (c .before .before .before .loop-test .taken) (zero-idle _) (λ p. omega (arith, c .before .before .at-or-before .ensures, c .if2 .taken))))
 
 add-first : tie.Need-add-first Inv-loop μ-loop
-add-first c = omega (arith, c .before .before .latest-trading-day .ensures, latest-le (tradingDay (c .before .before .before .before .before .before .before .args .cal)) (c .before .before .before .before .loop .first + 6))
+add-first c = omega (arith, c .before .before .at-or-before .ensures, latest-le (tradingDay (c .before .before .before .before .before .before .before .args .cal)) (c .before .before .before .before .loop .first + 6))
 
 loop-less : tie.Need-loop-less Inv-loop μ-loop
 loop-less c = omega arith
 
 loop-again : tie.Need-loop-again Inv-loop μ-loop
 loop-again c =
-    rw (c .before .before .latest-trading-day .ensures)
+    rw (c .before .before .at-or-before .ensures)
     (held-step _ _ _ _ (c .before .before .before .before .loop .inv) (c .before .before .before .loop-test .taken)
-    (omega (arith, c .before .before .latest-trading-day .ensures, c .before .if1 .left))
-    (omega (arith, c .before .before .latest-trading-day .ensures, c .if2 .left)))
+    (omega (arith, c .before .before .at-or-before .ensures, c .before .if1 .left))
+    (omega (arith, c .before .before .at-or-before .ensures, c .if2 .left)))
 
 returns-3 : tie.Need-returns-3 Inv-loop μ-loop
 unfolding everyWeek
@@ -76,8 +76,8 @@ every-week-trades-spec =
     cover-start-requires
     loop-holds
     add-loop
-    add-latest-trading-day
-    latest-trading-day-requires
+    add-at-or-before
+    at-or-before-requires
     returns
     returns-2
     add-first
