@@ -1,65 +1,114 @@
 -- Weeks that are known to hold a trading day, and the test of every seven days.
 -- Assumes nothing.
 use mathlib.Core.Path.{_≡_, refl, _∙_, sym, ap}
-use mathlib.Core.Bool.{Bool, true, false, _&&_, and-false}
+use mathlib.Core.Bool.{Bool, true, false, not, _&&_, cond}
 use mathlib.Core.Logic.{_⊎_, inl, inr}
-use Prim.Native.Nat.{ℕ, zero, suc, _+_, _-_, _≤_, _<_}
-use native.Mathlib.Nat.{le-refl}
+use Prim.Native.Nat.{ℕ, _+_, _-_, _*_, _≤_, _<_}
+use lib.Dec.{eqb}
+use borrow.Author.Tests.{eqb-true, eq-eqb}
+use native.Mathlib.Nat.{le-refl, eq-or-lt-of-le}
 use native.Mathlib.Omega.{arith}
 use Rattle.questions.specs.Search.{every, some, latest}
-use Rattle.questions.proofs.Bools.{clash, is-false, lt-or-ge}
-use Rattle.questions.proofs.Search.{every-at, every-all, every-not, some-at, some-one, latest-le, latest-ge, latest-passes}
+use Rattle.questions.proofs.Bools.{clash, both, is-false, lt-or-ge}
+use Rattle.questions.proofs.Search.{every-at, every-all, every-not, some-at, some-one, latest-ge}
 use Rattle.calendar.specs.declared.Calendar.{Calendar}
-use Rattle.calendar.specs.Trading.{coverStart, coverEnd, inCover, tradingDay, someTrades, everyWeek}
+use Rattle.calendar.specs.Trading.{coverStart, coverEnd, tradingDay, someTrades, everyWeek}
+
+-- the code's test of a day that does not trade and is the first of its week
+pub idle-first : (b : Bool) (x y : ℕ) → (not b && eqb x y) ≡ true → (b ≡ false) × (x ≡ y)
+idle-first true x y e = clash e refl
+idle-first false x y e = (refl, eqb-true x y e)
+
+pub not-idle-first : (b : Bool) (x y : ℕ) → (not b && eqb x y) ≡ false → b ≡ false → x ≡ y → ⊥
+not-idle-first true x y e q r = clash refl q
+not-idle-first false x y e q r = clash (eq-eqb x y r) e
 
 -- one of the seven days from the k-th day after s on passes
 abbrev week : (ℕ → Bool) → ℕ → ℕ → Bool
 week f s k = some 7 (λ i. f (s + k + i))
 
--- the loop's state: every week that begins at s or later and before d holds a day that passes
-pub record Held (f : ℕ → Bool) (s e d : ℕ) : Type 0 where
-  pub from : s ≤ d
-  pub to : d ≤ e
-  pub held : (k : ℕ) → s + k < d → week f s k ≡ true
+-- the loop's state: every week that begins at s or later and before `first` holds a day that passes, and of the week from `first` on the days after d do not pass
+pub record Held (f : ℕ → Bool) (s e first d : ℕ) : Type 0 where
+  pub from : s ≤ first
+  pub to : first ≤ e
+  pub near : first ≤ d
+  pub within : d ≤ first + 6
+  pub held : (k : ℕ) → s + k < first → week f s k ≡ true
+  pub idle : (x : ℕ) → d < x → x ≤ first + 6 → f x ≡ false
 
 module _ (f : ℕ → Bool) (s e : ℕ) where
-  pub held-start : s ≤ e → Held f s e s
-  held-start h = record { from = le-refl s; to = h; held = λ k l. absurd (omega arith) }
+  pub held-start : s ≤ e → Held f s e s (s + 6)
+  held-start h =
+      record {
+        from = le-refl s;
+        to = h;
+        near = omega arith;
+        within = le-refl (s + 6);
+        held = λ k l. absurd (omega arith);
+        idle = λ x a b. absurd (omega arith);
+      }
 
-  module _ (d : ℕ) (h : Held f s e d) (l : d + 7 ≤ e) where
-    -- the latest day of the week from d on that passes is in the weeks that begin up to it
-    pub held-step : 0 < latest f (d + 6) → d ≤ latest f (d + 6) → Held f s e (latest f (d + 6) + 1)
-    held-step p q = record { from = omega arith; to = omega (arith, latest-le f (d + 6)); held = λ k b. side k b (lt-or-ge (s + k) d) }
+  module _ (first d : ℕ) (h : Held f s e first d) (l : first + 7 ≤ e) where
+    -- the day passes: it is in the weeks that begin up to it
+    passing : f d ≡ true → Held f s e (d + 1) (d + 7)
+    passing t =
+        record {
+          from = omega (arith, h .from, h .near);
+          to = omega (arith, h .within);
+          near = omega arith;
+          within = omega arith;
+          held = λ k b. side k b (lt-or-ge (s + k) first);
+          idle = λ x a b. absurd (omega arith);
+        }
       where
-        side : (k : ℕ) → s + k < latest f (d + 6) + 1 → (s + k < d) ⊎ (d ≤ s + k) → week f s k ≡ true
+        side : (k : ℕ) → s + k < d + 1 → (s + k < first) ⊎ (first ≤ s + k) → week f s k ≡ true
         side k b (inl r) = h .held k r
         side k b (inr r) =
-            let i = latest f (d + 6) - (s + k) in
-            let at : s + k + i ≡ latest f (d + 6) = omega arith in
-            some-at (λ i. f (s + k + i)) 7 i (ap f at ∙ latest-passes f (d + 6) p) (omega (arith, latest-le f (d + 6)))
+            let at : s + k + (d - (s + k)) ≡ d = omega arith in
+            some-at (λ i. f (s + k + i)) 7 (d - (s + k)) (ap f at ∙ t) (omega (arith, h .within))
 
-    -- no day of the week from d on passes
-    pub held-fails : f 0 ≡ false → (0 < latest f (d + 6) → latest f (d + 6) < d) → every (e - s - 6) (week f s) ≡ false
-    held-fails z q = every-not (week f s) (e - s - 6) (d - s) (is-false (week f s (d - s)) none) (omega arith)
+    -- the day does not pass, and is not the week's first
+    failing : f d ≡ false → (d ≡ first → ⊥) → Held f s e first (d - 1)
+    failing t n =
+        record { from = h .from; to = h .to; near = omega (arith, h .near); within = omega (arith, h .within); held = h .held; idle = λ x a b. side x b (eq-or-lt-of-le (later x a)) }
       where
-        none : week f s (d - s) ≡ true → ⊥
-        none t =
-            let p = some-one (λ i. f (s + (d - s) + i)) 7 t in
-            let x = s + (d - s) + p .at in
-            let b : x ≤ latest f (d + 6) = latest-ge f (d + 6) x (omega arith) (p .passes) in
-            zero-or x (p .passes) (λ c. omega (arith, q (omega arith)))
-          where
-            zero-or : (x : ℕ) → f x ≡ true → (0 < x → ⊥) → ⊥
-            zero-or zero a c = clash a z
-            zero-or (suc x) a c = c (omega arith)
+        later : (x : ℕ) → d - 1 < x → d ≤ x
+        later x a = omega arith
 
-  pub held-ends : (d : ℕ) → Held f s e d → e < d + 7 → every (e - s - 6) (week f s) ≡ true
-  held-ends d h l = every-all (week f s) (e - s - 6) (λ k b. h .held k (omega arith))
+        side : (x : ℕ) → x ≤ first + 6 → (d ≡ x) ⊎ (d < x) → f x ≡ false
+        side x b (inl q) = ap f (sym q) ∙ t
+        side x b (inr q) = h .idle x q b
 
--- day 0 is a Saturday
-pub zero-idle : (cal : Calendar) → tradingDay cal 0 ≡ false
-unfolding tradingDay
-zero-idle cal = and-false (inCover (cal .cover) 0)
+    pub held-step : (b : Bool) → b ≡ f d → (b ≡ false → d ≡ first → ⊥) → Held f s e (cond b (d + 1) first) (cond b (d + 7) (d - 1))
+    held-step true q n = passing (sym q)
+    held-step false q n = failing (sym q) (n refl)
+
+    -- the loop ends: what is left gets less
+    pub held-less : (b : Bool) → (b ≡ false → d ≡ first → ⊥) → 8 * (e - cond b (d + 1) first) + (cond b (d + 7) (d - 1) - cond b (d + 1) first) < 8 * (e - first) + (d - first)
+    held-less true n = omega (arith, h .near, h .within)
+    held-less false n = unlike (n refl)
+      where
+        unlike : (d ≡ first → ⊥) → 8 * (e - first) + (d - 1 - first) < 8 * (e - first) + (d - first)
+        unlike n = omega (arith, h .near)
+
+    -- no day of the week passes
+    pub held-fails : f d ≡ false → d ≡ first → every (e - s - 6) (week f s) ≡ false
+    held-fails t q = every-not (week f s) (e - s - 6) (first - s) (is-false (week f s (first - s)) none) (omega (arith, h .from))
+      where
+        side : (x : ℕ) → x ≤ first + 6 → (d ≡ x) ⊎ (d < x) → f x ≡ false
+        side x b (inl q) = ap f (sym q) ∙ t
+        side x b (inr q) = h .idle x q b
+
+        none : week f s (first - s) ≡ true → ⊥
+        none w =
+            let p = some-one (λ i. f (s + (first - s) + i)) 7 w in
+            let x = s + (first - s) + p .at in
+            let a : d ≤ x = omega (arith, h .from) in
+            let b : x ≤ first + 6 = omega (arith, h .from, p .below) in
+            clash (p .passes) (side x b (eq-or-lt-of-le a))
+
+  pub held-ends : (first d : ℕ) → Held f s e first d → e < first + 7 → every (e - s - 6) (week f s) ≡ true
+  held-ends first d h l = every-all (week f s) (e - s - 6) (λ k b. h .held k (omega (arith, h .from)))
 
 -- every seven consecutive days wholly in the cover hold a trading day
 pub every-week : (cal : Calendar) → everyWeek cal ≡ true → (s : ℕ) → coverStart (cal .cover) ≤ s → s + 7 ≤ coverEnd (cal .cover) → someTrades cal s 7 ≡ true

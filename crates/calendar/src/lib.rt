@@ -1,7 +1,7 @@
 // The cover, its closed days and its trading days.
 ghost use mathlib.Core.Path.{_≡_};
-ghost use mathlib.Core.Bool.{true};
-ghost use Prim.Native.Nat.{_≤_, _<_};
+ghost use mathlib.Core.Bool.{true, cond};
+ghost use Prim.Native.Nat.{_+_, _-_, _≤_, _<_};
 ghost use Rattle.questions.specs.Search.{latest};
 ghost use Rattle.calendar.specs.Trading.{validCover, coverStart, coverEnd, inCover, slotOf, closedOn, tradingDay, nextTradingDay, nthTradingDay, mayClose, mayBeClosed, cleanBit, cleanByte, clean, everyWeek, closeDay};
 
@@ -233,32 +233,46 @@ pub fn is_clean(cal: Calendar) -> bool
     true
 }
 
-// The same; a day that is a trading day itself needs no search.
-fn at_or_before(cal: Calendar, day: u16) -> u16
-    ensures { λ r. ⌜ r ≡ latest (tradingDay cal) day ⌝ }
+// Where the first run that is not known to hold a trading day begins, after a look at a day of it.
+fn next_first(trades: bool, first: u16, day: u16) -> u16
+    requires { ⌜ day ≤ 36525 ⌝ }
+    ensures { λ r. ⌜ r ≡ cond trades (day + 1) first ⌝ }
 {
-    if is_trading_day(cal, day) {
-        return day;
+    if trades {
+        return day + 1;
     }
-    latest_trading_day(cal, day)
+    first
+}
+
+// The day to look at next: the last of that run, or the day before.
+fn next_day(trades: bool, day: u16) -> u16
+    requires { ⌜ day ≤ 36525 ⌝ }
+    ensures { λ r. ⌜ r ≡ cond trades (day + 7) (day - 1) ⌝ }
+{
+    if trades {
+        return day + 7;
+    }
+    if day == 0 {
+        return 0;
+    }
+    day - 1
 }
 
 // Question 6: every run of seven days in the cover holds a trading day.
-// The latest trading day of the run that begins at `first` is also in the runs that begin after it and up to that day.
+// The runs that begin before `first` do. In the run that begins there the days after `day` do not trade. A trading day is in every run that begins in the week up to it.
 pub fn every_week_trades(cal: Calendar) -> bool
     ensures { λ r. ⌜ r ≡ everyWeek cal ⌝ }
 {
     let end = cover_end(cal.cover);
     let mut first = cover_start(cal.cover);
+    let mut day = first + 6;
     while first + 7 <= end {
-        let last = at_or_before(cal, first + 6);
-        if last == 0 {
+        let trades = is_trading_day(cal, day);
+        if !trades & (day == first) {
             return false;
         }
-        if last < first {
-            return false;
-        }
-        first = last + 1;
+        first = next_first(trades, first, day);
+        day = next_day(trades, day);
     }
     true
 }
