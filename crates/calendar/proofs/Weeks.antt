@@ -3,16 +3,34 @@
 use mathlib.Core.Path.{_≡_, refl, _∙_, sym, ap}
 use mathlib.Core.Bool.{Bool, true, false, not, _&&_, cond}
 use mathlib.Core.Logic.{_⊎_, inl, inr}
-use Prim.Native.Nat.{ℕ, _+_, _-_, _*_, _≤_, _<_}
-use lib.Dec.{eqb}
-use borrow.Author.Tests.{eqb-true, eq-eqb}
+use Prim.Native.Nat.{ℕ, _+_, _-_, _*_, _/_, _%_, _≤_, _<_}
+use mathlib.Core.List.{List}
+use lib.Dec.{eqb, ltb}
+use lib.ListN.{length, getD}
+use borrow.Author.Tests.{eqb-true, eq-eqb, lt-ltb, le-ltb}
 use native.Mathlib.Nat.{le-refl, eq-or-lt-of-le}
 use native.Mathlib.Omega.{arith}
 use Rattle.questions.specs.Search.{every, some, latest}
 use Rattle.questions.proofs.Bools.{clash, both, is-false, lt-or-ge}
 use Rattle.questions.proofs.Search.{every-at, every-all, every-not, some-at, some-one, latest-ge}
+use Rattle.days.specs.Gregorian.{weekdayOf}
 use Rattle.calendar.specs.declared.Calendar.{Calendar}
-use Rattle.calendar.specs.Trading.{coverStart, coverEnd, tradingDay, someTrades, everyWeek}
+use Rattle.calendar.specs.Bits.{byteBit, bitAt}
+use Rattle.calendar.proofs.Bits.{bit-past}
+use Rattle.calendar.specs.Trading.{coverStart, coverEnd, inCover, slotOf, closedOn, tradingDay, someTrades, everyWeek}
+
+bit-is : (map : List ℕ) (n : ℕ) → byteBit (getD map (n / 8) 0) (n % 8) ≡ bitAt map n
+unfolding bitAt
+bit-is map n = refl
+
+-- the code's test of a day, by its slot and the byte at a place that has it
+pub slot-trades : (cal : Calendar) (day slot place : ℕ) → inCover (cal .cover) day ≡ true → slot ≡ slotOf (cal .cover) day → length (cal .closed) ≡ 736 → (slot < 5888 → place ≡ slot / 8) → (ltb (weekdayOf day) 5 && not (ltb slot 5888 && byteBit (getD (cal .closed) place 0) (slot % 8))) ≡ tradingDay cal day
+unfolding tradingDay closedOn
+slot-trades cal day slot place i s l p = rw (i, ← s) (ap (λ (b : Bool). ltb (weekdayOf day) 5 && not b) (side (lt-or-ge slot 5888)))
+  where
+    side : (slot < 5888) ⊎ (5888 ≤ slot) → (ltb slot 5888 && byteBit (getD (cal .closed) place 0) (slot % 8)) ≡ bitAt (cal .closed) slot
+    side (inl h) = rw (lt-ltb slot 5888 h, p h) (bit-is (cal .closed) slot)
+    side (inr h) = rw (le-ltb slot 5888 h) (sym (bit-past (cal .closed) slot (omega (arith, l))))
 
 -- the code's test of a day that does not trade and is the first of its week
 pub idle-first : (b : Bool) (x y : ℕ) → (not b && eqb x y) ≡ true → (b ≡ false) × (x ≡ y)

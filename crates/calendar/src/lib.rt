@@ -1,8 +1,11 @@
 // The cover, its closed days and its trading days.
 ghost use mathlib.Core.Path.{_≡_};
-ghost use mathlib.Core.Bool.{true, cond};
-ghost use Prim.Native.Nat.{_+_, _-_, _≤_, _<_};
+ghost use mathlib.Core.Bool.{true, not, _&&_, cond};
+ghost use Prim.Native.Nat.{_+_, _-_, _/_, _%_, _≤_, _<_};
+ghost use lib.Dec.{ltb};
 ghost use Rattle.questions.specs.Search.{latest};
+ghost use Rattle.days.specs.Gregorian.{weekdayOf};
+ghost use Rattle.calendar.specs.Bits.{byteBit};
 ghost use Rattle.calendar.specs.Trading.{validCover, coverStart, coverEnd, inCover, slotOf, closedOn, tradingDay, nextTradingDay, nthTradingDay, mayClose, mayBeClosed, cleanBit, cleanByte, clean, everyWeek, closeDay};
 
 // A run of whole years.
@@ -233,6 +236,29 @@ pub fn is_clean(cal: Calendar) -> bool
     true
 }
 
+// The byte of the maps that has a slot; the first where none has.
+fn place_of(slot: usize) -> usize
+    ensures { λ r. ⌜ (r < 736) × (slot < 5888 → r ≡ slot / 8) ⌝ }
+{
+    if 5888 <= slot {
+        return 0;
+    }
+    slot / 8
+}
+
+// Whether a day of the cover trades, by its slot and the byte that has it. A slot past the maps is not closed.
+fn trades_on(day: u16, slot: usize, byte: u8) -> bool
+    ensures { λ r. ⌜ r ≡ (ltb (weekdayOf day) 5 && not (ltb slot 5888 && byteBit byte (slot % 8))) ⌝ }
+{
+    if 5 <= days::weekday(day) {
+        return false;
+    }
+    if 5888 <= slot {
+        return true;
+    }
+    !((byte >> (7 - slot % 8)) % 2 == 1)
+}
+
 // Where the first run that is not known to hold a trading day begins, after a look at a day of it.
 fn next_first(trades: bool, first: u16, day: u16) -> u16
     requires { ⌜ day ≤ 36525 ⌝ }
@@ -259,15 +285,18 @@ fn next_day(trades: bool, day: u16) -> u16
 }
 
 // Question 6: every run of seven days in the cover holds a trading day.
-// The runs that begin before `first` do. In the run that begins there the days after `day` do not trade. A trading day is in every run that begins in the week up to it.
+// The runs that begin before `first` do. In the run that begins there the days after `day` do not trade. A trading day is in every run that begins in the week up to it. The calendar is not handed to a function here, which would copy it for each day.
 pub fn every_week_trades(cal: Calendar) -> bool
     ensures { λ r. ⌜ r ≡ everyWeek cal ⌝ }
 {
-    let end = cover_end(cal.cover);
-    let mut first = cover_start(cal.cover);
+    let cover = cal.cover;
+    let end = cover_end(cover);
+    let mut first = cover_start(cover);
     let mut day = first + 6;
     while first + 7 <= end {
-        let trades = is_trading_day(cal, day);
+        let slot = slot_of(cover, day);
+        let byte = cal.closed[place_of(slot)];
+        let trades = trades_on(day, slot, byte);
         if !trades & (day == first) {
             return false;
         }

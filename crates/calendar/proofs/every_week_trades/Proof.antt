@@ -1,17 +1,21 @@
-use Rattle.calendar.proofs.Weeks.{Held, held-start, held-step, held-less, held-fails, held-ends, idle-first, not-idle-first}
+use Rattle.calendar.proofs.Weeks.{Held, held-start, held-step, held-less, held-fails, held-ends, slot-trades, idle-first, not-idle-first}
 use Rattle.calendar.proofs.Covered.{start-end}
-use Rattle.calendar.specs.Trading.{tradingDay, everyWeek}
+use Rattle.calendar.specs.Trading.{coverStart, coverEnd, inCover, tradingDay, everyWeek}
+use Rattle.questions.proofs.Bools.{and-both}
+use borrow.Author.Tests.{lt-ltb, le-leb}
 use Prim.Native.Nat.{_+_, _-_, _*_}
 use native.Mathlib.Omega.{arith}
-use mathlib.Core.Path.{sym, _∙_}
+use lib.ListN.{length, length-map}
+use mathlib.Core.Path.{_≡_, sym, _∙_}
+use mathlib.Core.Bool.{true}
 use Rattle.calendar.proofs.every_week_trades.Statement.{statement}
 use Rattle.calendar.proofs.every_week_trades.Tie as tie
 
 abbrev Inv-loop : tie.InvT-loop
-Inv-loop cal end first₀ day₀ first day = Held (tradingDay cal) first₀ end first day
+Inv-loop cal cover end first₀ day₀ first day = Held (tradingDay cal) first₀ end first day
 
 abbrev μ-loop : tie.MeasureT-loop
-μ-loop cal end first₀ day₀ first day = 8 * (end - first) + (day - first)
+μ-loop cal cover end first₀ day₀ first day = 8 * (end - first) + (day - first)
 
 cover-end-requires : tie.Need-cover-end-requires Inv-loop μ-loop
 cover-end-requires c κs = tt
@@ -23,38 +27,63 @@ add-day : tie.Need-add-day Inv-loop μ-loop
 add-day c = omega (arith, c .cover-start .ensures .1)
 
 loop-holds : tie.Need-loop-holds Inv-loop μ-loop
-loop-holds c = held-start _ _ _ (omega (arith, c .before .cover-end .ensures .0, c .cover-start .ensures .0, start-end (c .before .before .args .cal .cover)))
+loop-holds c = held-start _ _ _ (omega (arith, c .before .cover-end .ensures .0, c .cover-start .ensures .0, start-end (c .before .before .before .args .t1 .cover)))
 
 add-loop : tie.Need-add-loop Inv-loop μ-loop
 add-loop c = omega (arith, c .loop .inv .to, c .before .before .cover-end .ensures .1)
 
-is-trading-day-requires : tie.Need-is-trading-day-requires Inv-loop μ-loop
-is-trading-day-requires c κs = tt
+-- the day is in the cover
+covered : (c : tie.In-loop Inv-loop μ-loop) → inCover (c .before .before .before .before .before .args .t1 .cover) (c .before .loop .day) ≡ true
+unfolding inCover
+covered c =
+    let h = c .before .loop .inv in
+    let s : c .before .before .cover-start .result ≡ coverStart (c .before .before .before .before .before .args .t1 .cover) = c .before .before .cover-start .ensures .0 in
+    let e : c .before .before .before .cover-end .result ≡ coverEnd (c .before .before .before .before .before .args .t1 .cover) = c .before .before .before .cover-end .ensures .0 in
+    let v = c .before .before .before .before .before .args .t1 .cover in
+    let d = c .before .loop .day in
+    and-both (le-leb (coverStart v) d (omega (arith, s, h .from, h .near))) (lt-ltb d (coverEnd v) (omega (arith, e, h .within, c .loop-test .taken)))
+
+slot-of-requires : tie.Need-slot-of-requires Inv-loop μ-loop
+slot-of-requires c κs = covered c
+
+place-of-requires : tie.Need-place-of-requires Inv-loop μ-loop
+place-of-requires c κs = tt
+
+element-copy-out-byte : tie.Need-element-copy-out-byte Inv-loop μ-loop
+element-copy-out-byte c = c .place-of .ensures .0
+
+trades-on-requires : tie.Need-trades-on-requires Inv-loop μ-loop
+trades-on-requires c κs = tt
+
+-- the code's test is whether the day trades
+trading : (c : tie.After-trades-on Inv-loop μ-loop) → c .trades-on .result ≡ tradingDay (c .before .before .before .before .before .before .before .before .before .args .t1) (c .before .before .before .before .before .loop .day)
+trading c =
+    let l : length (c .before .before .before .before .before .before .before .before .before .args .t1 .closed) ≡ 736 = simp length-map at (c .before .before .before .before .before .before .before .before .before .good .0 .1 .1 .1 .0 .1 .0 .1) in
+    c .trades-on .ensures ∙ slot-trades (c .before .before .before .before .before .before .before .before .before .args .t1) _ _ _ (covered (c .before .before .before .before)) (c .before .before .before .slot-of .ensures) l (c .before .before .place-of .ensures .1)
 
 returns : tie.Need-returns Inv-loop μ-loop
 unfolding everyWeek
 returns c =
-    let t = c .before .is-trading-day .ensures in
     let w = idle-first _ _ _ (c .if1 .taken) in
     sym
-    (rw (← c .before .before .before .before .before .cover-end .ensures .0, ← c .before .before .before .before .cover-start .ensures .0)
-    (held-fails _ _ _ _ _ (c .before .before .before .loop .inv) (c .before .before .loop-test .taken) (sym t ∙ w .0) (w .1)))
+    (rw (← c .before .before .before .before .before .before .before .before .cover-end .ensures .0, ← c .before .before .before .before .before .before .before .cover-start .ensures .0)
+    (held-fails _ _ _ _ _ (c .before .before .before .before .before .before .loop .inv) (c .before .before .before .before .before .loop-test .taken) (sym (trading (c .before)) ∙ w .0) (w .1)))
 
 next-first-requires : tie.Need-next-first-requires Inv-loop μ-loop
-next-first-requires c κs = omega (arith, c .before .before .before .loop .inv .within, c .before .before .loop-test .taken, c .before .before .before .before .before .cover-end .ensures .1)
+next-first-requires c κs = omega (arith, c .before .before .before .before .before .before .loop .inv .within, c .before .before .before .before .before .loop-test .taken, c .before .before .before .before .before .before .before .before .cover-end .ensures .1)
 
 next-day-requires : tie.Need-next-day-requires Inv-loop μ-loop
-next-day-requires c κs = omega (arith, c .before .before .before .before .loop .inv .within, c .before .before .before .loop-test .taken, c .before .before .before .before .before .before .cover-end .ensures .1)
+next-day-requires c κs = omega (arith, c .before .before .before .before .before .before .before .loop .inv .within, c .before .before .before .before .before .before .loop-test .taken, c .before .before .before .before .before .before .before .before .before .cover-end .ensures .1)
 
 loop-less : tie.Need-loop-less Inv-loop μ-loop
 loop-less c =
     rw (c .before .next-first .ensures, c .next-day .ensures)
-    (held-less _ _ _ _ _ (c .before .before .before .before .before .loop .inv) (c .before .before .before .before .loop-test .taken) (c .before .before .before .is-trading-day .result) (not-idle-first _ _ _ (c .before .before .if1 .left)))
+    (held-less _ _ _ _ _ (c .before .before .before .before .before .before .before .before .loop .inv) (c .before .before .before .before .before .before .before .loop-test .taken) (c .before .before .before .trades-on .result) (not-idle-first _ _ _ (c .before .before .if1 .left)))
 
 loop-again : tie.Need-loop-again Inv-loop μ-loop
 loop-again c =
     rw (c .before .next-first .ensures, c .next-day .ensures)
-    (held-step _ _ _ _ _ (c .before .before .before .before .before .loop .inv) (c .before .before .before .before .loop-test .taken) _ (c .before .before .before .is-trading-day .ensures) (not-idle-first _ _ _ (c .before .before .if1 .left)))
+    (held-step _ _ _ _ _ (c .before .before .before .before .before .before .before .before .loop .inv) (c .before .before .before .before .before .before .before .loop-test .taken) _ (trading (c .before .before .before)) (not-idle-first _ _ _ (c .before .before .if1 .left)))
 
 returns-2 : tie.Need-returns-2 Inv-loop μ-loop
 unfolding everyWeek
@@ -74,7 +103,10 @@ every-week-trades-spec =
     add-day
     loop-holds
     add-loop
-    is-trading-day-requires
+    slot-of-requires
+    place-of-requires
+    element-copy-out-byte
+    trades-on-requires
     returns
     next-first-requires
     next-day-requires
