@@ -10,7 +10,7 @@ use Rattle.table.specs.declared.Outcome.{Outcome}
 use Rattle.table.specs.Table.{rollCall, closeCall}
 use Rattle.opening.specs.Opening.{openCall}
 use Rattle.printing.specs.Text.{outcomeText, refusalText, badText}
-use Rattle.command.specs.declared.Command.{Command}
+use Rattle.lines.specs.declared.Command.{Command}
 use Rattle.command.specs.declared.Held.{Held}
 use Rattle.command.specs.Sessions.{bad, outcomeOf, answerText, heldAfter}
 

@@ -1,3 +1,1 @@
-pub mod Feeding
-pub mod Forms
 pub mod Answers

@@ -9,7 +9,7 @@ use Rattle.table.specs.declared.Outcome.{Outcome}
 use Rattle.table.specs.Table.{rollCall, closeCall}
 use Rattle.opening.specs.Opening.{zeroTable, openCall}
 use Rattle.printing.specs.Text.{outcomeText, refusalText, badText}
-use Rattle.command.specs.declared.Command.{Command}
+use Rattle.lines.specs.declared.Command.{Command}
 use Rattle.command.specs.declared.Held.{Held}
 
 -- before an accepted O there is no table

@@ -3,7 +3,7 @@ mod input;
 mod output;
 
 use command::Held;
-use command::Line;
+use lines::Line;
 ghost use Prim.Native.Nat.{_≤_};
 ghost use lib.ListN.{length};
 
@@ -36,7 +36,7 @@ fn extend_all(line: Line, part: &[u8], from: usize, to: usize) -> Line
     let mut whole = line;
     let mut i = from;
     while i < to {
-        whole = command::extend(whole, part[i]);
+        whole = lines::extend(whole, part[i]);
         i += 1;
     }
     whole
@@ -56,7 +56,7 @@ fn answer_part(file: &[u8], p: Progress, part: &[u8], out: &mut [u8]) -> Progres
         }
         let a = command::answer(file, held, line, out, at);
         held = a.held;
-        line = command::empty_line();
+        line = lines::empty_line();
         let room = output::make_room(out, a.at);
         if !room.open {
             return Progress {
@@ -88,7 +88,7 @@ fn run(file: &[u8]) {
     let mut part = io::large_buffer();
     let mut out = io::large_buffer();
     let held = command::nothing_held();
-    let line = command::empty_line();
+    let line = lines::empty_line();
     let mut p = Progress {
         held,
         line,

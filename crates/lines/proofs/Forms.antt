@@ -1,0 +1,106 @@
+-- The forms of a line, test by test, as the code asks them.
+-- Assumes nothing.
+use mathlib.Core.Path.{_≡_, refl, _∙_, sym, ap}
+use mathlib.Core.Bool.{Bool, true, false, _&&_, _||_, cond, and-false}
+use mathlib.Core.List.{List}
+use Prim.Native.Nat.{ℕ, _+_, _-_, _≤_, _<_}
+use native.Mathlib.Omega.{arith}
+use lib.Dec.{eqb, leb}
+use lib.ListN.{replicate}
+use Rattle.questions.proofs.Bools.{and-fst, and-snd}
+use borrow.Author.Tests.{leb-true, le-leb, lt-leb, eq-eqb, ne-eqb}
+use Rattle.questions.specs.Questions.{Answer}
+use Rattle.days.specs.declared.DayAnswer.{DayAnswer}
+use Rattle.days.specs.declared.DayAnswer.the-variants.{Day, NotADate}
+use Rattle.days.specs.Dates.{dayCall, dayAnswer}
+use Rattle.lines.specs.declared.Line.{Line}
+use Rattle.lines.specs.declared.DateRead.{DateRead}
+use Rattle.lines.specs.Lines.{twoValue, dateForm, yearAt, noDate, dateAt, otherLine, moveForm, moveCommand, idForm, idAt, openForm, openCommand, commandAt}
+
+module _ (f : ℕ → ℕ) where
+  -- the date at a place
+  module _ (at : ℕ) where
+    pub date-formless : dateForm f at ≡ false → noDate ≡ dateAt f at
+    unfolding dateAt
+    date-formless e = rw e refl
+
+    module _ (e : dateForm f at ≡ true) (y m d : ℕ) (p : y ≡ yearAt f at) (q : m ≡ twoValue f (at + 5)) (r : d ≡ twoValue f (at + 8)) (a : DayAnswer) (s : dayAnswer a ≡ dayCall y m d) where
+      called : dayAnswer a ≡ dayCall (yearAt f at) (twoValue f (at + 5)) (twoValue f (at + 8))
+      called = s ∙ rw (p, q, r) refl
+
+      pub date-there : (n : ℕ) → a ≡ Day n → record { there = true; day = n } ≡ dateAt f at
+      unfolding dateAt
+      date-there n t =
+          let c : record { refusal = 0; value = n } ≡ dayCall (yearAt f at) (twoValue f (at + 5)) (twoValue f (at + 8)) = sym (ap dayAnswer t) ∙ called in
+          rw (e, ← c) refl
+
+      pub date-refused : a ≡ NotADate → noDate ≡ dateAt f at
+      unfolding dateAt
+      date-refused t =
+          let c : record { refusal = 23; value = 0 } ≡ dayCall (yearAt f at) (twoValue f (at + 5)) (twoValue f (at + 8)) = sym (ap dayAnswer t) ∙ called in
+          rw (e, ← c) refl
+
+  -- a roll or a close
+  module _ (n : ℕ) where
+    pub move-length : (n ≡ 12 → ⊥) → otherLine ≡ moveCommand f n
+    unfolding moveCommand moveForm
+    move-length e = rw (ne-eqb n 12 e) refl
+
+    module _ (e : n ≡ 12) where
+      pub move-formless : ((eqb (f 0) 82 || eqb (f 0) 67) && eqb (f 1) 32) ≡ false → otherLine ≡ moveCommand f n
+      unfolding moveCommand moveForm
+      move-formless g = rw (eq-eqb n 12 e, g) refl
+
+      module _ (g : ((eqb (f 0) 82 || eqb (f 0) 67) && eqb (f 1) 32) ≡ true) (r : DateRead) (q : r ≡ dateAt f 2) where
+        pub move-dateless : r .there ≡ false → otherLine ≡ moveCommand f n
+        unfolding moveCommand moveForm
+        move-dateless t = rw (eq-eqb n 12 e, g, ← q, t) refl
+
+        pub move-is : r .there ≡ true → record { letter = f 0; id = replicate 4 0; day = r .day } ≡ moveCommand f n
+        unfolding moveCommand moveForm
+        move-is t = rw (eq-eqb n 12 e, g, ← q, t) refl
+
+  -- an open
+  module _ (k : ℕ) where
+    pub open-few : k < 1 → openForm f k ≡ false
+    unfolding openForm
+    open-few h = rw (lt-leb 1 k h) refl
+
+    pub open-many : 4 < k → openForm f k ≡ false
+    unfolding openForm
+    open-many h = rw (lt-leb k 4 h) (and-false (leb 1 k))
+
+    pub open-rest : (b : Bool) → 1 ≤ k → k ≤ 4 → b ≡ idForm f k → (eqb (f 1) 32 && (b && eqb (f (2 + k)) 32)) ≡ openForm f k
+    unfolding openForm
+    open-rest b g h e = rw (le-leb 1 k g, le-leb k 4 h, e) refl
+
+    pub open-most : openForm f k ≡ true → k ≤ 4
+    unfolding openForm
+    open-most e = leb-true k 4 (and-fst (leb k 4) (eqb (f 1) 32 && (idForm f k && eqb (f (2 + k)) 32)) (and-snd (leb 1 k) (leb k 4 && (eqb (f 1) 32 && (idForm f k && eqb (f (2 + k)) 32))) e))
+
+  module _ (n : ℕ) where
+    pub open-short : n < 13 → otherLine ≡ openCommand f n
+    unfolding openCommand
+    open-short h = rw (open-few (n - 13) (omega arith)) refl
+
+    pub open-formless : openForm f (n - 13) ≡ false → otherLine ≡ openCommand f n
+    unfolding openCommand
+    open-formless e = rw e refl
+
+    module _ (e : openForm f (n - 13) ≡ true) (r : DateRead) (q : r ≡ dateAt f (3 + (n - 13))) where
+      pub open-dateless : r .there ≡ false → otherLine ≡ openCommand f n
+      unfolding openCommand
+      open-dateless t = rw (e, ← q, t) refl
+
+      pub open-is : (id : List ℕ) → id ≡ idAt f (n - 13) → r .there ≡ true → record { letter = 79; id = id; day = r .day } ≡ openCommand f n
+      unfolding openCommand
+      open-is id i t = rw (e, ← q, t, ← i) refl
+
+  -- a line by its first byte
+  pub begins-o : (n : ℕ) → f 0 ≡ 79 → openCommand f n ≡ commandAt f n
+  unfolding commandAt
+  begins-o n e = rw (eq-eqb (f 0) 79 e) refl
+
+  pub begins-else : (n : ℕ) → (f 0 ≡ 79 → ⊥) → moveCommand f n ≡ commandAt f n
+  unfolding commandAt
+  begins-else n e = rw (ne-eqb (f 0) 79 e) refl

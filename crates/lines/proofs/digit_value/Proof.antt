@@ -1,0 +1,22 @@
+use native.Mathlib.Omega.{arith}
+use mathlib.Core.Path.{refl}
+use borrow.Author.Needs.{needs}
+use Rattle.lines.proofs.digit_value.Statement.{statement}
+use Rattle.lines.proofs.digit_value.Tie as tie
+
+returns : tie.Need-returns
+returns c = (omega arith, omega arith)
+
+cast-result : tie.Need-cast-result
+cast-result c = search needs
+
+returns-2 : tie.Need-returns-2
+returns-2 c = (refl, omega arith)
+
+pub digit-value-spec : {M : Type 1} → statement M
+digit-value-spec =
+    tie.close
+    (tie.spec
+    returns
+    cast-result
+    returns-2)

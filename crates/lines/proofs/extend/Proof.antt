@@ -1,0 +1,29 @@
+use Rattle.lines.specs.Lines.{extended}
+use borrow.Author.Tests.{lt-ltb, le-ltb}
+use mathlib.Core.Path.{refl}
+use borrow.Author.Needs.{needs}
+use Rattle.lines.proofs.extend.Statement.{statement}
+use Rattle.lines.proofs.extend.Tie as tie
+
+returns : tie.Need-returns
+unfolding extended
+returns c = rw (le-ltb (c .before .args .line .length) 18 (c .if1 .taken)) refl
+
+array-write-bytes : tie.Need-array-write-bytes
+array-write-bytes c = search needs
+
+add-t9 : tie.Need-add-t9
+add-t9 c = search needs
+
+returns-2 : tie.Need-returns-2
+unfolding extended
+returns-2 c = rw (lt-ltb (c .before .before .args .line .length) 18 (c .before .if1 .left)) refl
+
+pub extend-spec : {M : Type 1} → statement M
+extend-spec =
+    tie.close
+    (tie.spec
+    returns
+    array-write-bytes
+    add-t9
+    returns-2)

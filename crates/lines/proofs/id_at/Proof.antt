@@ -1,0 +1,31 @@
+use Rattle.lines.specs.Lines.{idAt}
+use native.Mathlib.Omega.{arith}
+use borrow.Author.Needs.{needs}
+use Rattle.lines.proofs.id_at.Statement.{statement}
+use Rattle.lines.proofs.id_at.Tie as tie
+
+id-byte-at-requires : tie.Need-id-byte-at-requires
+id-byte-at-requires c κs = omega arith
+
+id-byte-at-requires-2 : tie.Need-id-byte-at-requires-2
+id-byte-at-requires-2 c κs = omega arith
+
+id-byte-at-requires-3 : tie.Need-id-byte-at-requires-3
+id-byte-at-requires-3 c κs = omega arith
+
+id-byte-at-requires-4 : tie.Need-id-byte-at-requires-4
+id-byte-at-requires-4 c κs = omega arith
+
+returns : tie.Need-returns
+unfolding idAt
+returns c = cc
+
+pub id-at-spec : {M : Type 1} → statement M
+id-at-spec =
+    tie.close
+    (tie.spec
+    id-byte-at-requires
+    id-byte-at-requires-2
+    id-byte-at-requires-3
+    id-byte-at-requires-4
+    returns)

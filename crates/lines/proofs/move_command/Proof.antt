@@ -1,0 +1,52 @@
+use Rattle.lines.proofs.Forms.{move-length, move-formless, move-dateless, move-is}
+use borrow.Author.Tests.{not-true, not-false}
+use mathlib.Core.Path.{_∙_}
+use native.Mathlib.Omega.{arith}
+use borrow.Author.Needs.{needs}
+use Rattle.lines.proofs.move_command.Statement.{statement}
+use Rattle.lines.proofs.move_command.Tie as tie
+
+array-read-letter : tie.Need-array-read-letter
+array-read-letter c = search needs
+
+other-line-requires : tie.Need-other-line-requires
+other-line-requires c κs = tt
+
+returns : tie.Need-returns
+returns c = c .other-line .ensures ∙ move-length _ _ (c .before .if1 .taken)
+
+array-read-if2 : tie.Need-array-read-if2
+array-read-if2 c = search needs
+
+other-line-requires-2 : tie.Need-other-line-requires-2
+other-line-requires-2 c κs = tt
+
+returns-2 : tie.Need-returns-2
+returns-2 c = c .other-line2 .ensures ∙ move-formless _ _ (c .before .before .if1 .left) (not-true _ (c .before .if2 .taken))
+
+date-at-requires : tie.Need-date-at-requires
+date-at-requires c κs = omega arith
+
+other-line-requires-3 : tie.Need-other-line-requires-3
+other-line-requires-3 c κs = tt
+
+returns-3 : tie.Need-returns-3
+returns-3 c = c .other-line3 .ensures ∙ move-dateless _ _ (c .before .before .before .before .before .if1 .left) (not-false _ (c .before .before .before .before .if2 .left)) _ (c .before .before .before .date-at .ensures) (not-true _ (c .before .if3 .taken))
+
+returns-4 : tie.Need-returns-4
+returns-4 c = move-is _ _ (c .before .before .before .before .if1 .left) (not-false _ (c .before .before .before .if2 .left)) _ (c .before .before .date-at .ensures) (not-false _ (c .if3 .left))
+
+pub move-command-spec : {M : Type 1} → statement M
+move-command-spec =
+    tie.close
+    (tie.spec
+    array-read-letter
+    other-line-requires
+    returns
+    array-read-if2
+    other-line-requires-2
+    returns-2
+    date-at-requires
+    other-line-requires-3
+    returns-3
+    returns-4)

@@ -1,0 +1,13 @@
+use mathlib.Core.Path.{refl}
+use borrow.Author.Needs.{needs}
+use Rattle.lines.proofs.other_line.Statement.{statement}
+use Rattle.lines.proofs.other_line.Tie as tie
+
+returns : tie.Need-returns
+returns c = refl
+
+pub other-line-spec : {M : Type 1} → statement M
+other-line-spec =
+    tie.close
+    (tie.spec
+    returns)
