@@ -176,14 +176,14 @@ fn calendars_clean(file: &[u8]) -> bool
     requires { ⌜ orderRight (now file) ≡ true ⌝ }
     ensures { λ r. ⌜ r ≡ calendarsClean (now (file .entry)) ⌝ }
 {
-    calendar::is_clean(calendar_of(file)) & tails_zero(file, year_count(file))
+    closures::is_clean(calendar_of(file)) & tails_zero(file, year_count(file))
 }
 
 // Question 6.
 fn weeks_right(file: &[u8]) -> bool
     ensures { λ r. ⌜ r ≡ weeksRight (now (file .entry)) ⌝ }
 {
-    calendar::every_week_trades(calendar_of(file))
+    closures::every_week_trades(calendar_of(file))
 }
 
 // The number of the first of questions 1 to 8 answered no, 0 where there is none.

@@ -114,10 +114,10 @@ pub fn is_sound(t: Table) -> bool
     if !calendar::is_valid_cover(cover) {
         return false;
     }
-    if !calendar::is_clean(cal) {
+    if !closures::is_clean(cal) {
         return false;
     }
-    if !calendar::every_week_trades(cal) {
+    if !closures::every_week_trades(cal) {
         return false;
     }
     if !calendar::in_cover(cover, t.date) {
@@ -220,7 +220,7 @@ impl Table {
             return refused(self, 14);
         }
         let cal = calendar::close_day(old, day);
-        if !calendar::every_week_trades(cal) {
+        if !closures::every_week_trades(cal) {
             return refused(self, 15);
         }
         let p = self.product;

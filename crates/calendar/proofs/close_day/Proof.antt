@@ -16,7 +16,7 @@ returns : tie.Need-returns
 returns c = close-out _ _ (said-no (c .before .in-cover .ensures) (c .if1 .taken))
 
 slot-of-requires : tie.Need-slot-of-requires
-slot-of-requires c κs = said-yes (c .before .in-cover .ensures) (c .if1 .left)
+slot-of-requires c κs = tt
 
 returns-2 : tie.Need-returns-2
 returns-2 c =

@@ -19,7 +19,7 @@ unfolding closedOn
 returns c = simp (said-no (c .before .in-cover .ensures) (c .if1 .taken))
 
 slot-of-requires : tie.Need-slot-of-requires
-slot-of-requires c κs = said-yes (c .before .in-cover .ensures) (c .if1 .left)
+slot-of-requires c κs = tt
 
 returns-2 : tie.Need-returns-2
 unfolding closedOn

@@ -1,8 +1,8 @@
 use mathlib.Core.Path.{refl}
 use borrow.Author.Tests.{lt-ltb, le-ltb}
 use borrow.Author.Needs.{needs}
-use Rattle.calendar.proofs.trades_on.Statement.{statement}
-use Rattle.calendar.proofs.trades_on.Tie as tie
+use Rattle.closures.proofs.trades_on.Statement.{statement}
+use Rattle.closures.proofs.trades_on.Tie as tie
 
 weekday-requires : tie.Need-weekday-requires
 weekday-requires c κs = tt

@@ -8,8 +8,8 @@ use native.Mathlib.Omega.{arith}
 use lib.ListN.{length, length-map}
 use mathlib.Core.Path.{_≡_, sym, _∙_}
 use mathlib.Core.Bool.{true}
-use Rattle.calendar.proofs.every_week_trades.Statement.{statement}
-use Rattle.calendar.proofs.every_week_trades.Tie as tie
+use Rattle.closures.proofs.every_week_trades.Statement.{statement}
+use Rattle.closures.proofs.every_week_trades.Tie as tie
 
 abbrev Inv-loop : tie.InvT-loop
 Inv-loop cal cover end first₀ day₀ first day = Held (tradingDay cal) first₀ end first day
@@ -44,7 +44,7 @@ covered c =
     and-both (le-leb (coverStart v) d (omega (arith, s, h .from, h .near))) (lt-ltb d (coverEnd v) (omega (arith, e, h .within, c .loop-test .taken)))
 
 slot-of-requires : tie.Need-slot-of-requires Inv-loop μ-loop
-slot-of-requires c κs = covered c
+slot-of-requires c κs = tt
 
 place-of-requires : tie.Need-place-of-requires Inv-loop μ-loop
 place-of-requires c κs = tt

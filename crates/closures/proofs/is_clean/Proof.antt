@@ -1,14 +1,14 @@
 use Rattle.calendar.proofs.Clean.{clean-more, clean-not}
 use Rattle.questions.specs.Search.{every}
 use Rattle.questions.proofs.Search.{every-none}
 use Rattle.questions.proofs.Bools.{said-no, said-yes}
 use Rattle.calendar.specs.Trading.{cleanSlot, clean}
 use mathlib.Core.Bool.{true}
 use Prim.Native.Nat.{_-_, _*_, _≤_}
 use native.Mathlib.Omega.{arith}
 use mathlib.Core.Path.{_≡_, sym}
-use Rattle.calendar.proofs.is_clean.Statement.{statement}
-use Rattle.calendar.proofs.is_clean.Tie as tie
+use Rattle.closures.proofs.is_clean.Statement.{statement}
+use Rattle.closures.proofs.is_clean.Tie as tie
 
 abbrev Inv-loop : tie.InvT-loop
 Inv-loop cal cover i₀ i = (i ≤ 736) × (every (8 * i) (cleanSlot cal) ≡ true)

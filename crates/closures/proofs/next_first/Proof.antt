@@ -1,7 +1,7 @@
 use mathlib.Core.Path.{refl}
 use borrow.Author.Needs.{needs}
-use Rattle.calendar.proofs.next_first.Statement.{statement}
-use Rattle.calendar.proofs.next_first.Tie as tie
+use Rattle.closures.proofs.next_first.Statement.{statement}
+use Rattle.closures.proofs.next_first.Tie as tie
 
 add-result : tie.Need-add-result
 add-result c = search needs

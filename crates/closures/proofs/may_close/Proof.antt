@@ -1,10 +1,10 @@
 use Rattle.calendar.proofs.Covered.{may-not, may-day, may-past}
 use Prim.Native.Nat.{_-_}
 use native.Mathlib.Omega.{arith}
 use mathlib.Core.Path.{sym}
 use borrow.Author.Needs.{needs}
-use Rattle.calendar.proofs.may_close.Statement.{statement}
-use Rattle.calendar.proofs.may_close.Tie as tie
+use Rattle.closures.proofs.may_close.Statement.{statement}
+use Rattle.closures.proofs.may_close.Tie as tie
 
 returns : tie.Need-returns
 returns c = sym (may-past _ _ (c .if1 .taken))

@@ -1,8 +1,8 @@
 use borrow.Author.Tests.{eq-eqb, ne-eqb}
 use Prim.Native.Nat.{_-_}
 use borrow.Author.Needs.{needs}
-use Rattle.calendar.proofs.bit_is_clean.Statement.{statement}
-use Rattle.calendar.proofs.bit_is_clean.Tie as tie
+use Rattle.closures.proofs.bit_is_clean.Statement.{statement}
+use Rattle.closures.proofs.bit_is_clean.Tie as tie
 
 sub-if1 : tie.Need-sub-if1
 sub-if1 c = search needs

@@ -1,14 +1,14 @@
 use lib.Dec.{ltb}
 use mathlib.Core.Bool.{and-false}
 use Rattle.calendar.proofs.Covered.{may-past}
 use Rattle.calendar.specs.Trading.{mayBeClosed}
 use borrow.Author.Tests.{lt-ltb, le-ltb}
 use Prim.Native.Nat.{_+_, _-_, _/_, _%_}
 use native.Mathlib.Omega.{arith}
 use mathlib.Core.Path.{sym}
 use borrow.Author.Needs.{needs}
-use Rattle.calendar.proofs.may_be_closed.Statement.{statement}
-use Rattle.calendar.proofs.may_be_closed.Tie as tie
+use Rattle.closures.proofs.may_be_closed.Statement.{statement}
+use Rattle.closures.proofs.may_be_closed.Tie as tie
 
 returns : tie.Need-returns
 unfolding mayBeClosed

@@ -1,14 +1,14 @@
 use Rattle.calendar.proofs.Clean.{zero-clean}
 use Rattle.questions.specs.Search.{every}
 use Rattle.questions.proofs.Search.{every-none, every-more, every-not}
 use Rattle.questions.proofs.Bools.{said-no, said-yes}
 use Rattle.calendar.specs.Trading.{cleanBit, cleanByte}
 use mathlib.Core.Bool.{true}
 use Prim.Native.Nat.{_-_, _≤_}
 use native.Mathlib.Omega.{arith}
 use mathlib.Core.Path.{_≡_, sym}
-use Rattle.calendar.proofs.byte_is_clean.Statement.{statement}
-use Rattle.calendar.proofs.byte_is_clean.Tie as tie
+use Rattle.closures.proofs.byte_is_clean.Statement.{statement}
+use Rattle.closures.proofs.byte_is_clean.Tie as tie
 
 abbrev Inv-loop : tie.InvT-loop
 Inv-loop cover at byte j₀ j = (j ≤ 8) × (every j (cleanBit cover at byte) ≡ true)

@@ -1,7 +1,7 @@
 use mathlib.Core.Path.{refl}
 use native.Mathlib.Omega.{arith}
-use Rattle.calendar.proofs.place_of.Statement.{statement}
-use Rattle.calendar.proofs.place_of.Tie as tie
+use Rattle.closures.proofs.place_of.Statement.{statement}
+use Rattle.closures.proofs.place_of.Tie as tie
 
 returns : tie.Need-returns
 returns c = (omega arith, λ h. absurd (omega (arith, c .if1 .taken)))

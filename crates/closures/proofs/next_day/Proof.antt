@@ -1,8 +1,8 @@
 use mathlib.Core.Path.{refl}
 use native.Mathlib.Omega.{arith}
 use borrow.Author.Needs.{needs}
-use Rattle.calendar.proofs.next_day.Statement.{statement}
-use Rattle.calendar.proofs.next_day.Tie as tie
+use Rattle.closures.proofs.next_day.Statement.{statement}
+use Rattle.closures.proofs.next_day.Tie as tie
 
 add-result : tie.Need-add-result
 add-result c = search needs

@@ -1,8 +1,8 @@
 use Rattle.calendar.specs.Trading.{everyWeek}
 use Prim.Native.Nat.{_-_}
 use mathlib.Core.Path.{_∙_, ap}
-use Rattle.calendar.proofs.trades_with_closed.Statement.{statement}
-use Rattle.calendar.proofs.trades_with_closed.Tie as tie
+use Rattle.closures.proofs.trades_with_closed.Statement.{statement}
+use Rattle.closures.proofs.trades_with_closed.Tie as tie
 
 close-day-requires : tie.Need-close-day-requires
 close-day-requires c κs = tt
