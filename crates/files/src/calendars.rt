@@ -27,7 +27,7 @@ fn closed_days(cal: Calendar) -> Closed {
 }
 
 pub(crate) fn print(file: &[u8]) {
-    let cal = master::calendar_of(file);
+    let cal = years::calendar_of(file);
     let cover = cal.cover;
     let closed = closed_days(cal);
     start_line(b"C");

@@ -1,7 +1,7 @@
 // Judges the master files of its data folder and prints what they hold. The second program writes the same text.
 // The file cases has each of them after its length, four bytes big-endian.
 mod calendars;
-mod records;
+mod finds;
 mod text;
 
 use crate::text::end_line;
@@ -22,7 +22,7 @@ fn file_lines(file: &[u8], index: u16) {
     end_line();
     if loaded.refusal == 0 {
         calendars::print(file);
-        records::print(file);
+        finds::print(file);
     }
 }
 

@@ -4,7 +4,7 @@ use mathlib.Core.Path.{_≡_}
 use mathlib.Core.List.{List}
 use Prim.Native.Nat.{ℕ}
 use Rattle.questions.proofs.Bools.{and-both}
-use Rattle.master.specs.Calendars.{calendarOf}
+use Rattle.years.specs.Calendars.{calendarOf}
 use Rattle.master.specs.Load.{productOf}
 use Rattle.master.proofs.Accepting.{accepted-file}
 use Rattle.opening.specs.Opening.{openCall}

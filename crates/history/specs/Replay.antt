@@ -6,7 +6,7 @@ use mathlib.Core.Bool.{Bool, true, false, _&&_, cond}
 use mathlib.Core.List.{List, [], _∷_, _++_}
 use lib.Dec.{eqb, leb}
 use lib.ListN.{length, drop}
-use Rattle.master.specs.Calendars.{calendarOf}
+use Rattle.years.specs.Calendars.{calendarOf}
 use Rattle.master.specs.Load.{productOf}
 use Rattle.table.specs.Table.{openedTable}
 use Rattle.opening.specs.Opening.{openCall}

@@ -18,12 +18,13 @@ use Rattle.product.specs.Fields.{kindOf, idRight, groupRight, marketRight, kind
 use Rattle.product.specs.declared.KindAnswer.the-variants.{Is}
 use Rattle.product.proofs.KindNumbers.{kind-found, product-read}
 use Rattle.blocks.specs.Blocks.{blockCount, blockOf, numberAt, zeros, isCalendar, isProducts, yearOfBlock, recordsOfBlock, blockKindRight, headerRight, headersRight}
-use Rattle.master.specs.Calendars.{yearCount, upTo, mapByte, closedMaps, calendarBlocks, weeksRight}
-use Rattle.blocks.specs.Records.{recordOf, three, four, recordRight, placeRight, recordsRight, productsRight, placeCount, isRecord, idAt}
+use Rattle.years.specs.Calendars.{yearCount, upTo, mapByte, closedMaps, calendarBlocks, weeksRight}
+use Rattle.records.specs.Records.{recordOf, three, four, recordRight, placeRight, recordsRight, productsRight}
+use Rattle.ids.specs.Ids.{placeCount, isRecord, idAt}
 use Rattle.master.specs.Products.{sameId, kindOr, productFrom, productAt}
 use Rattle.master.specs.Load.{loadAsks, hasId, placeFrom, found, productOf, Accepted}
-use Rattle.master.proofs.Filling.{listed-length}
-use Rattle.master.proofs.Years.{Ordered, ordered, calendar-is, calendar-block, block-year, blocks-clean}
+use Rattle.years.proofs.Filling.{listed-length}
+use Rattle.years.proofs.Years.{Ordered, ordered, calendar-is, calendar-block, block-year, blocks-clean}
 use Rattle.master.proofs.Seeking.{found-has}
 use Rattle.master.proofs.Ids.{record-inside, only-place}
 use Rattle.master.proofs.Answers.{AllYes, all-yes}

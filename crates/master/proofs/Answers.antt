@@ -13,8 +13,9 @@ use Rattle.questions.specs.Questions.{firstNo, Answer, answer}
 use Rattle.questions.proofs.Asks.{no-asks, first-yes, first-no, none-no, accepted, refused}
 use Rattle.questions.proofs.Bools.{and-snd, lt-or-ge}
 use Rattle.blocks.specs.Blocks.{blockCount, lengthRight, checksRight, headersRight}
-use Rattle.master.specs.Calendars.{yearCount, orderRight, calendarsClean, weeksRight}
-use Rattle.blocks.specs.Records.{productsRight, placeCount, recordCount, idsRise}
+use Rattle.years.specs.Calendars.{yearCount, orderRight, calendarsClean, weeksRight}
+use Rattle.records.specs.Records.{productsRight}
+use Rattle.ids.specs.Ids.{placeCount, recordCount, idsRise}
 use Rattle.master.specs.Products.{productAt}
 use Rattle.master.specs.Load.{loadAsks, loadCall, loadAnswer, placeFrom, found, placeOf, foundAt, findAsks, findCall, findAnswer, productOf}
 use Rattle.master.specs.declared.Counts.{Counts}

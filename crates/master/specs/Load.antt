@@ -12,8 +12,9 @@ use Rattle.calendar.specs.Trading.{validCover, clean, everyWeek}
 use Rattle.product.specs.Fields.{productRight}
 use Rattle.product.specs.declared.Product.{Product}
 use Rattle.blocks.specs.Blocks.{blockCount, lengthRight, checksRight, headersRight}
-use Rattle.master.specs.Calendars.{yearCount, orderRight, calendarsClean, calendarOf, weeksRight}
-use Rattle.blocks.specs.Records.{productsRight, placeCount, isRecord, recordCount, idAt, idsRise}
+use Rattle.years.specs.Calendars.{yearCount, orderRight, calendarsClean, calendarOf, weeksRight}
+use Rattle.records.specs.Records.{productsRight}
+use Rattle.ids.specs.Ids.{placeCount, isRecord, recordCount, idAt, idsRise}
 use Rattle.master.specs.Products.{sameId, productAt}
 use Rattle.master.specs.declared.Counts.{Counts}
 use Rattle.master.specs.declared.Loaded.{Loaded}

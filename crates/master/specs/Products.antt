@@ -12,7 +12,7 @@ use Rattle.product.specs.declared.KindAnswer.{KindAnswer}
 use Rattle.product.specs.declared.KindAnswer.the-variants.{Is, NotAKind}
 use Rattle.product.specs.declared.Product.{Product}
 use Rattle.blocks.specs.Blocks.{blockOf, numberAt}
-use Rattle.blocks.specs.Records.{recordOf, three, four}
+use Rattle.records.specs.Records.{recordOf, three, four}
 
 -- two ids are the same
 unfoldable pub sameId : List ℕ → List ℕ → Bool

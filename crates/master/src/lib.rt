@@ -1,6 +1,4 @@
-// The master file: questions 1 to 9, and the calendar and the products that it holds.
-use calendar::Calendar;
-use calendar::Cover;
+// The master file: questions 1 to 9, and the products that it holds.
 use product::Kind;
 use product::KindAnswer;
 use product::Product;
@@ -8,9 +6,8 @@ ghost use mathlib.Core.Path.{_≡_};
 ghost use mathlib.Core.Bool.{true};
 ghost use Prim.Native.Nat.{_+_, _*_, _≤_, _<_};
 ghost use Rattle.questions.specs.Questions.{firstNo};
-ghost use Rattle.questions.specs.Search.{every};
-ghost use Rattle.blocks.specs.Blocks.{blockCount, blockOf, numberAt, zeros};
-ghost use Rattle.master.specs.Calendars.{yearCount, inOrder, orderRight, calendarsClean, closedMaps, calendarBlocks, calendarOf, weeksRight};
+ghost use Rattle.blocks.specs.Blocks.{blockCount};
+ghost use Rattle.years.specs.Calendars.{orderRight, calendarsClean};
 ghost use Rattle.master.specs.Products.{sameId, kindOr, productFrom, productAt};
 ghost use Rattle.master.specs.Load.{loadAsks, loadCall, loadAnswer, hasId, placeFrom, placeOf, foundAt, findCall, findAnswer};
 
@@ -45,145 +42,12 @@ pub enum Found {
     Nothing,
 }
 
-// How many calendar blocks the file has.
-fn year_count(file: &[u8]) -> usize
-    ensures { λ r. ⌜ (r ≡ yearCount (now (file .entry))) × (r ≤ blockCount (now (file .entry))) ⌝ }
-{
-    let blocks = file.len() / 512;
-    let mut years: usize = 0;
-    let mut k: usize = 0;
-    while k < blocks {
-        if blocks::byte_at(blocks::block_at(file, k), 0) == 1 {
-            years += 1;
-        }
-        k += 1;
-    }
-    years
-}
-
-// Whether a block is of the kind, and of the year, that its place asks for.
-fn in_order(file: &[u8], k: usize, years: usize, first: usize) -> bool
-    requires { ⌜ (years ≡ yearCount (now file)) × (years ≤ 16) × (first ≡ numberAt (blockOf (now file) 0) 2) × (first < 65536) ⌝ }
-    ensures { λ r. ⌜ r ≡ inOrder (now (file .entry)) k ⌝ }
-{
-    let b = blocks::block_at(file, k);
-    let kind = blocks::byte_at(b, 0);
-    if k < years {
-        return (kind == 1) & (blocks::number_at(b, 2) == first + k);
-    }
-    kind == 2
-}
-
-// The same of every block.
-fn all_in_order(file: &[u8], years: usize) -> bool
-    requires { ⌜ (years ≡ yearCount (now file)) × (years ≤ 16) ⌝ }
-    ensures { λ r. ⌜ r ≡ every (blockCount (now (file .entry))) (inOrder (now (file .entry))) ⌝ }
-{
-    let blocks = file.len() / 512;
-    let first = blocks::number_at(blocks::block_at(file, 0), 2);
-    let mut k: usize = 0;
-    while k < blocks {
-        if !in_order(file, k, years, first) {
-            return false;
-        }
-        k += 1;
-    }
-    true
-}
-
-// Question 4.
-fn order_right(file: &[u8]) -> bool
-    ensures { λ r. ⌜ r ≡ orderRight (now (file .entry)) ⌝ }
-{
-    let years = year_count(file);
-    if years < 1 {
-        return false;
-    }
-    if 16 < years {
-        return false;
-    }
-    if file.len() / 512 <= years {
-        return false;
-    }
-    all_in_order(file, years)
-}
-
-// The maps of closed days, 46 bytes for each year, then zeros.
-fn closed_maps(file: &[u8], years: usize) -> [u8; 736]
-    requires { ⌜ (years ≤ 16) × (years ≤ blockCount (now file)) ⌝ }
-    ensures { λ r. ⌜ r ≡ closedMaps (now (file .entry)) years ⌝ }
-{
-    let mut maps = [0u8; 736];
-    let n = 46 * years;
-    let mut i: usize = 0;
-    while i < n {
-        maps[i] = file[512 * (i / 46) + (16 + i % 46)];
-        i += 1;
-    }
-    maps
-}
-
-// The calendar of 1 to 16 calendar blocks.
-fn calendar_blocks(file: &[u8], years: usize) -> Calendar
-    requires { ⌜ (years ≡ yearCount (now file)) × (1 ≤ years) × (years ≤ 16) × (years ≤ blockCount (now file)) ⌝ }
-    ensures { λ r. ⌜ r ≡ calendarBlocks (now (file .entry)) ⌝ }
-{
-    let first = blocks::number_at(blocks::block_at(file, 0), 2);
-    let closed = closed_maps(file, years);
-    Calendar {
-        cover: Cover {
-            first_year: first as u16,
-            years: years as u16,
-        },
-        closed,
-    }
-}
-
-// The file's calendar; no year where it has not 1 to 16 calendar blocks.
-pub fn calendar_of(file: &[u8]) -> Calendar
-    ensures { λ r. ⌜ r ≡ calendarOf (now (file .entry)) ⌝ }
-{
-    let years = year_count(file);
-    if (1 <= years) & (years <= 16) {
-        return calendar_blocks(file, years);
-    }
-    let closed = [0u8; 736];
-    Calendar {
-        cover: Cover {
-            first_year: 0,
-            years: 0,
-        },
-        closed,
-    }
-}
-
-// Whether bytes 62 to 509 of the first blocks are zero.
-fn tails_zero(file: &[u8], years: usize) -> bool
-    ensures { λ r. ⌜ r ≡ every years (λ k. zeros (blockOf (now (file .entry)) k) 62 448) ⌝ }
-{
-    let mut k: usize = 0;
-    while k < years {
-        if !blocks::are_zero(blocks::block_at(file, k), 62, 448) {
-            return false;
-        }
-        k += 1;
-    }
-    true
-}
-
 // Question 5, of a file that 4 accepts: its calendar is clean, and what follows the maps is zero.
 fn calendars_clean(file: &[u8]) -> bool
     requires { ⌜ orderRight (now file) ≡ true ⌝ }
     ensures { λ r. ⌜ r ≡ calendarsClean (now (file .entry)) ⌝ }
 {
-    closures::is_clean(calendar_of(file)) & tails_zero(file, year_count(file))
-}
-
-// Question 6.
-fn weeks_right(file: &[u8]) -> bool
-    ensures { λ r. ⌜ r ≡ weeksRight (now (file .entry)) ⌝ }
-{
-    closures::every_week_trades(calendar_of(file))
+    closures::is_clean(years::calendar_of(file)) & years::tails_zero(file, years::year_count(file))
 }
 
 // The number of the first of questions 1 to 8 answered no, 0 where there is none.
@@ -199,19 +63,19 @@ fn first_refusal(file: &[u8]) -> u8
     if !blocks::headers_right(file) {
         return 3;
     }
-    if !order_right(file) {
+    if !years::order_right(file) {
         return 4;
     }
     if !calendars_clean(file) {
         return 5;
     }
-    if !weeks_right(file) {
+    if !years::weeks_right(file) {
         return 6;
     }
-    if !blocks::products_right(file) {
+    if !records::products_right(file) {
         return 7;
     }
-    if !blocks::ids_rise(file) {
+    if !ids::ids_rise(file) {
         return 8;
     }
     0
@@ -234,8 +98,8 @@ pub fn load(file: &[u8]) -> Loaded
     Loaded {
         refusal: 0,
         counts: Counts {
-            years: year_count(file) as u16,
-            records: blocks::record_count(file) as u16,
+            years: years::year_count(file) as u16,
+            records: ids::record_count(file) as u16,
         },
     }
 }
@@ -254,13 +118,13 @@ fn kind_or_future(answer: KindAnswer) -> Kind
 fn product_from(r: &[u8]) -> Product
     ensures { λ x. ⌜ x ≡ productFrom (now (r .entry)) ⌝ }
 {
-    let id = blocks::four_at(r, 0);
-    let group = blocks::four_at(r, 4);
-    let market = blocks::four_at(r, 8);
+    let id = records::four_at(r, 0);
+    let group = records::four_at(r, 4);
+    let market = records::four_at(r, 8);
     let kind = kind_or_future(product::kind_of(blocks::byte_at(r, 12)));
-    let size = blocks::field_at(r, 13);
-    let tick = blocks::field_at(r, 15);
-    let currency = blocks::three_at(r, 17);
+    let size = records::field_at(r, 13);
+    let tick = records::field_at(r, 15);
+    let currency = records::three_at(r, 17);
     Product {
         id,
         group,
@@ -276,7 +140,7 @@ fn product_from(r: &[u8]) -> Product
 pub fn product_at(file: &[u8], n: usize, k: usize) -> Product
     ensures { λ r. ⌜ r ≡ productAt (now (file .entry)) n k ⌝ }
 {
-    product_from(blocks::record_at(file, n, k))
+    product_from(records::record_at(file, n, k))
 }
 
 fn same_id(a: [u8; 4], b: [u8; 4]) -> bool
@@ -289,7 +153,7 @@ fn same_id(a: [u8; 4], b: [u8; 4]) -> bool
 fn has_id(file: &[u8], p: usize, id: [u8; 4]) -> bool
     ensures { λ r. ⌜ r ≡ hasId (now (file .entry)) id p ⌝ }
 {
-    blocks::is_record(file, p) & same_id(blocks::id_at(file, p), id)
+    ids::is_record(file, p) & same_id(ids::id_at(file, p), id)
 }
 
 // The place of the first record with an id, from a place on; the block after the last where there is none.

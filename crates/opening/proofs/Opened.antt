@@ -15,7 +15,7 @@ use Rattle.calendar.specs.declared.Calendar.{Calendar}
 use Rattle.calendar.specs.Trading.{inCover}
 use Rattle.listing.specs.declared.Listing.{Listing}
 use Rattle.listing.specs.Months.{listingOf, placesOf, rowOf, monthSets}
-use Rattle.master.specs.Calendars.{calendarOf}
+use Rattle.years.specs.Calendars.{calendarOf}
 use Rattle.master.specs.Products.{productAt}
 use Rattle.master.specs.Load.{loadAsks, loadCall, loadAnswer, found, placeFrom, placeOf, findAsks, findCall, findAnswer, productOf}
 use Rattle.master.specs.declared.Found.{Found}

@@ -10,7 +10,7 @@ use Rattle.product.specs.declared.Product.{Product}
 use Rattle.product.specs.declared.Kind.the-variants.{Future}
 use Rattle.listing.specs.declared.Maturity.{Maturity}
 use Rattle.listing.specs.Rules.{unused, places15}
-use Rattle.master.specs.Calendars.{calendarOf}
+use Rattle.years.specs.Calendars.{calendarOf}
 use Rattle.master.specs.Load.{loadAsks, found, productOf}
 use Rattle.table.specs.declared.Table.{Table}
 use Rattle.table.specs.declared.Outcome.{Outcome}

@@ -110,7 +110,7 @@ pub fn open(file: &[u8], id: [u8; 4], date: u16) -> Outcome
     let Found::At(block, record) = master::find(file, id) else {
         return refused(zero_table(), 9);
     };
-    let cal = master::calendar_of(file);
+    let cal = years::calendar_of(file);
     let cover = cal.cover;
     if !calendar::in_cover(cover, date) {
         return refused(zero_table(), 11);

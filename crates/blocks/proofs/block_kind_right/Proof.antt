@@ -11,7 +11,7 @@ number-at-requires c κs = tt
 
 returns : tie.Need-returns
 unfolding blockKindRight
-returns c = cc
+returns c = simp (c .number-at .ensures .0, c .before .byte-at .ensures)
 
 pub block-kind-right-spec : {M : Type 1} → statement M
 block-kind-right-spec = tie.close (tie.spec byte-at-requires number-at-requires returns)

@@ -14,7 +14,7 @@ number-at-requires c κs = tt
 
 returns : tie.Need-returns
 unfolding checkRight
-returns c = cc
+returns c = simp (c .number-at .ensures .0, c .before .weighted-sum .ensures, c .before .before .block-at .ensures .0)
 
 pub check-right-spec : {M : Type 1} → statement M
 check-right-spec =

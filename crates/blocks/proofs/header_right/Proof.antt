@@ -20,7 +20,7 @@ are-zero-requires c κs = tt
 
 returns : tie.Need-returns
 unfolding headerRight
-returns c = cc
+returns c = simp (c .are-zero .ensures, c .before .number-at .ensures .0, c .before .before .byte-at .ensures, c .before .before .before .block-kind-right .ensures, c .before .before .before .before .block-at .ensures .0)
 
 pub header-right-spec : {M : Type 1} → statement M
 header-right-spec =

@@ -1,6 +1,6 @@
 use mathlib.Core.Path.{_∙_}
 use Prim.Native.Nat.{_-_}
-use Rattle.master.proofs.Years.{ordered, calendar-is, clean-test}
+use Rattle.years.proofs.Years.{ordered, calendar-is, clean-test}
 use Rattle.master.proofs.calendars_clean.Statement.{statement}
 use Rattle.master.proofs.calendars_clean.Tie as tie
 

@@ -5,8 +5,9 @@ use denote.Ref.{now}
 use Rattle.questions.specs.Questions.{firstNo}
 use Rattle.questions.proofs.Bools.{said-no, said-yes}
 use Rattle.blocks.specs.Blocks.{lengthRight, checksRight, headersRight}
-use Rattle.blocks.specs.Records.{productsRight, idsRise}
-use Rattle.master.specs.Calendars.{orderRight, calendarsClean, weeksRight}
+use Rattle.records.specs.Records.{productsRight}
+use Rattle.ids.specs.Ids.{idsRise}
+use Rattle.years.specs.Calendars.{orderRight, calendarsClean, weeksRight}
 use Rattle.master.specs.Load.{loadAsks}
 use Rattle.master.proofs.first_refusal.Statement.{statement}
 use Rattle.master.proofs.first_refusal.Tie as tie

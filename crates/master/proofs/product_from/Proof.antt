@@ -32,7 +32,7 @@ three-at-requires c κs = tt
 
 returns : tie.Need-returns
 unfolding productFrom
-returns c = cc
+returns c = simp (c .three-at .ensures, c .before .field-at2 .ensures, c .before .before .field-at .ensures, c .before .before .before .kind-or-future .ensures, c .before .before .before .before .kind-of .ensures, c .before .before .before .before .before .byte-at .ensures, c .before .before .before .before .before .before .four-at3 .ensures, c .before .before .before .before .before .before .before .four-at2 .ensures, c .before .before .before .before .before .before .before .before .four-at .ensures)
 
 pub product-from-spec : {M : Type 1} → statement M
 product-from-spec =

@@ -1,0 +1,61 @@
+use mathlib.Core.Path.{sym}
+use Prim.Native.Nat.{_-_}
+use native.Mathlib.Omega.{arith}
+use Rattle.questions.proofs.Bools.{said-no, said-yes}
+use Rattle.ids.specs.Ids.{idsRise}
+use Rattle.ids.proofs.Rising.{Walked, walk-start, walk-step, walk-fails, walk-ends}
+use Rattle.ids.proofs.ids_rise.Statement.{statement}
+use Rattle.ids.proofs.ids_rise.Tie as tie
+
+abbrev Inv-loop : tie.InvT-loop
+Inv-loop file places last₀ p₀ last p = Walked file places p last
+
+abbrev μ-loop : tie.MeasureT-loop
+μ-loop file places last₀ p₀ last p = places - p
+
+mul-places : tie.Need-mul-places Inv-loop μ-loop
+mul-places c = omega arith
+
+loop-holds : tie.Need-loop-holds Inv-loop μ-loop
+loop-holds c = walk-start _ _
+
+follows-requires : tie.Need-follows-requires Inv-loop μ-loop
+follows-requires c κs = tt
+
+returns : tie.Need-returns Inv-loop μ-loop
+unfolding idsRise
+returns c = sym (walk-fails _ _ _ _ (c .before .before .before .loop .inv) (omega arith) (said-no (c .before .follows .ensures) (c .if1 .taken)))
+
+last-record-requires : tie.Need-last-record-requires Inv-loop μ-loop
+last-record-requires c κs = tt
+
+add-p : tie.Need-add-p Inv-loop μ-loop
+add-p c = omega arith
+
+loop-less : tie.Need-loop-less Inv-loop μ-loop
+loop-less c = omega arith
+
+loop-again : tie.Need-loop-again Inv-loop μ-loop
+loop-again c =
+    walk-step _ _ _ _ (c .before .before .before .before .loop .inv) (omega arith) _ (c .last-record .ensures)
+    (said-yes (c .before .before .follows .ensures) (c .before .if1 .left))
+
+returns-2 : tie.Need-returns-2 Inv-loop μ-loop
+unfolding idsRise
+returns-2 c = sym (walk-ends _ _ _ _ (c .before .loop .inv) (omega arith))
+
+pub ids-rise-spec : {M : Type 1} → statement M
+ids-rise-spec =
+    tie.close
+    (tie.spec
+    Inv-loop
+    μ-loop
+    mul-places
+    loop-holds
+    follows-requires
+    returns
+    last-record-requires
+    add-p
+    loop-less
+    loop-again
+    returns-2)

@@ -1,0 +1,50 @@
+use Prim.Native.Nat.{_-_}
+use Rattle.records.specs.Records.{recordRight}
+use Rattle.records.proofs.record_right.Statement.{statement}
+use Rattle.records.proofs.record_right.Tie as tie
+
+four-at-requires : tie.Need-four-at-requires
+four-at-requires c κs = tt
+
+four-at-requires-2 : tie.Need-four-at-requires-2
+four-at-requires-2 c κs = tt
+
+four-at-requires-3 : tie.Need-four-at-requires-3
+four-at-requires-3 c κs = tt
+
+byte-at-requires : tie.Need-byte-at-requires
+byte-at-requires c κs = tt
+
+field-at-requires : tie.Need-field-at-requires
+field-at-requires c κs = tt
+
+field-at-requires-2 : tie.Need-field-at-requires-2
+field-at-requires-2 c κs = tt
+
+three-at-requires : tie.Need-three-at-requires
+three-at-requires c κs = tt
+
+fields-right-requires : tie.Need-fields-right-requires
+fields-right-requires c κs = tt
+
+are-zero-requires : tie.Need-are-zero-requires
+are-zero-requires c κs = tt
+
+returns : tie.Need-returns
+unfolding recordRight
+returns c = simp (c .are-zero .ensures, c .before .fields-right .ensures, c .before .before .three-at .ensures, c .before .before .before .field-at2 .ensures, c .before .before .before .before .field-at .ensures, c .before .before .before .before .before .byte-at .ensures, c .before .before .before .before .before .before .four-at3 .ensures, c .before .before .before .before .before .before .before .four-at2 .ensures, c .before .before .before .before .before .before .before .before .four-at .ensures)
+
+pub record-right-spec : {M : Type 1} → statement M
+record-right-spec =
+    tie.close
+    (tie.spec
+    four-at-requires
+    four-at-requires-2
+    four-at-requires-3
+    byte-at-requires
+    field-at-requires
+    field-at-requires-2
+    three-at-requires
+    fields-right-requires
+    are-zero-requires
+    returns)

@@ -1,0 +1,141 @@
+// The calendar blocks of a master file: questions 4 and 6, and the calendar that they make.
+use calendar::Calendar;
+use calendar::Cover;
+ghost use mathlib.Core.Path.{_≡_};
+ghost use Prim.Native.Nat.{_≤_, _<_};
+ghost use Rattle.questions.specs.Search.{every};
+ghost use Rattle.blocks.specs.Blocks.{blockCount, blockOf, numberAt, zeros};
+ghost use Rattle.years.specs.Calendars.{yearCount, inOrder, orderRight, closedMaps, calendarBlocks, calendarOf, weeksRight};
+
+// How many calendar blocks the file has.
+pub fn year_count(file: &[u8]) -> usize
+    ensures { λ r. ⌜ (r ≡ yearCount (now (file .entry))) × (r ≤ blockCount (now (file .entry))) ⌝ }
+{
+    let blocks = file.len() / 512;
+    let mut years: usize = 0;
+    let mut k: usize = 0;
+    while k < blocks {
+        if blocks::byte_at(blocks::block_at(file, k), 0) == 1 {
+            years += 1;
+        }
+        k += 1;
+    }
+    years
+}
+
+// Whether a block is of the kind, and of the year, that its place asks for.
+fn in_order(file: &[u8], k: usize, years: usize, first: usize) -> bool
+    requires { ⌜ (years ≡ yearCount (now file)) × (years ≤ 16) × (first ≡ numberAt (blockOf (now file) 0) 2) × (first < 65536) ⌝ }
+    ensures { λ r. ⌜ r ≡ inOrder (now (file .entry)) k ⌝ }
+{
+    let b = blocks::block_at(file, k);
+    let kind = blocks::byte_at(b, 0);
+    if k < years {
+        return (kind == 1) & (blocks::number_at(b, 2) == first + k);
+    }
+    kind == 2
+}
+
+// The same of every block.
+fn all_in_order(file: &[u8], years: usize) -> bool
+    requires { ⌜ (years ≡ yearCount (now file)) × (years ≤ 16) ⌝ }
+    ensures { λ r. ⌜ r ≡ every (blockCount (now (file .entry))) (inOrder (now (file .entry))) ⌝ }
+{
+    let blocks = file.len() / 512;
+    let first = blocks::number_at(blocks::block_at(file, 0), 2);
+    let mut k: usize = 0;
+    while k < blocks {
+        if !in_order(file, k, years, first) {
+            return false;
+        }
+        k += 1;
+    }
+    true
+}
+
+// Question 4.
+pub fn order_right(file: &[u8]) -> bool
+    ensures { λ r. ⌜ r ≡ orderRight (now (file .entry)) ⌝ }
+{
+    let years = year_count(file);
+    if years < 1 {
+        return false;
+    }
+    if 16 < years {
+        return false;
+    }
+    if file.len() / 512 <= years {
+        return false;
+    }
+    all_in_order(file, years)
+}
+
+// The maps of closed days, 46 bytes for each year, then zeros.
+fn closed_maps(file: &[u8], years: usize) -> [u8; 736]
+    requires { ⌜ (years ≤ 16) × (years ≤ blockCount (now file)) ⌝ }
+    ensures { λ r. ⌜ r ≡ closedMaps (now (file .entry)) years ⌝ }
+{
+    let mut maps = [0u8; 736];
+    let n = 46 * years;
+    let mut i: usize = 0;
+    while i < n {
+        maps[i] = file[512 * (i / 46) + (16 + i % 46)];
+        i += 1;
+    }
+    maps
+}
+
+// The calendar of 1 to 16 calendar blocks.
+fn calendar_blocks(file: &[u8], years: usize) -> Calendar
+    requires { ⌜ (years ≡ yearCount (now file)) × (1 ≤ years) × (years ≤ 16) × (years ≤ blockCount (now file)) ⌝ }
+    ensures { λ r. ⌜ r ≡ calendarBlocks (now (file .entry)) ⌝ }
+{
+    let first = blocks::number_at(blocks::block_at(file, 0), 2);
+    let closed = closed_maps(file, years);
+    Calendar {
+        cover: Cover {
+            first_year: first as u16,
+            years: years as u16,
+        },
+        closed,
+    }
+}
+
+// The file's calendar; no year where it has not 1 to 16 calendar blocks.
+pub fn calendar_of(file: &[u8]) -> Calendar
+    ensures { λ r. ⌜ r ≡ calendarOf (now (file .entry)) ⌝ }
+{
+    let years = year_count(file);
+    if (1 <= years) & (years <= 16) {
+        return calendar_blocks(file, years);
+    }
+    let closed = [0u8; 736];
+    Calendar {
+        cover: Cover {
+            first_year: 0,
+            years: 0,
+        },
+        closed,
+    }
+}
+
+// Whether bytes 62 to 509 of the first blocks are zero.
+pub fn tails_zero(file: &[u8], years: usize) -> bool
+    ensures { λ r. ⌜ r ≡ every years (λ k. zeros (blockOf (now (file .entry)) k) 62 448) ⌝ }
+{
+    let mut k: usize = 0;
+    while k < years {
+        if !blocks::are_zero(blocks::block_at(file, k), 62, 448) {
+            return false;
+        }
+        k += 1;
+    }
+    true
+}
+
+// Question 6.
+pub fn weeks_right(file: &[u8]) -> bool
+    ensures { λ r. ⌜ r ≡ weeksRight (now (file .entry)) ⌝ }
+{
+    closures::every_week_trades(calendar_of(file))
+}
