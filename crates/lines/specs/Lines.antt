@@ -55,6 +55,7 @@ otherLine = record { letter = 0; id = replicate 4 0; day = 0 }
 unfoldable pub moveForm : (ℕ → ℕ) → ℕ → Bool
 moveForm line n = eqb n 12 && ((eqb (line 0) 82 || eqb (line 0) 67) && eqb (line 1) 32)
 
+-- the command of such a line: '`R date`, `C date`'
 unfoldable pub moveCommand : (ℕ → ℕ) → ℕ → Command
 moveCommand line n =
     cond (moveForm line n && dateAt line 2 .there)
@@ -68,6 +69,7 @@ idForm line k = every k (λ i. idCharacter (line (2 + i)))
 abbrev pub idByteAt : (ℕ → ℕ) → ℕ → ℕ → ℕ
 idByteAt line k i = cond (ltb i k) (line (2 + i)) 32
 
+-- the four bytes of such an id: 'An id is 1 to 4 characters as in a record'
 unfoldable pub idAt : (ℕ → ℕ) → ℕ → List ℕ
 idAt line k = idByteAt line k 0 ∷ idByteAt line k 1 ∷ idByteAt line k 2 ∷ idByteAt line k 3 ∷ []
 
@@ -75,6 +77,7 @@ idAt line k = idByteAt line k 0 ∷ idByteAt line k 1 ∷ idByteAt line k 2 ∷ 
 unfoldable pub openForm : (ℕ → ℕ) → ℕ → Bool
 openForm line k = leb 1 k && (leb k 4 && (eqb (line 1) 32 && (idForm line k && eqb (line (2 + k)) 32)))
 
+-- the command of such a line: '`O id date`'
 unfoldable pub openCommand : (ℕ → ℕ) → ℕ → Command
 openCommand line n =
     cond (openForm line (n - 13) && dateAt line (3 + (n - 13)) .there)
