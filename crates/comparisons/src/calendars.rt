@@ -1,5 +1,5 @@
 // The calendar functions on covers of several lengths with patterns of closures.
-use crate::closures::closed_by;
+use crate::patterns::closed_by;
 use crate::text::end_line;
 use crate::text::put;
 use crate::text::put_answer;

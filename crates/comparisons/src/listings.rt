@@ -1,5 +1,5 @@
 // Last trading days and listings of every kind, for an Italian group and another, on covers with clusters of closures.
-use crate::closures::closed_by;
+use crate::patterns::closed_by;
 use crate::text::end_line;
 use crate::text::put;
 use crate::text::put_answer;

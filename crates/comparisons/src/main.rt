@@ -1,8 +1,8 @@
 // Prints what the libraries answer to many inputs, section by section. The second program writes the same text.
 mod calendars;
-mod closures;
 mod dates;
 mod listings;
+mod patterns;
 mod products;
 mod text;
 

@@ -1,7 +1,7 @@
 use Prim.Native.Nat.{_-_, _≤_}
 use borrow.Author.Needs.{needs}
-use Rattle.comparisons.proofs.closures.closed_by.Statement.{statement}
-use Rattle.comparisons.proofs.closures.closed_by.Tie as tie
+use Rattle.comparisons.proofs.patterns.closed_by.Statement.{statement}
+use Rattle.comparisons.proofs.patterns.closed_by.Tie as tie
 
 abbrev Inv-loop : tie.InvT-loop
 Inv-loop pattern cal₀ end day₀ cal day = day ≤ 36525
