@@ -16,10 +16,10 @@ slice-aggregate-start-line : tie.Need-slice-aggregate-start-line Inv-loop μ-loo
 slice-aggregate-start-line c = search needs
 
 start-line-requires : tie.Need-start-line-requires Inv-loop μ-loop
-start-line-requires c κs = search needs
+start-line-requires c κs = tt
 
 put-requires : tie.Need-put-requires Inv-loop μ-loop
-put-requires c κs = search needs
+put-requires c κs = tt
 
 trades-with-closed-requires : tie.Need-trades-with-closed-requires Inv-loop μ-loop
 trades-with-closed-requires c κs = tt

@@ -13,7 +13,7 @@ loop-holds : tie.Need-loop-holds Inv-loop μ-loop
 loop-holds c = search needs
 
 day-line-requires : tie.Need-day-line-requires Inv-loop μ-loop
-day-line-requires c κs = search needs
+day-line-requires c κs = tt
 
 add-day : tie.Need-add-day Inv-loop μ-loop
 add-day c = search needs

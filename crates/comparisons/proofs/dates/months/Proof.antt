@@ -19,19 +19,19 @@ slice-aggregate-start-line : tie.Need-slice-aggregate-start-line Inv-loop μ-loo
 slice-aggregate-start-line c = search needs
 
 start-line-requires : tie.Need-start-line-requires Inv-loop μ-loop
-start-line-requires c κs = search needs
+start-line-requires c κs = tt
 
 put-requires : tie.Need-put-requires Inv-loop μ-loop
-put-requires c κs = search needs
+put-requires c κs = tt
 
 put-requires-2 : tie.Need-put-requires-2 Inv-loop μ-loop
-put-requires-2 c κs = search needs
+put-requires-2 c κs = tt
 
 weekday-requires : tie.Need-weekday-requires Inv-loop μ-loop
 weekday-requires c κs = tt
 
 put-requires-3 : tie.Need-put-requires-3 Inv-loop μ-loop
-put-requires-3 c κs = search needs
+put-requires-3 c κs = tt
 
 add-month-length : tie.Need-add-month-length Inv-loop μ-loop
 add-month-length c = search needs
@@ -43,7 +43,7 @@ month-length-requires : tie.Need-month-length-requires Inv-loop μ-loop
 month-length-requires c κs = tt
 
 put-requires-4 : tie.Need-put-requires-4 Inv-loop μ-loop
-put-requires-4 c κs = search needs
+put-requires-4 c κs = tt
 
 end-line-requires : tie.Need-end-line-requires Inv-loop μ-loop
 end-line-requires c κs = tt

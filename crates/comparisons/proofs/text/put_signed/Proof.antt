@@ -13,7 +13,7 @@ unsigned-requires : tie.Need-unsigned-requires
 unsigned-requires c κs = search needs
 
 print-decimal-requires : tie.Need-print-decimal-requires
-print-decimal-requires c κs = search needs
+print-decimal-requires c κs = tt
 
 slice-aggregate-write-all-2 : tie.Need-slice-aggregate-write-all-2
 slice-aggregate-write-all-2 c = search needs
@@ -31,7 +31,7 @@ add-print-decimal : tie.Need-add-print-decimal
 add-print-decimal c = search needs
 
 print-decimal-requires-2 : tie.Need-print-decimal-requires-2
-print-decimal-requires-2 c κs = search needs
+print-decimal-requires-2 c κs = tt
 
 returns : tie.Need-returns
 returns c = search needs

@@ -23,10 +23,10 @@ array-read-two-4 : tie.Need-array-read-two-4
 array-read-two-4 c = search needs
 
 two-requires : tie.Need-two-requires
-two-requires c κs = search needs
+two-requires c κs = tt
 
 large-buffer-requires : tie.Need-large-buffer-requires
-large-buffer-requires c κs = search needs
+large-buffer-requires c κs = tt
 
 array-read-read-master-2 : tie.Need-array-read-read-master-2
 array-read-read-master-2 c = search needs
@@ -35,7 +35,7 @@ slice-aggregate-read-master : tie.Need-slice-aggregate-read-master
 slice-aggregate-read-master c = search needs
 
 read-master-requires : tie.Need-read-master-requires
-read-master-requires c κs = search needs
+read-master-requires c κs = tt
 
 array-share-prefix-file : tie.Need-array-share-prefix-file
 array-share-prefix-file c = search needs
@@ -62,10 +62,10 @@ slice-aggregate-run-4 : tie.Need-slice-aggregate-run-4
 slice-aggregate-run-4 c = prefix-length _ _ (omega arith)
 
 run-requires : tie.Need-run-requires
-run-requires c κs = search needs
+run-requires c κs = tt
 
 put-replay-requires : tie.Need-put-replay-requires
-put-replay-requires c κs = search needs
+put-replay-requires c κs = tt
 
 put-answers-requires : tie.Need-put-answers-requires
 put-answers-requires c κs = search needs

@@ -7,19 +7,19 @@ slice-aggregate-write-all : tie.Need-slice-aggregate-write-all
 slice-aggregate-write-all c = search needs
 
 write-all-requires : tie.Need-write-all-requires
-write-all-requires c κs = search needs
+write-all-requires c κs = tt
 
 unsigned-requires : tie.Need-unsigned-requires
 unsigned-requires c κs = search needs
 
 print-decimal-requires : tie.Need-print-decimal-requires
-print-decimal-requires c κs = search needs
+print-decimal-requires c κs = tt
 
 slice-aggregate-write-all-2 : tie.Need-slice-aggregate-write-all-2
 slice-aggregate-write-all-2 c = search needs
 
 write-all-requires-2 : tie.Need-write-all-requires-2
-write-all-requires-2 c κs = search needs
+write-all-requires-2 c κs = tt
 
 sub-unsigned : tie.Need-sub-unsigned
 sub-unsigned c = less-fits _ (c .before .before .if1 .left) (c .before .before .before .fits .n)
@@ -31,7 +31,7 @@ add-print-decimal : tie.Need-add-print-decimal
 add-print-decimal c = search needs
 
 print-decimal-requires-2 : tie.Need-print-decimal-requires-2
-print-decimal-requires-2 c κs = search needs
+print-decimal-requires-2 c κs = tt
 
 returns : tie.Need-returns
 returns c = search needs
