@@ -18,8 +18,8 @@ fn month_lines(cal: Calendar, group: [u8; 4]) {
     for month in first..end {
         start_line(b"A");
         put(month);
-        put(listing::third_friday(month));
-        put(listing::last_trading_day(cal, group, month));
+        put(expiry::third_friday(month));
+        put(expiry::last_trading_day(cal, group, month));
         end_line();
     }
 }
@@ -39,7 +39,7 @@ fn listing_line(cal: Calendar, kind: Kind, group: [u8; 4], date: u16) {
     let maturities = l.maturities;
     start_line(b"L");
     put(date);
-    put(listing::front_month(cal, group, date));
+    put(expiry::front_month(cal, group, date));
     put_answer(l.complete);
     put_maturities(maturities);
     end_line();

@@ -18,7 +18,8 @@ use Rattle.product.specs.Fields.{EUR}
 use Rattle.product.specs.Settlement.{IT, groupCode}
 use Rattle.product.specs.Prices.{cashOf}
 use Rattle.listing.specs.Rules.{freshKeys}
-use Rattle.listing.specs.Months.{thirdFriday, lastTradingDay, ruleOf}
+use Rattle.expiry.specs.LastDays.{thirdFriday, lastTradingDay}
+use Rattle.listing.specs.Months.{ruleOf}
 use Rattle.table.specs.declared.Table.{Table}
 use Rattle.table.specs.Table.{openedTable}
 use Rattle.values.specs.Values.{tickCall}

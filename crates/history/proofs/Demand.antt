@@ -11,7 +11,8 @@ use Rattle.questions.proofs.Bools.{clash, is-false, lt-or-ge}
 use Rattle.calendar.specs.declared.Calendar.{Calendar}
 use Rattle.product.specs.declared.Product.{Product}
 use Rattle.listing.specs.Rules.{Rule, widest, dayOf, freshKeys, maturity}
-use Rattle.listing.specs.Months.{lastTradingDay, monthly, ruleOf}
+use Rattle.expiry.specs.LastDays.{lastTradingDay}
+use Rattle.listing.specs.Months.{monthly, ruleOf}
 use Rattle.listing.proofs.Places.{before-none}
 use Rattle.listing.proofs.Lawful.{Lawful, key-of, day-past}
 use Rattle.listing.proofs.Monthly.{monthly-lawful, monthly-most}

@@ -14,7 +14,7 @@ use Rattle.product.specs.declared.Product.{Product}
 use Rattle.product.specs.Fields.{productRight}
 use Rattle.listing.specs.declared.Maturity.{Maturity}
 use Rattle.listing.specs.Rules.{places15}
-use Rattle.listing.specs.Months.{lastTradingDay}
+use Rattle.expiry.specs.LastDays.{lastTradingDay}
 use Rattle.table.specs.declared.Table.{Table}
 use Rattle.table.specs.declared.Outcome.{Outcome}
 use Rattle.numbers.specs.Numbering.{isListed, numberOf, withNumber}

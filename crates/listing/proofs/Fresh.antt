@@ -16,7 +16,8 @@ use Rattle.product.specs.declared.Term.the-variants.{Months12, Months24, Months
 use Rattle.product.specs.Fields.{kindNumber}
 use Rattle.listing.specs.declared.Maturity.{Maturity}
 use Rattle.listing.specs.Rules.{front, freshKeys, complete, unused, widest}
-use Rattle.listing.specs.Months.{lastTradingDay, frontMonth, monthSets, rowOf, placesOf, monthly, ruleOf, listingOf}
+use Rattle.expiry.specs.LastDays.{lastTradingDay, frontMonth}
+use Rattle.listing.specs.Months.{monthSets, rowOf, placesOf, monthly, ruleOf, listingOf}
 use Rattle.listing.proofs.Taking.{rest, grown, whole-is, rest-room, set-all}
 
 -- a month as the code lists it

@@ -14,7 +14,7 @@ use Rattle.questions.proofs.Search.{latest-le, latest-ge, latest-passes}
 use Rattle.calendar.specs.declared.Calendar.{Calendar}
 use Rattle.calendar.specs.Trading.{tradingDay}
 use Rattle.listing.specs.Rules.{Rule, dayOf, alive, widest, front, freshKeys, complete}
-use Rattle.listing.proofs.Fridays.{last-is}
+use Rattle.expiry.proofs.Fridays.{last-is}
 use Rattle.listing.proofs.Walks.{sift, sift-at, sift-rises}
 use Rattle.listing.proofs.Places.{Nested, lists, taken-sift, Within, within, widely, stays}
 

@@ -1,4 +1,3 @@
-pub mod Fridays
 pub mod Taking
 pub mod Fresh
 pub mod Walks

@@ -21,8 +21,9 @@ use Rattle.calendar.proofs.Weeks.{within-six}
 use Rattle.product.specs.declared.Kind.{Kind}
 use Rattle.product.specs.Settlement.{italian}
 use Rattle.listing.specs.Rules.{widest, front, freshKeys}
-use Rattle.listing.specs.Months.{thirdFriday, anchorOf, lastTradingDay, monthSets, inSet, placesOf, rowOf, monthly, ruleOf}
-use Rattle.listing.proofs.Fridays.{third-is, last-is}
+use Rattle.expiry.specs.LastDays.{thirdFriday, anchorOf, lastTradingDay}
+use Rattle.listing.specs.Months.{monthSets, inSet, placesOf, rowOf, monthly, ruleOf}
+use Rattle.expiry.proofs.Fridays.{third-is, last-is}
 use Rattle.listing.proofs.Fresh.{first-place}
 use Rattle.listing.proofs.Taking.{rest, rest-room}
 use Rattle.listing.proofs.Places.{Nested, nested-wider, nested-first}

@@ -1,43 +1,20 @@
--- Monthly maturities: the third Friday, the anchor, the month sets and the rows of counts (01, Last trading day; Listed months; 002, 1.6.3, 1.6.4; 000, 2.6.4).
+-- Monthly maturities: the month sets and the rows of counts (01, Listed months; 002, 1.6.3).
 -- Assumes nothing.
-use Prim.Native.Nat.{ℕ, _+_, _-_}
-use mathlib.Core.Bool.{Bool, true, cond}
+use Prim.Native.Nat.{ℕ}
+use mathlib.Core.Bool.{Bool, true}
 use mathlib.Core.List.{List, [], _∷_, _++_, map}
-use lib.Dec.{eqb, leb}
 use lib.ListN.{getD, replicate}
-use Rattle.questions.specs.Search.{oneOf, firstFrom}
-use Rattle.days.specs.Gregorian.{weekdayOf, monthName}
-use Rattle.days.specs.Dates.{firstOf, monthOf}
+use Rattle.questions.specs.Search.{oneOf}
+use Rattle.days.specs.Gregorian.{monthName}
+use Rattle.days.specs.Dates.{monthOf}
 use Rattle.calendar.specs.declared.Cover.{Cover}
 use Rattle.calendar.specs.declared.Calendar.{Calendar}
 use Rattle.calendar.specs.Trading.{coverStart, coverEnd}
 use Rattle.product.specs.declared.Kind.{Kind}
 use Rattle.product.specs.Fields.{kindNumber}
-use Rattle.product.specs.Settlement.{italian}
 use Rattle.listing.specs.declared.Listing.{Listing}
-use Rattle.listing.specs.Rules.{Rule, lastDay, freshKeys, complete, maturity, places15}
-
--- a Friday
-abbrev pub friday : ℕ → Bool
-friday d = eqb (weekdayOf d) 4
-
--- the third Friday of a month: two weeks after the first Friday on or after its first day
-unfoldable pub thirdFriday : ℕ → ℕ
-thirdFriday m = firstFrom friday (firstOf m) 7 (firstOf m) + 14
-
--- 'The anchor of a month is its third Friday; for the groups IT01 and IT11 the day before that'
-unfoldable pub anchorOf : List ℕ → ℕ → ℕ
-anchorOf group m = cond (italian group) (thirdFriday m - 1) (thirdFriday m)
-
--- the last trading day of a month
-unfoldable pub lastTradingDay : Calendar → List ℕ → ℕ → ℕ
-lastTradingDay cal group m = lastDay cal (anchorOf group m)
-
--- 'The front month on a date is the first month, from the date's own month on, whose last trading day is not before the date'; the first month beyond the cover where the cover has none
-unfoldable pub frontMonth : Calendar → List ℕ → ℕ → ℕ
-frontMonth cal group date =
-    firstFrom (λ m. leb date (lastTradingDay cal group m)) (monthOf (coverEnd (cal .cover)))
-    (monthOf (coverEnd (cal .cover)) - monthOf date) (monthOf date)
+use Rattle.expiry.specs.LastDays.{anchorOf}
+use Rattle.listing.specs.Rules.{Rule, freshKeys, complete, maturity, places15}
 
 -- the head of the table of counts: 'every month', 'Mar Jun Sep Dec', 'Jun Dec', 'Dec', as month names
 abbrev pub monthSets : List (List ℕ)

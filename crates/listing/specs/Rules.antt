@@ -5,9 +5,9 @@ use mathlib.Core.Bool.{Bool, true, _&&_, cond}
 use mathlib.Core.List.{List, [], _∷_, _++_}
 use lib.Dec.{leb, ltb, eqb}
 use lib.ListN.{length, replicate}
-use Rattle.questions.specs.Search.{latest, firstFrom}
+use Rattle.questions.specs.Search.{firstFrom}
 use Rattle.calendar.specs.declared.Calendar.{Calendar}
-use Rattle.calendar.specs.Trading.{tradingDay}
+use Rattle.expiry.specs.LastDays.{lastDay}
 use Rattle.listing.specs.declared.Maturity.{Maturity}
 use Rattle.listing.specs.declared.Listing.{Listing}
 
@@ -24,10 +24,6 @@ pub record Rule : Type 0 where
   pub beyond : ℕ
   -- the keys of the cover that are counted before the front
   pub counted : ℕ → Bool
-
--- 'The last trading day is the anchor if it is a trading day, else the latest trading day before it'
-unfoldable pub lastDay : Calendar → ℕ → ℕ
-lastDay cal anchor = cond (tradingDay cal anchor) anchor (latest (tradingDay cal) (anchor - 1))
 
 -- the last trading day of a key
 abbrev pub dayOf : Rule → Calendar → ℕ → ℕ

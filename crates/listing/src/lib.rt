@@ -1,15 +1,12 @@
-// Last trading days, and the listed months of a product on a date.
+// The listed months of a product on a date.
 use calendar::Calendar;
-use calendar::Cover;
 use product::Kind;
 ghost use mathlib.Core.Path.{_≡_};
 ghost use mathlib.Core.List.{[]};
 ghost use lib.ListN.{getD, length};
 ghost use Prim.Native.Nat.{_≤_, _<_};
-ghost use Rattle.calendar.specs.Trading.{coverStart, coverEnd};
-ghost use Rattle.days.specs.Dates.{monthOf};
-ghost use Rattle.listing.specs.Rules.{lastDay, nextOf};
-ghost use Rattle.listing.specs.Months.{thirdFriday, anchorOf, lastTradingDay, frontMonth, monthSets, inSet, placesOf, rowOf, listingOf};
+ghost use Rattle.listing.specs.Rules.{nextOf};
+ghost use Rattle.listing.specs.Months.{monthSets, inSet, placesOf, rowOf, listingOf};
 
 // A listed maturity. A listing that is not yet numbered has number 0.
 pub struct Maturity {
@@ -26,67 +23,6 @@ pub struct Listing {
 
 // The counts of the four steps, by kind.
 const COUNTS: [[u8; 4]; 4] = [[13, 0, 0, 2], [3, 3, 0, 0], [3, 3, 2, 0], [3, 3, 4, 2]];
-
-// The third Friday of a month.
-pub fn third_friday(month: u16) -> u16
-    ensures { λ r. ⌜ r ≡ thirdFriday month ⌝ }
-{
-    let first = days::first_day(month);
-    first + (11 - days::weekday(first)) % 7 + 14
-}
-
-// The day on which a month's trading would end: the third Friday, for the Italian groups the day before.
-pub fn anchor(group: [u8; 4], month: u16) -> u16
-    ensures { λ r. ⌜ r ≡ anchorOf group month ⌝ }
-{
-    let friday = third_friday(month);
-    if product::is_italian(group) {
-        return friday - 1;
-    }
-    friday
-}
-
-// The anchor if it is a trading day, else the latest trading day before it.
-pub fn last_day(cal: Calendar, anchor: u16) -> u16
-    ensures { λ r. ⌜ r ≡ lastDay cal anchor ⌝ }
-{
-    if calendar::is_trading_day(cal, anchor) {
-        return anchor;
-    }
-    if anchor < 1 {
-        return 0;
-    }
-    calendar::latest_trading_day(cal, anchor - 1)
-}
-
-// 002, 1.6.4 (2): the third Friday, the Italian exception, the day itself or the trading day before it.
-pub fn last_trading_day(cal: Calendar, group: [u8; 4], month: u16) -> u16
-    ensures { λ r. ⌜ r ≡ lastTradingDay cal group month ⌝ }
-{
-    last_day(cal, anchor(group, month))
-}
-
-// The first month beyond the cover.
-fn end_month(cover: Cover) -> u16
-    ensures { λ r. ⌜ (r ≡ monthOf (coverEnd cover)) × (r ≤ 1200) ⌝ }
-{
-    days::month_of(calendar::cover_end(cover))
-}
-
-// The front month on a date; the first month beyond the cover where the cover has none.
-pub fn front_month(cal: Calendar, group: [u8; 4], date: u16) -> u16
-    ensures { λ r. ⌜ r ≡ frontMonth cal group date ⌝ }
-{
-    let end = end_month(cal.cover);
-    let mut month = days::month_of(date);
-    while month < end {
-        if date <= last_trading_day(cal, group, month) {
-            return month;
-        }
-        month += 1;
-    }
-    end
-}
 
 // Whether a month is in the set of a step: every month, quarters, half years, Decembers.
 fn in_set(step: usize, month: u16) -> bool
@@ -135,7 +71,7 @@ pub fn list(cal: Calendar, kind: Kind, group: [u8; 4], date: u16) -> Listing
     ensures { λ r. ⌜ r ≡ listingOf cal kind group date ⌝ }
 {
     let row = product::kind_number(kind) as usize;
-    let end = end_month(cal.cover);
+    let end = expiry::end_month(cal.cover);
     let unused = Maturity {
         month: 0,
         day: 0,
@@ -143,7 +79,7 @@ pub fn list(cal: Calendar, kind: Kind, group: [u8; 4], date: u16) -> Listing
     };
     let mut maturities = [unused; 15];
     let mut listed: usize = 0;
-    let mut from = front_month(cal, group, date);
+    let mut from = expiry::front_month(cal, group, date);
     let mut complete = true;
     'steps: for step in 0..4 {
         let count = COUNTS[row][step];
@@ -153,7 +89,7 @@ pub fn list(cal: Calendar, kind: Kind, group: [u8; 4], date: u16) -> Listing
                 complete = false;
                 break 'steps;
             }
-            let day = last_trading_day(cal, group, month);
+            let day = expiry::last_trading_day(cal, group, month);
             maturities[listed] = Maturity {
                 month: month,
                 day: day,

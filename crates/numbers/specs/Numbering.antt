@@ -1,9 +1,9 @@
--- Listing numbers: which months entered and left, and the numbers they have (01, The table).
+-- The places of a table: which months entered and left, the numbers they have, and whether they are the fresh listing (01, The table).
 -- Assumes nothing.
 use Prim.Native.Nat.{ℕ, suc, _-_}
 use mathlib.Core.Bool.{Bool, false, not, _&&_, _||_, cond}
 use mathlib.Core.List.{List, [], _∷_}
-use lib.Dec.{leb, eqb}
+use lib.Dec.{leb, ltb, eqb}
 use lib.ListN.{length, getD}
 use Rattle.questions.specs.Search.{every}
 use Rattle.product.specs.declared.Kind.{Kind}
@@ -44,6 +44,15 @@ renumbered old given (m ∷ ms) =
 -- 'numbered 1, 2, .. by rising month'
 abbrev pub numberedFresh : List Maturity → List Maturity
 numberedFresh fresh = renumbered [] 0 fresh
+
+-- 'its months and days are the fresh listing': the same month and the same day
+abbrev pub sameMaturity : Maturity → Maturity → Bool
+sameMaturity m fresh = eqb (m .month) (fresh .month) && eqb (m .day) (fresh .day)
+
+-- 'its months and days are the fresh listing .., and unused places are zero', of place i where n places are used
+abbrev pub placeRight : List Maturity → List Maturity → ℕ → ℕ → Bool
+placeRight ms fresh n i =
+    sameMaturity (getD ms i unused) (getD fresh i unused) && (ltb i n || eqb (getD ms i unused .number) 0)
 
 -- 'its numbers are distinct': no place before i has the number of place i
 abbrev pub unlikeBefore : List Maturity → ℕ → Bool

@@ -1,4 +1,4 @@
-// Listing numbers: which months are listed, have entered or left, and the numbers they have.
+// The places of a table: which months are listed, have entered or left, the numbers they have, and whether they are the fresh listing.
 use listing::Maturity;
 use product::Kind;
 ghost use mathlib.Core.Path.{_≡_};
@@ -6,8 +6,9 @@ ghost use mathlib.Core.Bool.{cond};
 ghost use Prim.Native.Nat.{ℕ, _+_, _≤_, _<_};
 ghost use lib.Dec.{leb};
 ghost use lib.ListN.{length, take};
+ghost use Rattle.questions.specs.Search.{every};
 ghost use Rattle.listing.specs.Rules.{places15};
-ghost use Rattle.numbers.specs.Numbering.{placesOfKind, isListed, numberOf, missing, renumbered, numbersRight, unlikeBefore, numberRight, withNumber};
+ghost use Rattle.numbers.specs.Numbering.{placesOfKind, placeRight, isListed, numberOf, missing, renumbered, numbersRight, unlikeBefore, numberRight, withNumber};
 
 // The places of a table.
 pub type Places = [Maturity; 15];
@@ -16,6 +17,40 @@ pub type Places = [Maturity; 15];
 pub struct NumberedMaturity {
     pub maturity: Maturity,
     pub given: u16,
+}
+
+// Whether place i has the fresh month and day, and a number only where it is used.
+fn is_place_right(maturities: [Maturity; 15], fresh: [Maturity; 15], n: usize, i: usize) -> bool
+    requires { ⌜ i < 15 ⌝ }
+    ensures { λ r. ⌜ r ≡ placeRight maturities fresh n i ⌝ }
+{
+    let m = maturities[i];
+    let f = fresh[i];
+    if m.month != f.month {
+        return false;
+    }
+    if m.day != f.day {
+        return false;
+    }
+    if i < n {
+        return true;
+    }
+    m.number == 0
+}
+
+// Whether all places are right.
+pub fn are_places_right(maturities: [Maturity; 15], fresh: [Maturity; 15], kind: Kind) -> bool
+    ensures { λ r. ⌜ r ≡ every 15 (placeRight maturities fresh (placesOfKind kind)) ⌝ }
+{
+    let n = listing::months_listed(kind) as usize;
+    let mut i: usize = 0;
+    while i < 15 {
+        if !is_place_right(maturities, fresh, n, i) {
+            return false;
+        }
+        i += 1;
+    }
+    true
 }
 
 // Whether a month is among the first n maturities.

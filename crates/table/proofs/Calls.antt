@@ -10,39 +10,24 @@ use lib.ListN.{length, take, length-map}
 use lib.Seq.{take-at}
 use borrow.Author.Tests.{eqb-true, leb-true, le-leb, lt-leb}
 use Rattle.questions.specs.Questions.{Ask, firstNo}
-use Rattle.questions.specs.Search.{every, firstFrom}
+use Rattle.questions.specs.Search.{every}
 use Rattle.questions.proofs.Bools.{both}
 use Rattle.days.specs.Dates.{monthOf}
-use Rattle.days.proofs.Months.{month-most}
 use Rattle.calendar.specs.declared.Calendar.{Calendar}
-use Rattle.calendar.specs.Trading.{coverStart, coverEnd, validCover, clean, everyWeek, inCover, tradingDay, closeDay}
+use Rattle.calendar.specs.Trading.{coverStart, validCover, clean, everyWeek, inCover, tradingDay, closeDay}
 use Rattle.product.specs.declared.Kind.{Kind}
 use Rattle.product.specs.Fields.{productRight}
 use Rattle.listing.specs.Rules.{freshKeys, complete, places15}
 use Rattle.listing.specs.declared.Listing.{Listing}
-use Rattle.listing.specs.Months.{frontMonth, ruleOf, monthly, placesOf, rowOf, monthSets, listingOf}
+use Rattle.expiry.specs.LastDays.{frontMonth}
+use Rattle.expiry.proofs.Front.{front-most}
+use Rattle.listing.specs.Months.{ruleOf, monthly, placesOf, rowOf, monthSets, listingOf}
 use Rattle.listing.proofs.Taking.{rest, rest-room}
 use Rattle.listing.proofs.Fresh.{front-is}
 use Rattle.table.specs.declared.Table.{Table}
 use Rattle.table.specs.declared.Outcome.{Outcome}
-use Rattle.numbers.specs.Numbering.{placesOfKind, isListed, numbersRight}
-use Rattle.table.specs.Table.{freshOf, allInCover, placesUsed, held, placeRight, listsFresh, countFrom, monthsBefore, listingSound, sound, movedTo, moved, refusedWith, answered, rollAsks, rollCall, closeAsks, closeCall}
-
--- a search below b ends below b, or where there is none at a number that is not above it
-first-most : (f : ℕ → Bool) (none n d b : ℕ) → none ≤ b → d + n ≤ b → firstFrom f none n d ≤ b
-unfolding firstFrom
-first-most f none zero d b h l = h
-first-most f none (suc n) d b h l = go (f d) (first-most f none n (suc d) b h (omega arith))
-  where
-    go : (t : Bool) → firstFrom f none n (suc d) ≤ b → cond t d (firstFrom f none n (suc d)) ≤ b
-    go true ih = omega arith
-    go false ih = ih
-
-pub front-most : (cal : Calendar) (group : List ℕ) (date : ℕ) → frontMonth cal group date ≤ 1200
-unfolding frontMonth
-front-most cal group date =
-    let e = monthOf (coverEnd (cal .cover)) in
-    first-most _ e (e - monthOf date) (monthOf date) 1200 (month-most (coverEnd (cal .cover))) (omega (arith, month-most (coverEnd (cal .cover)), month-most date))
+use Rattle.numbers.specs.Numbering.{placesOfKind, isListed, placeRight, numbersRight}
+use Rattle.table.specs.Table.{freshOf, allInCover, placesUsed, held, listsFresh, countFrom, monthsBefore, listingSound, sound, movedTo, moved, refusedWith, answered, rollAsks, rollCall, closeAsks, closeCall}
 
 -- every month is counted
 count-all : (n k : ℕ) → countFrom (λ m. true) n k ≡ n
@@ -83,6 +68,11 @@ answered-no t asks o n e = rw (e, eqb·suc-zero n)
 pub answered-yes : (t : Table) (asks : List Ask) (o : Outcome) → firstNo asks ≡ 0 → answered t asks o ≡ o
 unfolding answered
 answered-yes t asks o e = rw e
+
+-- the last question decides where all others are answered yes
+pub answered-last : (t : Table) (asks : List Ask) (o : Outcome) (n : ℕ) (last : Bool) → (last ≡ true → firstNo asks ≡ 0) → (last ≡ false → firstNo asks ≡ suc n) → answered t asks o ≡ cond last o (refusedWith t (suc n))
+answered-last t asks o n true y z = answered-yes t asks o (y refl)
+answered-last t asks o n false y z = answered-no t asks o n (z refl)
 
 -- the parts of soundness, one after the other
 pub record Sound (t : Table) : Type 0 where
@@ -169,13 +159,9 @@ module _ (t : Table) (date : ℕ) where
       roll-12 d = answered-no t (rollAsks t date) _ 11 (rw (a, b, d))
 
       module _ (d : leb (t .date) date ≡ true) where
-        pub roll-16 : allInCover (t .calendar) (t .product .kind) (t .product .group) date ≡ false → rollCall t date ≡ refusedWith t 16
+        pub roll-16 : rollCall t date ≡ cond (allInCover (t .calendar) (t .product .kind) (t .product .group) date) (moved t (t .calendar) date) (refusedWith t 16)
         unfolding rollCall firstNo
-        roll-16 e = answered-no t (rollAsks t date) _ 15 (rw (a, b, d, e))
-
-        pub roll-yes : allInCover (t .calendar) (t .product .kind) (t .product .group) date ≡ true → rollCall t date ≡ moved t (t .calendar) date
-        unfolding rollCall firstNo
-        roll-yes e = answered-yes t (rollAsks t date) _ (rw (a, b, d, e))
+        roll-16 = answered-last t (rollAsks t date) _ 15 (allInCover (t .calendar) (t .product .kind) (t .product .group) date) (λ e. rw (a, b, d, e)) (λ e. rw (a, b, d, e))
 
 -- close, by its first question answered no
 module _ (t : Table) (day : ℕ) where
@@ -204,13 +190,9 @@ module _ (t : Table) (day : ℕ) where
           close-15 g = answered-no t (closeAsks t day) _ 14 (rw (a, b, d, f, g))
 
           module _ (g : everyWeek (closeDay (t .calendar) day) ≡ true) where
-            pub close-16 : allInCover (closeDay (t .calendar) day) (t .product .kind) (t .product .group) (t .date) ≡ false → closeCall t day ≡ refusedWith t 16
+            pub close-16 : closeCall t day ≡ cond (allInCover (closeDay (t .calendar) day) (t .product .kind) (t .product .group) (t .date)) (moved t (closeDay (t .calendar) day) (t .date)) (refusedWith t 16)
             unfolding closeCall firstNo
-            close-16 h = answered-no t (closeAsks t day) _ 15 (rw (a, b, d, f, g, h))
-
-            pub close-yes : allInCover (closeDay (t .calendar) day) (t .product .kind) (t .product .group) (t .date) ≡ true → closeCall t day ≡ moved t (closeDay (t .calendar) day) (t .date)
-            unfolding closeCall firstNo
-            close-yes h = answered-yes t (closeAsks t day) _ (rw (a, b, d, f, g, h))
+            close-16 = answered-last t (closeAsks t day) _ 15 (allInCover (closeDay (t .calendar) day) (t .product .kind) (t .product .group) (t .date)) (λ h. rw (a, b, d, f, g, h)) (λ h. rw (a, b, d, f, g, h))
 
 -- what the code's listing says: complete or not, and the fresh maturities in the places that are used
 pub complete-is : (cal : Calendar) (kind : Kind) (group : List ℕ) (date : ℕ) (l : Listing) → l ≡ listingOf cal kind group date → l .complete ≡ allInCover cal kind group date
@@ -231,21 +213,31 @@ moved-is t cal date l e w =
     rw (places-is cal k g date l e, fresh-held cal k g date (placesUsed t) (used-is t) (sym (complete-is cal k g date l e) ∙ w))
 
 -- the code's test of the places is the definition's
-pub lists-is : (t : Table) (l : Listing) (n : ℕ) (b : Bool) → l ≡ listingOf (t .calendar) (t .product .kind) (t .product .group) (t .date) → n ≡ length (placesOf (rowOf (t .product .kind)) monthSets)
-    → b ≡ every 15 (placeRight (t .maturities) (l .maturities) n) → b ≡ listsFresh t
+pub lists-is : (t : Table) (l : Listing) (b : Bool) → l ≡ listingOf (t .calendar) (t .product .kind) (t .product .group) (t .date)
+    → b ≡ every 15 (placeRight (t .maturities) (l .maturities) (placesOfKind (t .product .kind))) → b ≡ listsFresh t
 unfolding listsFresh
-lists-is t l n b e q r =
-    r ∙ rw (q ∙ sym (used-is t), places-is (t .calendar) (t .product .kind) (t .product .group) (t .date) l e)
+lists-is t l b e r =
+    r ∙ rw (sym (used-is t), places-is (t .calendar) (t .product .kind) (t .product .group) (t .date) l e)
 
 pub numbers-is : (t : Table) (b : Bool) → b ≡ numbersRight (t .maturities) (placesOfKind (t .product .kind)) (t .given) → b ≡ numbersRight (t .maturities) (placesUsed t) (t .given)
 numbers-is t b r = r ∙ ap (λ (k : ℕ). numbersRight (t .maturities) k (t .given)) (sym (used-is t))
 
--- what is said of the maturities, question by question
-module _ (t : Table) (w : allInCover (t .calendar) (t .product .kind) (t .product .group) (t .date) ≡ true) where
-  pub listing-unlike : listsFresh t ≡ false → listingSound t ≡ false
-  listing-unlike a = rw (w, a)
+no-both : (a b c : Bool) → (a && b) ≡ false → (a && (b && c)) ≡ false
+no-both true b c e = rw e
+no-both false b c e = refl
 
-  module _ (a : listsFresh t ≡ true) where
+-- what is said of the maturities, question by question
+module _ (t : Table) where
+  pub listing-unlike : (allInCover (t .calendar) (t .product .kind) (t .product .group) (t .date) && listsFresh t) ≡ false → listingSound t ≡ false
+  listing-unlike e = no-both (allInCover (t .calendar) (t .product .kind) (t .product .group) (t .date)) (listsFresh t) _ e
+
+  module _ (e : (allInCover (t .calendar) (t .product .kind) (t .product .group) (t .date) && listsFresh t) ≡ true) where
+    w : allInCover (t .calendar) (t .product .kind) (t .product .group) (t .date) ≡ true
+    w = both (allInCover (t .calendar) (t .product .kind) (t .product .group) (t .date)) (listsFresh t) e .0
+
+    a : listsFresh t ≡ true
+    a = both (allInCover (t .calendar) (t .product .kind) (t .product .group) (t .date)) (listsFresh t) e .1
+
     pub listing-numbers : numbersRight (t .maturities) (placesUsed t) (t .given) ≡ false → listingSound t ≡ false
     listing-numbers b = rw (w, a, b)
 
@@ -254,8 +246,8 @@ module _ (t : Table) (w : allInCover (t .calendar) (t .product .kind) (t .produc
       listing-few l = rw (w, a, b, lt-leb (placesUsed t) (t .given) (omega (arith, q, used-is t)))
 
       pub listing-rest : (m : ℕ) → n ≤ t .given → m ≡ frontMonth (t .calendar) (t .product .group) (t .date) - monthOf (coverStart (t .calendar .cover)) → leb (t .given - n) m ≡ listingSound t
-      listing-rest m l e =
+      listing-rest m l k =
           let u : n ≡ placesUsed t = q ∙ sym (used-is t) in
           sym
           (rw (w, a, b, le-leb (placesUsed t) (t .given) (omega arith), months-before (t .calendar) (t .product .kind) (t .product .group) (t .date))
-          (rw (← e, ← u)))
+          (rw (← k, ← u)))

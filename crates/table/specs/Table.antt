@@ -1,10 +1,10 @@
 -- The table, its soundness, and the calls that roll it and close a day (01, The table; Questions, in order).
 -- Assumes nothing.
 use Prim.Native.Nat.{ℕ, zero, suc, _+_, _-_}
-use mathlib.Core.Bool.{Bool, _&&_, _||_, cond}
+use mathlib.Core.Bool.{Bool, _&&_, cond}
 use mathlib.Core.List.{List, [], _∷_, map}
 use lib.Dec.{leb, ltb, eqb}
-use lib.ListN.{length, getD, take}
+use lib.ListN.{length, take}
 use Rattle.questions.specs.Questions.{Ask, ask, firstNo}
 use Rattle.questions.specs.Search.{every}
 use Rattle.calendar.specs.declared.Calendar.{Calendar}
@@ -13,11 +13,11 @@ use Rattle.product.specs.declared.Kind.{Kind}
 use Rattle.product.specs.declared.Product.{Product}
 use Rattle.product.specs.Fields.{productRight}
 use Rattle.listing.specs.declared.Maturity.{Maturity}
-use Rattle.listing.specs.Rules.{Rule, front, freshKeys, complete, maturity, unused, places15}
+use Rattle.listing.specs.Rules.{Rule, front, freshKeys, complete, maturity, places15}
 use Rattle.listing.specs.Months.{ruleOf}
 use Rattle.table.specs.declared.Table.{Table}
 use Rattle.table.specs.declared.Outcome.{Outcome}
-use Rattle.numbers.specs.Numbering.{missing, renumbered, numberedFresh, numbersRight}
+use Rattle.numbers.specs.Numbering.{missing, renumbered, numberedFresh, placeRight, numbersRight}
 
 -- the fresh listing of a product's kind and group, under a calendar, on a date
 abbrev pub freshOf : Calendar → Kind → List ℕ → ℕ → List Maturity
@@ -34,15 +34,6 @@ placesUsed t = length (ruleOf (t .calendar) (t .product .kind) (t .product .grou
 -- the maturities in the places that are used
 abbrev pub held : Table → List Maturity
 held t = take (placesUsed t) (t .maturities)
-
--- 'its months and days are the fresh listing': the same month and the same day
-abbrev pub sameMaturity : Maturity → Maturity → Bool
-sameMaturity m fresh = eqb (m .month) (fresh .month) && eqb (m .day) (fresh .day)
-
--- 'its months and days are the fresh listing .., and unused places are zero', of place i where n places are used
-abbrev pub placeRight : List Maturity → List Maturity → ℕ → ℕ → Bool
-placeRight ms fresh n i =
-    sameMaturity (getD ms i unused) (getD fresh i unused) && (ltb i n || eqb (getD ms i unused .number) 0)
 
 -- the same of all fifteen places
 unfoldable pub listsFresh : Table → Bool

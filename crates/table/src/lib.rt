@@ -3,14 +3,11 @@ use calendar::Calendar;
 use listing::Maturity;
 use product::Product;
 ghost use mathlib.Core.Path.{_≡_};
-ghost use Prim.Native.Nat.{_-_, _≤_, _<_};
-ghost use lib.ListN.{getD, take};
-ghost use Rattle.questions.specs.Search.{every};
-ghost use Rattle.days.specs.Dates.{monthOf};
-ghost use Rattle.calendar.specs.Trading.{coverStart};
-ghost use Rattle.listing.specs.Months.{frontMonth};
+ghost use mathlib.Core.Bool.{_&&_, cond};
+ghost use Prim.Native.Nat.{_≤_};
+ghost use lib.ListN.{take};
 ghost use Rattle.numbers.specs.Numbering.{isListed};
-ghost use Rattle.table.specs.Table.{held, placeRight, listingSound, sound, placesUsed, movedTo, refusedWith, rollCall, closeCall};
+ghost use Rattle.table.specs.Table.{allInCover, placesUsed, held, listsFresh, listingSound, sound, movedTo, moved, refusedWith, rollCall, closeCall};
 
 // A product, its calendar, a date, up to 15 maturities by rising month, and the count of numbers given.
 pub struct Table {
@@ -29,54 +26,9 @@ pub struct Outcome {
     pub left: u16,
 }
 
-// Whether place i has the fresh month and day, and a number only where it is used.
-fn is_place_right(maturities: [Maturity; 15], fresh: [Maturity; 15], n: usize, i: usize) -> bool
-    requires { ⌜ i < 15 ⌝ }
-    ensures { λ r. ⌜ r ≡ placeRight maturities fresh n i ⌝ }
-{
-    let m = maturities[i];
-    let f = fresh[i];
-    if m.month != f.month {
-        return false;
-    }
-    if m.day != f.day {
-        return false;
-    }
-    if i < n {
-        return true;
-    }
-    m.number == 0
-}
-
-// Whether all places are right.
-fn are_places_right(maturities: [Maturity; 15], fresh: [Maturity; 15], n: usize) -> bool
-    ensures { λ r. ⌜ r ≡ every 15 (placeRight maturities fresh n) ⌝ }
-{
-    let mut i: usize = 0;
-    while i < 15 {
-        if !is_place_right(maturities, fresh, n, i) {
-            return false;
-        }
-        i += 1;
-    }
-    true
-}
-
-// The number of cover months before the front month.
-fn months_before(cal: Calendar, group: [u8; 4], date: u16) -> u16
-    ensures { λ r. ⌜ (r ≡ frontMonth cal group date - monthOf (coverStart (cal .cover))) × (r ≤ 1200) ⌝ }
-{
-    let front = listing::front_month(cal, group, date);
-    let first = days::month_of(calendar::cover_start(cal.cover));
-    if front < first {
-        return 0;
-    }
-    front - first
-}
-
-// What question 10 says of the maturities.
-fn is_listing_sound(t: Table) -> bool
-    ensures { λ r. ⌜ r ≡ listingSound t ⌝ }
+// Whether the places hold the fresh listing, all of it in the cover.
+fn is_fresh(t: Table) -> bool
+    ensures { λ r. ⌜ r ≡ (allInCover (t .calendar) (t .product .kind) (t .product .group) (t .date) && listsFresh t) ⌝ }
 {
     let p = t.product;
     let kind = p.kind;
@@ -88,17 +40,29 @@ fn is_listing_sound(t: Table) -> bool
         return false;
     }
     let fresh = l.maturities;
-    let n = listing::months_listed(kind);
-    if !are_places_right(maturities, fresh, n as usize) {
+    numbers::are_places_right(maturities, fresh, kind)
+}
+
+// What question 10 says of the maturities.
+fn is_listing_sound(t: Table) -> bool
+    ensures { λ r. ⌜ r ≡ listingSound t ⌝ }
+{
+    if !is_fresh(t) {
         return false;
     }
+    let p = t.product;
+    let kind = p.kind;
+    let group = p.group;
+    let cal = t.calendar;
+    let maturities = t.maturities;
     if !numbers::are_numbers_right(maturities, kind, t.given) {
         return false;
     }
+    let n = listing::months_listed(kind);
     if t.given < n {
         return false;
     }
-    t.given - n <= months_before(cal, group, t.date)
+    t.given - n <= expiry::months_before(cal, group, t.date)
 }
 
 // Question 10.
@@ -174,6 +138,22 @@ fn moved_to(t: Table, cal: Calendar, date: u16, fresh: [Maturity; 15]) -> Outcom
     }
 }
 
+// 'Both then hold the fresh listing', of the calendar and date that a call leaves, where it is complete (16).
+fn relisted(t: Table, cal: Calendar, date: u16) -> Outcome
+    requires { ⌜ t .given ≤ 60000 ⌝ }
+    ensures { λ r. ⌜ r ≡ cond (allInCover cal (t .product .kind) (t .product .group) date) (moved t cal date) (refusedWith t 16) ⌝ }
+{
+    let p = t.product;
+    let kind = p.kind;
+    let group = p.group;
+    let l = listing::list(cal, kind, group, date);
+    if !l.complete {
+        return refused(t, 16);
+    }
+    let fresh = l.maturities;
+    moved_to(t, cal, date, fresh)
+}
+
 impl Table {
     // Sets the date, a later or equal one.
     pub fn roll(self, date: u16) -> Outcome
@@ -190,15 +170,7 @@ impl Table {
         if date < self.date {
             return refused(self, 12);
         }
-        let p = self.product;
-        let kind = p.kind;
-        let group = p.group;
-        let l = listing::list(cal, kind, group, date);
-        if !l.complete {
-            return refused(self, 16);
-        }
-        let fresh = l.maturities;
-        moved_to(self, cal, date, fresh)
+        relisted(self, cal, date)
     }
 
     // Marks one day closed.
@@ -223,14 +195,6 @@ impl Table {
         if !closures::every_week_trades(cal) {
             return refused(self, 15);
         }
-        let p = self.product;
-        let kind = p.kind;
-        let group = p.group;
-        let l = listing::list(cal, kind, group, self.date);
-        if !l.complete {
-            return refused(self, 16);
-        }
-        let fresh = l.maturities;
-        moved_to(self, cal, self.date, fresh)
+        relisted(self, cal, self.date)
     }
 }

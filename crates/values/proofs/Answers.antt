@@ -12,7 +12,7 @@ use Rattle.product.specs.declared.Product.{Product}
 use Rattle.product.specs.Fields.{idRight, groupRight, marketRight, kindRight, sizeRight, tickRight, currencyRight, kindNumber, fieldsRight, productRight, isFuture}
 use Rattle.product.specs.Prices.{priceRight, multipleOf, finalRight, contractsRight, cashAdmitted, cashOf}
 use Rattle.product.specs.Settlement.{settlementDays}
-use Rattle.listing.specs.Months.{lastTradingDay}
+use Rattle.expiry.specs.LastDays.{lastTradingDay}
 use Rattle.table.specs.declared.Table.{Table}
 use Rattle.numbers.specs.Numbering.{isListed}
 use Rattle.table.specs.Table.{held, sound}

@@ -9,7 +9,7 @@ use Rattle.calendar.specs.Trading.{inCover, tradingDay, nthTradingDay}
 use Rattle.product.specs.Fields.{isFuture}
 use Rattle.product.specs.Prices.{priceRight, multipleOf, finalRight, contractsRight, cashAmount}
 use Rattle.product.specs.Settlement.{settlementDays}
-use Rattle.listing.specs.Months.{lastTradingDay}
+use Rattle.expiry.specs.LastDays.{lastTradingDay}
 use Rattle.table.specs.declared.Table.{Table}
 use Rattle.values.specs.declared.DayReply.{DayReply}
 use Rattle.values.specs.declared.CashReply.{CashReply}

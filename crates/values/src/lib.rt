@@ -47,7 +47,7 @@ pub fn last_trading_day(t: Table, month: u16) -> DayReply
     let p = t.product;
     let group = p.group;
     let cal = t.calendar;
-    let day = listing::last_trading_day(cal, group, month);
+    let day = expiry::last_trading_day(cal, group, month);
     DayReply { refusal: 0, day }
 }
 

@@ -1,6 +1,6 @@
 use Rattle.listing.proofs.Fresh.{matOf, listing-is}
 use Rattle.listing.proofs.Taking.{rest, setOf, Walking, starts, enters, finishes, leaves, has-room, takes, stops, kind-below}
-use Rattle.listing.specs.Months.{frontMonth}
+use Rattle.expiry.specs.LastDays.{frontMonth}
 use Rattle.listing.specs.Rules.{taken, complete}
 use lib.ListN.{replicate}
 use mathlib.Core.List.{_++_}

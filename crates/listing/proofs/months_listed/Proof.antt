@@ -1,7 +1,6 @@
 use Rattle.listing.proofs.Taking.{rest-count, rest-zero}
 use Rattle.listing.proofs.Taking.{rest, rest-room, kind-below}
 use Rattle.listing.specs.Months.{monthSets, placesOf, rowOf}
-use Rattle.listing.specs.Rules.{taken}
 use lib.ListN.{length}
 use Prim.Native.Nat.{ℕ, _+_, _-_, _≤_, _<_}
 use native.Mathlib.Omega.{arith}

@@ -1,6 +1,5 @@
 use Rattle.questions.proofs.Search.{search-none, search-here, search-next}
 use Rattle.listing.proofs.Taking.{setOf}
-use Rattle.listing.specs.Rules.{taken}
 use Rattle.questions.specs.Search.{firstFrom}
 use Prim.Native.Nat.{_-_}
 use native.Mathlib.Omega.{arith}

@@ -1,10 +1,10 @@
 use Rattle.calendar.specs.Trading.{everyWeek}
-use Rattle.table.proofs.Calls.{close-10, close-11, close-13, close-14, close-15, close-16, close-yes, complete-is, moved-is}
+use Rattle.table.proofs.Calls.{close-10, close-11, close-13, close-14, close-15, close-16}
 use Rattle.table.proofs.Calls.{given-most}
 use Rattle.questions.proofs.Bools.{said-no, said-yes}
 use borrow.Author.Tests.{lt-ltb, le-ltb}
 use Prim.Native.Nat.{_-_}
-use mathlib.Core.Path.{refl, _∙_, sym, ap}
+use mathlib.Core.Path.{_∙_, sym, ap}
 use Rattle.table.proofs.Table.close.Statement.{statement}
 use Rattle.table.proofs.Table.close.Tie as tie
 
@@ -55,30 +55,15 @@ returns-5 c =
     let w = c .before .before .every-week-trades .ensures ∙ ap everyWeek (c .before .before .before .close-day .ensures) in
     c .refused5 .ensures ∙ sym (close-15 _ _ (said-yes (c .before .before .before .before .before .before .before .before .before .before .before .before .before .is-sound .ensures) (c .before .before .before .before .before .before .before .before .before .before .before .before .if1 .left)) (said-yes (c .before .before .before .before .before .before .before .before .before .in-cover .ensures) (c .before .before .before .before .before .before .before .before .if2 .left)) (lt-ltb _ _ (c .before .before .before .before .before .before .if3 .left)) (said-yes (c .before .before .before .before .before .is-trading-day .ensures) (c .before .before .before .before .if4 .left)) (said-no w (c .before .if5 .taken)))
 
-list-requires : tie.Need-list-requires
-list-requires c κs = tt
-
-refused-requires-6 : tie.Need-refused-requires-6
-refused-requires-6 c κs = tt
+relisted-requires : tie.Need-relisted-requires
+relisted-requires c κs = given-most _ (said-yes (c .before .before .before .before .before .before .before .before .before .before .before .before .is-sound .ensures) (c .before .before .before .before .before .before .before .before .before .before .before .if1 .left))
 
 returns-6 : tie.Need-returns-6
 returns-6 c =
-    let q = c .before .before .before .before .before .before .before .before .close-day .ensures in
-    let w = c .before .before .before .before .before .before .before .every-week-trades .ensures ∙ ap everyWeek q in
-    let l = rw q at (c .before .before .before .list .ensures) in
-    c .refused6 .ensures ∙
-    sym (close-16 _ _ (said-yes (c .before .before .before .before .before .before .before .before .before .before .before .before .before .before .before .before .before .before .is-sound .ensures) (c .before .before .before .before .before .before .before .before .before .before .before .before .before .before .before .before .before .if1 .left)) (said-yes (c .before .before .before .before .before .before .before .before .before .before .before .before .before .before .in-cover .ensures) (c .before .before .before .before .before .before .before .before .before .before .before .before .before .if2 .left)) (lt-ltb _ _ (c .before .before .before .before .before .before .before .before .before .before .before .if3 .left)) (said-yes (c .before .before .before .before .before .before .before .before .before .before .is-trading-day .ensures) (c .before .before .before .before .before .before .before .before .before .if4 .left)) (said-yes w (c .before .before .before .before .before .before .if5 .left)) (said-no (complete-is _ _ _ _ _ l) (c .before .if6 .taken)))
-
-moved-to-requires : tie.Need-moved-to-requires
-moved-to-requires c κs = given-most _ (said-yes (c .before .before .before .before .before .before .before .before .before .before .before .before .before .before .before .before .before .before .is-sound .ensures) (c .before .before .before .before .before .before .before .before .before .before .before .before .before .before .before .before .before .if1 .left))
-
-returns-7 : tie.Need-returns-7
-returns-7 c =
-    let q = c .before .before .before .before .before .before .before .before .before .close-day .ensures in
-    let w = c .before .before .before .before .before .before .before .before .every-week-trades .ensures ∙ ap everyWeek q in
-    let l = rw q at (c .before .before .before .before .list .ensures) in
-    c .moved-to .ensures ∙ (rw q (moved-is _ _ _ _ l (said-yes refl (c .before .before .if6 .left)))) ∙
-    sym (close-yes _ _ (said-yes (c .before .before .before .before .before .before .before .before .before .before .before .before .before .before .before .before .before .before .before .is-sound .ensures) (c .before .before .before .before .before .before .before .before .before .before .before .before .before .before .before .before .before .before .if1 .left)) (said-yes (c .before .before .before .before .before .before .before .before .before .before .before .before .before .before .before .in-cover .ensures) (c .before .before .before .before .before .before .before .before .before .before .before .before .before .before .if2 .left)) (lt-ltb _ _ (c .before .before .before .before .before .before .before .before .before .before .before .before .if3 .left)) (said-yes (c .before .before .before .before .before .before .before .before .before .before .before .is-trading-day .ensures) (c .before .before .before .before .before .before .before .before .before .before .if4 .left)) (said-yes w (c .before .before .before .before .before .before .before .if5 .left)) (said-yes (complete-is _ _ _ _ _ l) (c .before .before .if6 .left)))
+    let q = c .before .before .before .close-day .ensures in
+    let w = c .before .before .every-week-trades .ensures ∙ ap everyWeek q in
+    (rw q at (c .relisted .ensures)) ∙
+    sym (close-16 _ _ (said-yes (c .before .before .before .before .before .before .before .before .before .before .before .before .before .is-sound .ensures) (c .before .before .before .before .before .before .before .before .before .before .before .before .if1 .left)) (said-yes (c .before .before .before .before .before .before .before .before .before .in-cover .ensures) (c .before .before .before .before .before .before .before .before .if2 .left)) (lt-ltb _ _ (c .before .before .before .before .before .before .if3 .left)) (said-yes (c .before .before .before .before .before .is-trading-day .ensures) (c .before .before .before .before .if4 .left)) (said-yes w (c .before .if5 .left)))
 
 pub close-spec : {M : Type 1} → statement M
 close-spec =
@@ -99,8 +84,5 @@ close-spec =
     every-week-trades-requires
     refused-requires-5
     returns-5
-    list-requires
-    refused-requires-6
-    returns-6
-    moved-to-requires
-    returns-7)
+    relisted-requires
+    returns-6)

@@ -1,9 +1,9 @@
-use Rattle.table.proofs.Calls.{roll-10, roll-11, roll-12, roll-16, roll-yes, complete-is, moved-is}
+use Rattle.table.proofs.Calls.{roll-10, roll-11, roll-12, roll-16}
 use Rattle.table.proofs.Calls.{given-most}
 use Rattle.questions.proofs.Bools.{said-no, said-yes}
 use borrow.Author.Tests.{le-leb, lt-leb}
 use Prim.Native.Nat.{_-_}
-use mathlib.Core.Path.{refl, _∙_, sym}
+use mathlib.Core.Path.{_∙_, sym}
 use Rattle.table.proofs.Table.roll.Statement.{statement}
 use Rattle.table.proofs.Table.roll.Tie as tie
 
@@ -31,24 +31,11 @@ refused-requires-3 c κs = tt
 returns-3 : tie.Need-returns-3
 returns-3 c = c .refused3 .ensures ∙ sym (roll-12 _ _ (said-yes (c .before .before .before .before .before .before .before .before .is-sound .ensures) (c .before .before .before .before .before .before .before .if1 .left)) (said-yes (c .before .before .before .before .in-cover .ensures) (c .before .before .before .if2 .left)) (lt-leb _ _ (c .before .if3 .taken)))
 
-list-requires : tie.Need-list-requires
-list-requires c κs = tt
-
-refused-requires-4 : tie.Need-refused-requires-4
-refused-requires-4 c κs = tt
+relisted-requires : tie.Need-relisted-requires
+relisted-requires c κs = given-most _ (said-yes (c .before .before .before .before .before .before .before .is-sound .ensures) (c .before .before .before .before .before .before .if1 .left))
 
 returns-4 : tie.Need-returns-4
-returns-4 c =
-    c .refused4 .ensures ∙
-    sym (roll-16 _ _ (said-yes (c .before .before .before .before .before .before .before .before .before .before .before .before .before .is-sound .ensures) (c .before .before .before .before .before .before .before .before .before .before .before .before .if1 .left)) (said-yes (c .before .before .before .before .before .before .before .before .before .in-cover .ensures) (c .before .before .before .before .before .before .before .before .if2 .left)) (le-leb _ _ (c .before .before .before .before .before .before .if3 .left)) (said-no (complete-is _ _ _ _ _ (c .before .before .before .list .ensures)) (c .before .if4 .taken)))
-
-moved-to-requires : tie.Need-moved-to-requires
-moved-to-requires c κs = given-most _ (said-yes (c .before .before .before .before .before .before .before .before .before .before .before .before .before .is-sound .ensures) (c .before .before .before .before .before .before .before .before .before .before .before .before .if1 .left))
-
-returns-5 : tie.Need-returns-5
-returns-5 c =
-    c .moved-to .ensures ∙ moved-is _ _ _ _ (c .before .before .before .before .list .ensures) (said-yes refl (c .before .before .if4 .left)) ∙
-    sym (roll-yes _ _ (said-yes (c .before .before .before .before .before .before .before .before .before .before .before .before .before .before .is-sound .ensures) (c .before .before .before .before .before .before .before .before .before .before .before .before .before .if1 .left)) (said-yes (c .before .before .before .before .before .before .before .before .before .before .in-cover .ensures) (c .before .before .before .before .before .before .before .before .before .if2 .left)) (le-leb _ _ (c .before .before .before .before .before .before .before .if3 .left)) (said-yes (complete-is _ _ _ _ _ (c .before .before .before .before .list .ensures)) (c .before .before .if4 .left)))
+returns-4 c = c .relisted .ensures ∙ sym (roll-16 _ _ (said-yes (c .before .before .before .before .before .before .before .before .is-sound .ensures) (c .before .before .before .before .before .before .before .if1 .left)) (said-yes (c .before .before .before .before .in-cover .ensures) (c .before .before .before .if2 .left)) (le-leb _ _ (c .before .if3 .left)))
 
 pub roll-spec : {M : Type 1} → statement M
 roll-spec =
@@ -62,8 +49,5 @@ roll-spec =
     returns-2
     refused-requires-3
     returns-3
-    list-requires
-    refused-requires-4
-    returns-4
-    moved-to-requires
-    returns-5)
+    relisted-requires
+    returns-4)

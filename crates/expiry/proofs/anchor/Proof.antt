@@ -1,11 +1,10 @@
-use Rattle.listing.proofs.Fridays.{third-is}
-use Rattle.listing.specs.Months.{anchorOf}
-use Rattle.listing.specs.Rules.{taken}
+use Rattle.expiry.proofs.Fridays.{third-is}
+use Rattle.expiry.specs.LastDays.{anchorOf}
 use Prim.Native.Nat.{_-_}
 use native.Mathlib.Omega.{arith}
 use mathlib.Core.Path.{_∙_, sym}
-use Rattle.listing.proofs.anchor.Statement.{statement}
-use Rattle.listing.proofs.anchor.Tie as tie
+use Rattle.expiry.proofs.anchor.Statement.{statement}
+use Rattle.expiry.proofs.anchor.Tie as tie
 
 third-friday-requires : tie.Need-third-friday-requires
 third-friday-requires c κs = tt

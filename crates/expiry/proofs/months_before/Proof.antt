@@ -1,10 +1,10 @@
 use Rattle.days.specs.Dates.{monthOf}
-use Rattle.table.proofs.Calls.{front-most}
+use Rattle.expiry.proofs.Front.{front-most}
 use Prim.Native.Nat.{_-_}
 use native.Mathlib.Omega.{arith}
 use mathlib.Core.Path.{_∙_, ap}
-use Rattle.table.proofs.months_before.Statement.{statement}
-use Rattle.table.proofs.months_before.Tie as tie
+use Rattle.expiry.proofs.months_before.Statement.{statement}
+use Rattle.expiry.proofs.months_before.Tie as tie
 
 front-month-requires : tie.Need-front-month-requires
 front-month-requires c κs = tt

@@ -11,8 +11,8 @@ use Rattle.days.specs.Gregorian.{weekdayOf}
 use Rattle.days.specs.Dates.{firstOf}
 use Rattle.calendar.specs.declared.Calendar.{Calendar}
 use Rattle.calendar.specs.Trading.{tradingDay}
-use Rattle.listing.specs.Rules.{lastDay}
-use Rattle.listing.specs.Months.{friday, thirdFriday}
+use Rattle.expiry.specs.LastDays.{lastDay}
+use Rattle.expiry.specs.LastDays.{friday, thirdFriday}
 
 -- the days from d to the next Friday
 abbrev wait : ℕ → ℕ

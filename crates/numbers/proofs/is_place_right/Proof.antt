@@ -1,8 +1,8 @@
 use borrow.Author.Tests.{lt-ltb, le-ltb, eq-eqb, ne-eqb}
 use Prim.Native.Nat.{_-_}
 use borrow.Author.Needs.{needs}
-use Rattle.table.proofs.is_place_right.Statement.{statement}
-use Rattle.table.proofs.is_place_right.Tie as tie
+use Rattle.numbers.proofs.is_place_right.Statement.{statement}
+use Rattle.numbers.proofs.is_place_right.Tie as tie
 
 mul-m : tie.Need-mul-m
 mul-m c = search needs

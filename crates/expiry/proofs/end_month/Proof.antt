@@ -3,8 +3,8 @@ use Rattle.days.specs.Dates.{monthOf}
 use Prim.Native.Nat.{_-_}
 use native.Mathlib.Omega.{arith}
 use mathlib.Core.Path.{_∙_, ap}
-use Rattle.listing.proofs.end_month.Statement.{statement}
-use Rattle.listing.proofs.end_month.Tie as tie
+use Rattle.expiry.proofs.end_month.Statement.{statement}
+use Rattle.expiry.proofs.end_month.Tie as tie
 
 cover-end-requires : tie.Need-cover-end-requires
 cover-end-requires c κs = tt

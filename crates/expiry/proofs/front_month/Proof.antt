@@ -1,14 +1,13 @@
 use Rattle.questions.proofs.Search.{search-none, search-here, search-next}
-use Rattle.listing.specs.Months.{lastTradingDay, frontMonth}
-use Rattle.listing.specs.Rules.{taken}
+use Rattle.expiry.specs.LastDays.{lastTradingDay, frontMonth}
 use Rattle.questions.specs.Search.{firstFrom}
 use lib.Dec.{leb}
 use borrow.Author.Tests.{le-leb, lt-leb}
 use Prim.Native.Nat.{_-_}
 use native.Mathlib.Omega.{arith}
 use mathlib.Core.Path.{_≡_, _∙_, sym}
-use Rattle.listing.proofs.front_month.Statement.{statement}
-use Rattle.listing.proofs.front_month.Tie as tie
+use Rattle.expiry.proofs.front_month.Statement.{statement}
+use Rattle.expiry.proofs.front_month.Tie as tie
 
 abbrev Inv-loop : tie.InvT-loop
 Inv-loop cal group date end month₀ month = firstFrom (λ m. leb date (lastTradingDay cal group m)) end (end - month) month ≡ frontMonth cal group date

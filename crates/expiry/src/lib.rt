@@ -1,0 +1,81 @@
+// Last trading days, and the front month on a date.
+use calendar::Calendar;
+use calendar::Cover;
+ghost use mathlib.Core.Path.{_≡_};
+ghost use Prim.Native.Nat.{_-_, _≤_};
+ghost use Rattle.calendar.specs.Trading.{coverStart, coverEnd};
+ghost use Rattle.days.specs.Dates.{monthOf};
+ghost use Rattle.expiry.specs.LastDays.{thirdFriday, anchorOf, lastDay, lastTradingDay, frontMonth};
+
+// The third Friday of a month.
+pub fn third_friday(month: u16) -> u16
+    ensures { λ r. ⌜ r ≡ thirdFriday month ⌝ }
+{
+    let first = days::first_day(month);
+    first + (11 - days::weekday(first)) % 7 + 14
+}
+
+// The day on which a month's trading would end: the third Friday, for the Italian groups the day before.
+pub fn anchor(group: [u8; 4], month: u16) -> u16
+    ensures { λ r. ⌜ r ≡ anchorOf group month ⌝ }
+{
+    let friday = third_friday(month);
+    if product::is_italian(group) {
+        return friday - 1;
+    }
+    friday
+}
+
+// The anchor if it is a trading day, else the latest trading day before it.
+pub fn last_day(cal: Calendar, anchor: u16) -> u16
+    ensures { λ r. ⌜ r ≡ lastDay cal anchor ⌝ }
+{
+    if calendar::is_trading_day(cal, anchor) {
+        return anchor;
+    }
+    if anchor < 1 {
+        return 0;
+    }
+    calendar::latest_trading_day(cal, anchor - 1)
+}
+
+// 002, 1.6.4 (2): the third Friday, the Italian exception, the day itself or the trading day before it.
+pub fn last_trading_day(cal: Calendar, group: [u8; 4], month: u16) -> u16
+    ensures { λ r. ⌜ r ≡ lastTradingDay cal group month ⌝ }
+{
+    last_day(cal, anchor(group, month))
+}
+
+// The first month beyond the cover.
+pub fn end_month(cover: Cover) -> u16
+    ensures { λ r. ⌜ (r ≡ monthOf (coverEnd cover)) × (r ≤ 1200) ⌝ }
+{
+    days::month_of(calendar::cover_end(cover))
+}
+
+// The front month on a date; the first month beyond the cover where the cover has none.
+pub fn front_month(cal: Calendar, group: [u8; 4], date: u16) -> u16
+    ensures { λ r. ⌜ r ≡ frontMonth cal group date ⌝ }
+{
+    let end = end_month(cal.cover);
+    let mut month = days::month_of(date);
+    while month < end {
+        if date <= last_trading_day(cal, group, month) {
+            return month;
+        }
+        month += 1;
+    }
+    end
+}
+
+// The number of cover months before the front month.
+pub fn months_before(cal: Calendar, group: [u8; 4], date: u16) -> u16
+    ensures { λ r. ⌜ (r ≡ frontMonth cal group date - monthOf (coverStart (cal .cover))) × (r ≤ 1200) ⌝ }
+{
+    let front = front_month(cal, group, date);
+    let first = days::month_of(calendar::cover_start(cal.cover));
+    if front < first {
+        return 0;
+    }
+    front - first
+}
