@@ -16,7 +16,7 @@ use Rattle.expiry.specs.LastDays.{thirdFriday, anchorOf, lastDay, lastTradingDa
 use Rattle.listing.specs.Months.{inSet, placesOf, monthly}
 use Rattle.numbers.specs.Numbering.{isListed, numberOf, renumbered, numbersRight}
 use Rattle.table.specs.Table.{listsFresh, countFrom, monthsBefore, sound, openedTable}
-use Rattle.values.specs.Values.{tickCall}
+use Rattle.prices.specs.Prices.{tickCall}
 use Rattle.examples.specs.Examples.{rows, allHold, only21, also20, monthsOn, axa, axaTable}
 
 pub examples-hold : allHold rows ≡ true

@@ -22,7 +22,7 @@ use Rattle.expiry.specs.LastDays.{thirdFriday, lastTradingDay}
 use Rattle.listing.specs.Months.{ruleOf}
 use Rattle.table.specs.declared.Table.{Table}
 use Rattle.table.specs.Table.{openedTable}
-use Rattle.values.specs.Values.{tickCall}
+use Rattle.prices.specs.Prices.{tickCall}
 
 -- a call's refusal and value
 abbrev pub answers : Answer ℕ → ℕ → ℕ → Bool

@@ -33,14 +33,14 @@ fn due(t: Table, day: u16) {
 }
 
 fn tick(t: Table, price: u32) {
-    let refusal = values::tick(t, price);
+    let refusal = prices::tick(t, price);
     start_line(b"T");
     put(refusal as u16);
     end_line();
 }
 
 fn cash(t: Table, contracts: u32, agreed: u32, last: u32) {
-    let r = values::cash(t, contracts, agreed, last);
+    let r = prices::cash(t, contracts, agreed, last);
     start_line(b"Q");
     put(r.refusal as u16);
     put_signed(r.amount);

@@ -1,23 +1,17 @@
--- What the calls that return values come to, question by question.
+-- What the calls that return days come to, question by question.
 -- Assumes nothing.
 use mathlib.Core.Path.{_≡_}
-use mathlib.Core.Bool.{Bool, true, false, _&&_}
+use mathlib.Core.Bool.{true, false}
 use Prim.Native.Nat.{ℕ}
-use lib.IntN.{ℤ}
 use Rattle.questions.specs.Questions.{firstNo}
 use Rattle.questions.proofs.Asks.{accepted, refused}
-use Rattle.questions.proofs.Bools.{and-fst, and-snd, and-both}
 use Rattle.calendar.specs.Trading.{inCover, tradingDay, nthTradingDay}
-use Rattle.product.specs.declared.Product.{Product}
-use Rattle.product.specs.Fields.{idRight, groupRight, marketRight, kindRight, sizeRight, tickRight, currencyRight, kindNumber, fieldsRight, productRight, isFuture}
-use Rattle.product.specs.Prices.{priceRight, multipleOf, finalRight, contractsRight, cashAdmitted, cashOf}
 use Rattle.product.specs.Settlement.{settlementDays}
 use Rattle.expiry.specs.LastDays.{lastTradingDay}
 use Rattle.table.specs.declared.Table.{Table}
 use Rattle.numbers.specs.Numbering.{isListed}
 use Rattle.table.specs.Table.{held, sound}
-use Rattle.values.specs.Values.{noDay, noCash, lastDayAsks, lastDayCall, dueDay, dueAsks, dueCall, tickCall, cashAsks, cashCall}
-use Rattle.table.proofs.Calls.{sound-parts}
+use Rattle.values.specs.Values.{noDay, lastDayAsks, lastDayCall, dueDay, dueAsks, dueCall}
 
 -- the last trading day of a listed month, by its first question answered no
 module _ (t : Table) (month : ℕ) where
@@ -63,79 +57,3 @@ module _ (t : Table) (day : ℕ) where
         pub due-yes : inCover (t .calendar .cover) due ≡ true → dueCall t day ≡ record { refusal = 0; value = due }
         unfolding dueCall dueAsks firstNo
         due-yes e = rw q (accepted (dueAsks t day) _ _ (rw (a, b, d, ← q, e)))
-
--- the tick, by its first question answered no
-module _ (t : Table) (price : ℕ) where
-  pub tick-10 : sound t ≡ false → tickCall t price ≡ 10
-  unfolding tickCall firstNo
-  tick-10 a = rw a
-
-  module _ (a : sound t ≡ true) where
-    pub tick-19 : priceRight price ≡ false → tickCall t price ≡ 19
-    unfolding tickCall firstNo
-    tick-19 b = rw (a, b)
-
-    module _ (b : priceRight price ≡ true) where
-      pub tick-20 : multipleOf (t .product .tick) price ≡ false → tickCall t price ≡ 20
-      unfolding tickCall firstNo
-      tick-20 d = rw (a, b, d)
-
-      pub tick-yes : multipleOf (t .product .tick) price ≡ true → tickCall t price ≡ 0
-      unfolding tickCall firstNo
-      tick-yes d = rw (a, b, d)
-
--- the contract size of a right product is in its range
-size-in-range : (p : Product) → productRight p ≡ true → sizeRight (p .size) ≡ true
-unfolding productRight fieldsRight
-size-in-range p e = and-snd to-kind (sizeRight (p .size)) (and-fst to-size (tickRight (p .tick)) (and-fst to-tick (currencyRight (p .currency)) e))
-  where
-    to-kind : Bool
-    to-kind = idRight (p .id) && groupRight (p .group) (kindNumber (p .kind)) && marketRight (p .market) && kindRight (kindNumber (p .kind))
-
-    to-size : Bool
-    to-size = to-kind && sizeRight (p .size)
-
-    to-tick : Bool
-    to-tick = to-size && tickRight (p .tick)
-
--- two tests of the code are those of the definition
-pub both-are : {a b x y : Bool} → a ≡ x → b ≡ y → (a && b) ≡ (x && y)
-both-are p q = rw (p, q)
-
--- cash, by its first question answered no
-module _ (t : Table) (contracts agreed final : ℕ) where
-  pub cash-10 : sound t ≡ false → cashCall t contracts agreed final ≡ noCash 10
-  unfolding cashCall cashAsks firstNo
-  cash-10 a = refused (cashAsks t contracts agreed final) _ _ 9 (rw a)
-
-  module _ (a : sound t ≡ true) where
-    pub cash-19 : priceRight agreed ≡ false → cashCall t contracts agreed final ≡ noCash 19
-    unfolding cashCall cashAsks firstNo
-    cash-19 b = refused (cashAsks t contracts agreed final) _ _ 18 (rw (a, b))
-
-    module _ (b : priceRight agreed ≡ true) where
-      pub cash-20 : multipleOf (t .product .tick) agreed ≡ false → cashCall t contracts agreed final ≡ noCash 20
-      unfolding cashCall cashAsks firstNo
-      cash-20 d = refused (cashAsks t contracts agreed final) _ _ 19 (rw (a, b, d))
-
-      module _ (d : multipleOf (t .product .tick) agreed ≡ true) where
-        pub cash-21 : isFuture (t .product .kind) ≡ false → cashCall t contracts agreed final ≡ noCash 21
-        unfolding cashCall cashAsks firstNo
-        cash-21 e = refused (cashAsks t contracts agreed final) _ _ 20 (rw (a, b, d, e))
-
-        module _ (e : isFuture (t .product .kind) ≡ true) where
-          pub cash-22 : (finalRight final && contractsRight contracts) ≡ false → cashCall t contracts agreed final ≡ noCash 22
-          unfolding cashCall cashAsks firstNo
-          cash-22 f = refused (cashAsks t contracts agreed final) _ _ 21 (rw (a, b, d, e, f))
-
-          module _ (f : (finalRight final && contractsRight contracts) ≡ true) where
-            -- the numbers are those for which the code works out cash
-            cash-numbers : cashAdmitted contracts (t .product .size) agreed final ≡ true
-            unfolding cashAdmitted
-            cash-numbers =
-                let s = size-in-range (t .product) (sound-parts t a .fields) in
-                and-both (and-both (and-both b (and-fst (finalRight final) (contractsRight contracts) f)) (and-snd (finalRight final) (contractsRight contracts) f)) s
-
-            pub cash-yes : (amount : ℤ) → amount ≡ cashOf contracts (t .product .size) agreed final → cashCall t contracts agreed final ≡ record { refusal = 0; value = amount }
-            unfolding cashCall cashAsks firstNo cashOf
-            cash-yes amount q = rw (q, cash-numbers) (accepted (cashAsks t contracts agreed final) _ _ (rw (a, b, d, e, f)))

@@ -1,8 +1,8 @@
-use Rattle.values.proofs.Answers.{tick-10, tick-19, tick-20, tick-yes}
+use Rattle.prices.proofs.Answers.{tick-10, tick-19, tick-20, tick-yes}
 use Rattle.questions.proofs.Bools.{said-no, said-yes}
 use mathlib.Core.Path.{sym}
-use Rattle.values.proofs.tick.Statement.{statement}
-use Rattle.values.proofs.tick.Tie as tie
+use Rattle.prices.proofs.tick.Statement.{statement}
+use Rattle.prices.proofs.tick.Tie as tie
 
 is-sound-requires : tie.Need-is-sound-requires
 is-sound-requires c κs = tt

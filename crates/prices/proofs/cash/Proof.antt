@@ -1,10 +1,10 @@
-use Rattle.values.proofs.Answers.{cash-10, cash-19, cash-20, cash-21, cash-22, cash-yes, both-are}
+use Rattle.prices.proofs.Answers.{cash-10, cash-19, cash-20, cash-21, cash-22, cash-yes, both-are}
 use Rattle.questions.proofs.Bools.{said-no, said-yes}
 use mir.Syntax.{w64}
 use mir.Facts.{toZ-ofZ}
 use mathlib.Core.Path.{_∙_, sym}
-use Rattle.values.proofs.cash.Statement.{statement}
-use Rattle.values.proofs.cash.Tie as tie
+use Rattle.prices.proofs.cash.Statement.{statement}
+use Rattle.prices.proofs.cash.Tie as tie
 
 is-sound-requires : tie.Need-is-sound-requires
 is-sound-requires c κs = tt

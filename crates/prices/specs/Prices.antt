@@ -1,0 +1,43 @@
+-- Calls about prices that leave the table as it is (01, Due day, tick, cash; Questions, in order).
+-- Assumes nothing.
+use Prim.Native.Nat.{ℕ}
+use mathlib.Core.Bool.{_&&_}
+use mathlib.Core.List.{List, [], _∷_}
+use lib.IntN.{ℤ, pos}
+use Rattle.questions.specs.Questions.{Ask, ask, firstNo, Answer, answer}
+use Rattle.product.specs.Fields.{isFuture}
+use Rattle.product.specs.Prices.{priceRight, multipleOf, finalRight, contractsRight, cashAmount}
+use Rattle.table.specs.declared.Table.{Table}
+use Rattle.prices.specs.declared.CashReply.{CashReply}
+use Rattle.table.specs.Table.{sound}
+
+-- 'returns the number of the first answered no', and the value, of a reply with an amount
+abbrev pub cashReply : CashReply → Answer ℤ
+cashReply r = record { refusal = r .refusal; value = r .amount }
+
+-- 'With it: .. other calls return zero values', of a reply with an amount
+abbrev pub noCash : ℕ → Answer ℤ
+noCash number = record { refusal = number; value = pos 0 }
+
+-- 'Tick: 10, 19, 20'
+abbrev pub tickAsks : Table → ℕ → List Ask
+tickAsks t price = ask 10 (sound t) ∷ ask 19 (priceRight price) ∷ ask 20 (multipleOf (t .product .tick) price) ∷ []
+
+-- 'returns the number of the first answered no'; 0 where a price passes
+unfoldable pub tickCall : Table → ℕ → ℕ
+tickCall t price = firstNo (tickAsks t price)
+
+-- 'Cash: 10, 19–22'
+unfoldable pub cashAsks : Table → ℕ → ℕ → ℕ → List Ask
+cashAsks t contracts agreed final =
+    ask 10 (sound t)
+    ∷ ask 19 (priceRight agreed)
+    ∷ ask 20 (multipleOf (t .product .tick) agreed)
+    ∷ ask 21 (isFuture (t .product .kind))
+    ∷ ask 22 (finalRight final && contractsRight contracts)
+    ∷ []
+
+-- 'Cash (002, 1.6.2): contracts × size × (final − agreed), signed'; 'With it: .. other calls return zero values'
+unfoldable pub cashCall : Table → ℕ → ℕ → ℕ → Answer ℤ
+cashCall t contracts agreed final =
+    answer (cashAsks t contracts agreed final) (pos 0) (cashAmount contracts (t .product .size) agreed final)
