@@ -1,3 +1,5 @@
+use mathlib.Core.Path.{ap₂}
+use mathlib.Core.Bool.{_&&_}
 use Rattle.product.specs.Fields.{fieldsRight}
 use Rattle.product.proofs.fields_right.Statement.{statement}
 use Rattle.product.proofs.fields_right.Tie as tie
@@ -25,7 +27,7 @@ currency-right-requires c κs = tt
 
 returns : tie.Need-returns
 unfolding fieldsRight
-returns c = cc
+returns c = ap₂ _&&_ (ap₂ _&&_ (ap₂ _&&_ (ap₂ _&&_ (ap₂ _&&_ (ap₂ _&&_ (c .before .before .before .before .before .before .id-right .ensures) (c .before .before .before .before .before .group-right .ensures)) (c .before .before .before .before .market-right .ensures)) (c .before .before .before .kind-right .ensures)) (c .before .before .size-right .ensures)) (c .before .tick-right .ensures)) (c .currency-right .ensures)
 
 pub fields-right-spec : {M : Type 1} → statement M
 fields-right-spec =
