@@ -10,7 +10,7 @@ ghost use Prim.Native.Nat.{_<_, _≤_};
 
 // What is asked of one day.
 fn day_line(cal: Calendar, day: u16) {
-    start_line(b"T");
+    start_line(b'T');
     put(day);
     put_answer(calendar::in_cover(cal.cover, day));
     put_answer(calendar::is_closed(cal, day));
@@ -37,7 +37,7 @@ fn closing_lines(cal: Calendar, from: u16, to: u16, step: u16)
 {
     let mut day = from;
     while day <= to {
-        start_line(b"X");
+        start_line(b'X');
         put(day);
         put_answer(closures::trades_with_closed(cal, day));
         end_line();
@@ -47,7 +47,7 @@ fn closing_lines(cal: Calendar, from: u16, to: u16, step: u16)
 
 fn header(cal: Calendar, index: u16) {
     let cover = cal.cover;
-    start_line(b"K");
+    start_line(b'K');
     put(index);
     put(cover.first_year);
     put(cover.years);

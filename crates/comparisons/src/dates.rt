@@ -9,7 +9,7 @@ use days::DayAnswer;
 fn months() {
     for k in 0..1200u16 {
         let first = days::first_day(k);
-        start_line(b"M");
+        start_line(b'M');
         put(k);
         put(first);
         put(days::weekday(first));
@@ -20,7 +20,7 @@ fn months() {
 
 // Refusal and day number of a date.
 fn date(year: u16, month: u16, day: u16) {
-    start_line(b"D");
+    start_line(b'D');
     put(year);
     put(month);
     put(day);
@@ -57,7 +57,7 @@ fn all_dates() {
 
 // Refusal and date of a day number.
 fn number(n: u16) {
-    start_line(b"N");
+    start_line(b'N');
     put(n);
     match days::date_of_day(n) {
         DateAnswer::Is(d) => {

@@ -16,7 +16,7 @@ fn month_lines(cal: Calendar, group: [u8; 4]) {
     let first = days::month_of(calendar::cover_start(cal.cover));
     let end = days::month_of(calendar::cover_end(cal.cover));
     for month in first..end {
-        start_line(b"A");
+        start_line(b'A');
         put(month);
         put(expiry::third_friday(month));
         put(expiry::last_trading_day(cal, group, month));
@@ -37,7 +37,7 @@ fn put_maturities(maturities: [Maturity; 15]) {
 fn listing_line(cal: Calendar, kind: Kind, group: [u8; 4], date: u16) {
     let l = listing::list(cal, kind, group, date);
     let maturities = l.maturities;
-    start_line(b"L");
+    start_line(b'L');
     put(date);
     put(expiry::front_month(cal, group, date));
     put_answer(l.complete);
@@ -69,7 +69,7 @@ fn cover(first_year: u16, years: u16) {
     let c = Cover { first_year, years };
     for pattern in 3..6u16 {
         let cal = closed_by(c, pattern);
-        start_line(b"S");
+        start_line(b'S');
         put(first_year);
         put(years);
         put(pattern);

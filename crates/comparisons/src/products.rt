@@ -9,7 +9,7 @@ ghost use Prim.Native.Nat.{_<_};
 // Whether a group is Italian, and an option's days to settlement.
 fn group_line(a: u8, b: u8, tens: u8, ones: u8) {
     let group = [a, b, tens, ones];
-    start_line(b"G");
+    start_line(b'G');
     put(a as u16);
     put(b as u16);
     put(tens as u16);
@@ -28,7 +28,7 @@ fn country(a: u8, b: u8) {
 }
 
 fn tick_line(price: u32, tick: u16) {
-    start_line(b"P");
+    start_line(b'P');
     put_signed(price as i64);
     put(tick);
     put_answer(product::price_right(price));
@@ -45,7 +45,7 @@ fn ticks(price: u32) {
 }
 
 fn cash_line(contracts: u32, size: u16, agreed: u32, last: u32) {
-    start_line(b"Q");
+    start_line(b'Q');
     put_signed(contracts as i64);
     put(size);
     put_signed(agreed as i64);

@@ -30,7 +30,7 @@ pub(crate) fn print(file: &[u8]) {
     let cal = years::calendar_of(file);
     let cover = cal.cover;
     let closed = closed_days(cal);
-    start_line(b"C");
+    start_line(b'C');
     put_short(cover.first_year);
     put_short(cover.years);
     put(closed.count);

@@ -38,7 +38,7 @@ fn put_product(item: Product) {
 
 // Question 9 of an id: the refusal, the record's block and number, and its fields.
 fn id_line(file: &[u8], id: [u8; 4]) {
-    start_line(b"I");
+    start_line(b'I');
     match master::find(file, id) {
         Found::At(block, record) => {
             put_byte(0);

@@ -14,7 +14,7 @@ ghost use Prim.Native.Nat.{_<_};
 fn file_lines(file: &[u8], index: u16) {
     let loaded = master::load(file);
     let counts = loaded.counts;
-    start_line(b"F");
+    start_line(b'F');
     put_short(index);
     put_byte(loaded.refusal);
     put_short(counts.years);

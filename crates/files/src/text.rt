@@ -1,8 +1,8 @@
 // The pieces of a line.
 use libc::STDOUT_FILENO;
 
-pub(crate) fn start_line(letter: &[u8]) {
-    io::write_all(STDOUT_FILENO, letter);
+pub(crate) fn start_line(letter: u8) {
+    io::write_all(STDOUT_FILENO, &[letter]);
 }
 
 pub(crate) fn put(n: u64) {

@@ -16,21 +16,21 @@ pub(crate) fn open(bytes: [u8; 16]) -> Table {
     let mut file = io::large_buffer();
     let n = read_master(bytes[1], &mut file);
     let o = opening::open(&file[..n], id, two(bytes[2], bytes[3]));
-    put_outcome(b"O", o);
+    put_outcome(b'O', o);
     let t = o.table;
     t
 }
 
 pub(crate) fn roll(t: Table, date: u16) -> Table {
     let o = t.roll(date);
-    put_outcome(b"R", o);
+    put_outcome(b'R', o);
     let next = o.table;
     next
 }
 
 pub(crate) fn close(t: Table, day: u16) -> Table {
     let o = t.close(day);
-    put_outcome(b"C", o);
+    put_outcome(b'C', o);
     let next = o.table;
     next
 }

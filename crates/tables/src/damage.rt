@@ -216,7 +216,7 @@ pub(crate) fn damage(t: Table, field: u8, i: u16, value: u16) -> Table {
     let p = t.product;
     let cal = t.calendar;
     let old = t.maturities;
-    start_line(b"D");
+    start_line(b'D');
     put(field as u16);
     put(i);
     put(value);

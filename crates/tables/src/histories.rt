@@ -60,7 +60,7 @@ fn put_answers(answers: [u16; 768], n: usize)
 {
     let mut i: usize = 0;
     while i < n {
-        start_line(b"A");
+        start_line(b'A');
         put(answers[3 * i]);
         put(answers[3 * i + 1]);
         put(answers[3 * i + 2]);
@@ -72,7 +72,7 @@ fn put_answers(answers: [u16; 768], n: usize)
 // Whether the lists fit, open's refusal, and the table.
 fn put_replay(r: Replay) {
     let t = r.table;
-    start_line(b"H");
+    start_line(b'H');
     if r.fits {
         put(1);
     } else {

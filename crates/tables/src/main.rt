@@ -53,12 +53,12 @@ fn step(fd: i32, bytes: [u8; 16], state: State) -> State {
     let t = state.table;
     let saved = state.saved;
     if operation == SAVE {
-        start_line(b"S");
+        start_line(b'S');
         end_line();
         return State { table: t, saved: t };
     }
     if operation == RESTORE {
-        start_line(b"B");
+        start_line(b'B');
         end_line();
         return State {
             table: saved,

@@ -36,11 +36,17 @@ fn mix(sum: u32, number: u32) -> u32
     (31 * sum + number) % 65521
 }
 
-fn mix_bytes(sum: u32, a: u8, b: u8, c: u8, d: u8) -> u32
+fn mix_bytes(sum: u32, bytes: [u8; 4]) -> u32
     requires { ⌜ sum < 65521 ⌝ }
     ensures { λ r. ⌜ r < 65521 ⌝ }
 {
-    mix(mix(mix(mix(sum, wide(a)), wide(b)), wide(c)), wide(d))
+    mix(
+        mix(
+            mix(mix(sum, wide(bytes[0])), wide(bytes[1])),
+            wide(bytes[2]),
+        ),
+        wide(bytes[3]),
+    )
 }
 
 // The sum of a product's fields.
@@ -50,17 +56,16 @@ fn product_sum(p: Product) -> u32 {
     let market = p.market;
     let currency = p.currency;
     let kind = p.kind;
-    let ids = mix_bytes(0, id[0], id[1], id[2], id[3]);
-    let groups = mix_bytes(ids, group[0], group[1], group[2], group[3]);
-    let markets = mix_bytes(groups, market[0], market[1], market[2], market[3]);
-    let kinds = mix_bytes(
-        markets,
+    let ids = mix_bytes(0, id);
+    let groups = mix_bytes(ids, group);
+    let markets = mix_bytes(groups, market);
+    let codes = [
         product::kind_number(kind),
         currency[0],
         currency[1],
         currency[2],
-    );
-    mix(mix(kinds, p.size as u32), p.tick as u32)
+    ];
+    mix(mix(mix_bytes(markets, codes), p.size as u32), p.tick as u32)
 }
 
 fn put_maturities(maturities: [Maturity; 15]) {
@@ -88,7 +93,7 @@ pub(crate) fn put_table(t: Table) {
 }
 
 // Refusal, entered, left and the table.
-pub(crate) fn put_outcome(letter: &[u8], o: Outcome) {
+pub(crate) fn put_outcome(letter: u8, o: Outcome) {
     let t = o.table;
     start_line(letter);
     put(o.refusal as u16);

@@ -4,8 +4,8 @@ ghost use Prim.Native.Nat.{_<_};
 ghost use lib.IntN.{pos};
 ghost use lib.Signed.{_≤ℤ_};
 
-pub(crate) fn start_line(letter: &[u8]) {
-    io::write_all(STDOUT_FILENO, letter);
+pub(crate) fn start_line(letter: u8) {
+    io::write_all(STDOUT_FILENO, &[letter]);
 }
 
 pub(crate) fn put(n: u16) {

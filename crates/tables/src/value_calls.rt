@@ -18,7 +18,7 @@ const CASH: u8 = b'Q';
 
 fn last_trading_day(t: Table, month: u16) {
     let r = values::last_trading_day(t, month);
-    start_line(b"L");
+    start_line(b'L');
     put(r.refusal as u16);
     put(r.day);
     end_line();
@@ -26,7 +26,7 @@ fn last_trading_day(t: Table, month: u16) {
 
 fn due(t: Table, day: u16) {
     let r = values::due(t, day);
-    start_line(b"U");
+    start_line(b'U');
     put(r.refusal as u16);
     put(r.day);
     end_line();
@@ -34,14 +34,14 @@ fn due(t: Table, day: u16) {
 
 fn tick(t: Table, price: u32) {
     let refusal = prices::tick(t, price);
-    start_line(b"T");
+    start_line(b'T');
     put(refusal as u16);
     end_line();
 }
 
 fn cash(t: Table, contracts: u32, agreed: u32, last: u32) {
     let r = prices::cash(t, contracts, agreed, last);
-    start_line(b"Q");
+    start_line(b'Q');
     put(r.refusal as u16);
     put_signed(r.amount);
     end_line();

@@ -4,16 +4,13 @@ use Rattle.comparisons.proofs.calendars.closing_lines.Statement.{statem
 use Rattle.comparisons.proofs.calendars.closing_lines.Tie as tie
 
 abbrev Inv-loop : tie.InvT-loop
-Inv-loop cal from to step day₀ t6 day = day < 65536
+Inv-loop cal from to step day₀ day = day < 65536
 
 abbrev μ-loop : tie.MeasureT-loop
-μ-loop cal from to step day₀ t6 day = to + 1 - day
+μ-loop cal from to step day₀ day = to + 1 - day
 
 loop-holds : tie.Need-loop-holds Inv-loop μ-loop
 loop-holds c = search needs
-
-slice-aggregate-start-line : tie.Need-slice-aggregate-start-line Inv-loop μ-loop
-slice-aggregate-start-line c = search needs
 
 start-line-requires : tie.Need-start-line-requires Inv-loop μ-loop
 start-line-requires c κs = tt
@@ -49,7 +46,6 @@ closing-lines-spec =
     Inv-loop
     μ-loop
     loop-holds
-    slice-aggregate-start-line
     start-line-requires
     put-requires
     trades-with-closed-requires

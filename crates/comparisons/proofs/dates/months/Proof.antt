@@ -4,19 +4,16 @@ use Rattle.comparisons.proofs.dates.months.Statement.{statement}
 use Rattle.comparisons.proofs.dates.months.Tie as tie
 
 abbrev Inv-loop : tie.InvT-loop
-Inv-loop k₀ t3 k = k ≤ 1200
+Inv-loop k₀ k = k ≤ 1200
 
 abbrev μ-loop : tie.MeasureT-loop
-μ-loop k₀ t3 k = 1200 - k
+μ-loop k₀ k = 1200 - k
 
 loop-holds : tie.Need-loop-holds Inv-loop μ-loop
 loop-holds c = search needs
 
 first-day-requires : tie.Need-first-day-requires Inv-loop μ-loop
 first-day-requires c κs = tt
-
-slice-aggregate-start-line : tie.Need-slice-aggregate-start-line Inv-loop μ-loop
-slice-aggregate-start-line c = search needs
 
 start-line-requires : tie.Need-start-line-requires Inv-loop μ-loop
 start-line-requires c κs = tt
@@ -68,7 +65,6 @@ months-spec =
     μ-loop
     loop-holds
     first-day-requires
-    slice-aggregate-start-line
     start-line-requires
     put-requires
     put-requires-2

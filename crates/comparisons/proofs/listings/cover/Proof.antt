@@ -4,19 +4,16 @@ use Rattle.comparisons.proofs.listings.cover.Statement.{statement}
 use Rattle.comparisons.proofs.listings.cover.Tie as tie
 
 abbrev Inv-loop : tie.InvT-loop
-Inv-loop first-year years c pattern₀ t6 pattern = pattern ≤ 6
+Inv-loop first-year years c pattern₀ pattern = pattern ≤ 6
 
 abbrev μ-loop : tie.MeasureT-loop
-μ-loop first-year years c pattern₀ t6 pattern = 6 - pattern
+μ-loop first-year years c pattern₀ pattern = 6 - pattern
 
 loop-holds : tie.Need-loop-holds Inv-loop μ-loop
 loop-holds c = search needs
 
 closed-by-requires : tie.Need-closed-by-requires Inv-loop μ-loop
 closed-by-requires c κs = tt
-
-slice-aggregate-start-line : tie.Need-slice-aggregate-start-line Inv-loop μ-loop
-slice-aggregate-start-line c = search needs
 
 start-line-requires : tie.Need-start-line-requires Inv-loop μ-loop
 start-line-requires c κs = tt
@@ -59,7 +56,6 @@ cover-spec =
     μ-loop
     loop-holds
     closed-by-requires
-    slice-aggregate-start-line
     start-line-requires
     put-requires
     put-requires-2

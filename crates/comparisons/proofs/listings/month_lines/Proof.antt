@@ -6,10 +6,10 @@ use Rattle.comparisons.proofs.listings.month_lines.Statement.{statement
 use Rattle.comparisons.proofs.listings.month_lines.Tie as tie
 
 abbrev Inv-loop : tie.InvT-loop
-Inv-loop cal group first end month₀ t6 month = (end ≤ 1200) × (month ≤ 1200)
+Inv-loop cal group first end month₀ month = (end ≤ 1200) × (month ≤ 1200)
 
 abbrev μ-loop : tie.MeasureT-loop
-μ-loop cal group first end month₀ t6 month = end - month
+μ-loop cal group first end month₀ month = end - month
 
 cover-start-requires : tie.Need-cover-start-requires Inv-loop μ-loop
 cover-start-requires c κs = tt
@@ -28,9 +28,6 @@ loop-holds c = (
   omega (arith, c .month-of2 .ensures, month-most (c .before .cover-end .result)),
   omega (arith, c .before .before .month-of .ensures, month-most (c .before .before .before .cover-start .result)),
 )
-
-slice-aggregate-start-line : tie.Need-slice-aggregate-start-line Inv-loop μ-loop
-slice-aggregate-start-line c = search needs
 
 start-line-requires : tie.Need-start-line-requires Inv-loop μ-loop
 start-line-requires c κs = tt
@@ -76,7 +73,6 @@ month-lines-spec =
     cover-end-requires
     month-of-requires-2
     loop-holds
-    slice-aggregate-start-line
     start-line-requires
     put-requires
     third-friday-requires

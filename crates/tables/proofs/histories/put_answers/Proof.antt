@@ -4,16 +4,13 @@ use Rattle.tables.proofs.histories.put_answers.Statement.{statement}
 use Rattle.tables.proofs.histories.put_answers.Tie as tie
 
 abbrev Inv-loop : tie.InvT-loop
-Inv-loop n answers i₀ t5 i = i ≤ 256
+Inv-loop n answers i₀ i = i ≤ 256
 
 abbrev μ-loop : tie.MeasureT-loop
-μ-loop n answers i₀ t5 i = 256 - i
+μ-loop n answers i₀ i = 256 - i
 
 loop-holds : tie.Need-loop-holds Inv-loop μ-loop
 loop-holds c = search needs
-
-slice-aggregate-start-line : tie.Need-slice-aggregate-start-line Inv-loop μ-loop
-slice-aggregate-start-line c = search needs
 
 start-line-requires : tie.Need-start-line-requires Inv-loop μ-loop
 start-line-requires c κs = tt
@@ -82,7 +79,6 @@ put-answers-spec =
     Inv-loop
     μ-loop
     loop-holds
-    slice-aggregate-start-line
     start-line-requires
     mul-put
     mul-put-2
