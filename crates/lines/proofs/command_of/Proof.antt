@@ -1,12 +1,12 @@
+use native.Mathlib.Omega.{arith}
 use Rattle.lines.proofs.Forms.{begins-o, begins-else}
 use Rattle.lines.specs.Lines.{heldCommand}
 use mathlib.Core.Path.{_∙_}
-use borrow.Author.Needs.{needs}
 use Rattle.lines.proofs.command_of.Statement.{statement}
 use Rattle.lines.proofs.command_of.Tie as tie
 
 array-read-if1 : tie.Need-array-read-if1
-array-read-if1 c = search needs
+array-read-if1 c = omega arith
 
 open-command-requires : tie.Need-open-command-requires
 open-command-requires c κs = tt

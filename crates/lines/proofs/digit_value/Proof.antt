@@ -1,6 +1,5 @@
 use native.Mathlib.Omega.{arith}
 use mathlib.Core.Path.{refl}
-use borrow.Author.Needs.{needs}
 use Rattle.lines.proofs.digit_value.Statement.{statement}
 use Rattle.lines.proofs.digit_value.Tie as tie
 
@@ -8,7 +7,7 @@ returns : tie.Need-returns
 returns c = (omega arith, omega arith)
 
 cast-result : tie.Need-cast-result
-cast-result c = search needs
+cast-result c = omega arith
 
 returns-2 : tie.Need-returns-2
 returns-2 c = (refl, omega arith)

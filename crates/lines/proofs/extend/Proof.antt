@@ -1,7 +1,7 @@
+use native.Mathlib.Omega.{arith}
 use Rattle.lines.specs.Lines.{extended}
 use borrow.Author.Tests.{lt-ltb, le-ltb}
 use mathlib.Core.Path.{refl}
-use borrow.Author.Needs.{needs}
 use Rattle.lines.proofs.extend.Statement.{statement}
 use Rattle.lines.proofs.extend.Tie as tie
 
@@ -10,10 +10,10 @@ unfolding extended
 returns c = rw (le-ltb (c .before .args .line .length) 18 (c .if1 .taken)) refl
 
 array-write-bytes : tie.Need-array-write-bytes
-array-write-bytes c = search needs
+array-write-bytes c = omega arith
 
 add-t9 : tie.Need-add-t9
-add-t9 c = search needs
+add-t9 c = omega arith
 
 returns-2 : tie.Need-returns-2
 unfolding extended

@@ -1,14 +1,14 @@
+use native.Mathlib.Omega.{arith}
 use mathlib.Core.Path.{refl}
 use borrow.Author.Tests.{lt-ltb, le-ltb}
-use borrow.Author.Needs.{needs}
 use Rattle.lines.proofs.id_byte_at.Statement.{statement}
 use Rattle.lines.proofs.id_byte_at.Tie as tie
 
 add-result : tie.Need-add-result
-add-result c = search needs
+add-result c = omega arith
 
 array-read-result : tie.Need-array-read-result
-array-read-result c = search needs
+array-read-result c = omega arith
 
 returns : tie.Need-returns
 returns c = rw (lt-ltb (c .before .args .i) (c .before .args .k) (c .if1 .taken)) refl

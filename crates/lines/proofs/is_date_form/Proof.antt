@@ -1,44 +1,52 @@
+use lib.ListN.{getD}
+use Prim.Native.Nat.{ℕ, _+_}
+use mathlib.Core.Path.{ap, ap₂}
+use mathlib.Core.Bool.{_&&_}
+use lib.Dec.{eqb}
+use native.Mathlib.Omega.{arith}
 use Rattle.lines.specs.Lines.{dateForm}
-use borrow.Author.Needs.{needs}
 use Rattle.lines.proofs.is_date_form.Statement.{statement}
 use Rattle.lines.proofs.is_date_form.Tie as tie
 
 are-two-digits-requires : tie.Need-are-two-digits-requires
-are-two-digits-requires c κs = search needs
+are-two-digits-requires c κs = omega arith
 
 add-are-two-digits : tie.Need-add-are-two-digits
-add-are-two-digits c = search needs
+add-are-two-digits c = omega arith
 
 are-two-digits-requires-2 : tie.Need-are-two-digits-requires-2
-are-two-digits-requires-2 c κs = search needs
+are-two-digits-requires-2 c κs = omega arith
 
 add-result : tie.Need-add-result
-add-result c = search needs
+add-result c = omega arith
 
 array-read-result : tie.Need-array-read-result
-array-read-result c = search needs
+array-read-result c = omega arith
 
 add-are-two-digits-2 : tie.Need-add-are-two-digits-2
-add-are-two-digits-2 c = search needs
+add-are-two-digits-2 c = omega arith
 
 are-two-digits-requires-3 : tie.Need-are-two-digits-requires-3
-are-two-digits-requires-3 c κs = search needs
+are-two-digits-requires-3 c κs = omega arith
 
 add-result-2 : tie.Need-add-result-2
-add-result-2 c = search needs
+add-result-2 c = omega arith
 
 array-read-result-2 : tie.Need-array-read-result-2
-array-read-result-2 c = search needs
+array-read-result-2 c = omega arith
 
 add-are-two-digits-3 : tie.Need-add-are-two-digits-3
-add-are-two-digits-3 c = search needs
+add-are-two-digits-3 c = omega arith
 
 are-two-digits-requires-4 : tie.Need-are-two-digits-requires-4
-are-two-digits-requires-4 c κs = search needs
+are-two-digits-requires-4 c κs = omega arith
 
 returns : tie.Need-returns
 unfolding dateForm
-returns c = cc
+returns c =
+    let line : ℕ → ℕ = λ i. getD (c .before .before .before .before .args .t1) i 0 in
+    let at = c .before .before .before .before .args .at in
+    ap₂ _&&_ (c .before .before .before .are-two-digits .ensures) (ap₂ _&&_ (c .before .before .are-two-digits2 .ensures) (ap (_&&_ (eqb (line (at + 4)) 45)) (ap₂ _&&_ (c .before .are-two-digits3 .ensures) (ap (_&&_ (eqb (line (at + 7)) 45)) (c .are-two-digits4 .ensures)))))
 
 pub is-date-form-spec : {M : Type 1} → statement M
 is-date-form-spec =

@@ -8,7 +8,6 @@ use lib.ListN.{getD}
 use mathlib.Core.Bool.{true}
 use mathlib.Core.Path.{_≡_, sym}
 use native.Mathlib.Omega.{arith}
-use borrow.Author.Needs.{needs}
 use Rattle.lines.proofs.is_id_form.Statement.{statement}
 use Rattle.lines.proofs.is_id_form.Tie as tie
 
@@ -22,20 +21,20 @@ loop-holds : tie.Need-loop-holds Inv-loop μ-loop
 loop-holds c = (omega arith, omega arith, every-none _)
 
 add-is-id-character : tie.Need-add-is-id-character Inv-loop μ-loop
-add-is-id-character c = search needs
+add-is-id-character c = omega arith
 
 array-read-is-id-character : tie.Need-array-read-is-id-character Inv-loop μ-loop
-array-read-is-id-character c = search needs
+array-read-is-id-character c = omega arith
 
 is-id-character-requires : tie.Need-is-id-character-requires Inv-loop μ-loop
-is-id-character-requires c κs = search needs
+is-id-character-requires c κs = tt
 
 returns : tie.Need-returns Inv-loop μ-loop
 unfolding idForm
 returns c = sym (every-not _ _ _ (said-no (c .before .is-id-character .ensures) (c .if1 .taken)) (c .before .before .loop-test .taken))
 
 add-i : tie.Need-add-i Inv-loop μ-loop
-add-i c = search needs
+add-i c = omega arith
 
 loop-less : tie.Need-loop-less Inv-loop μ-loop
 loop-less c = omega arith

@@ -1,7 +1,6 @@
 use Rattle.lines.proofs.Forms.{open-few, open-many, open-rest}
 use mathlib.Core.Path.{sym}
 use native.Mathlib.Omega.{arith}
-use borrow.Author.Needs.{needs}
 use Rattle.lines.proofs.is_open_form.Statement.{statement}
 use Rattle.lines.proofs.is_open_form.Tie as tie
 
@@ -12,16 +11,16 @@ returns-2 : tie.Need-returns-2
 returns-2 c = sym (open-many _ _ (c .if2 .taken))
 
 array-read-result : tie.Need-array-read-result
-array-read-result c = search needs
+array-read-result c = omega arith
 
 is-id-form-requires : tie.Need-is-id-form-requires
 is-id-form-requires c κs = omega arith
 
 add-result : tie.Need-add-result
-add-result c = search needs
+add-result c = omega arith
 
 array-read-result-2 : tie.Need-array-read-result-2
-array-read-result-2 c = search needs
+array-read-result-2 c = omega arith
 
 returns-3 : tie.Need-returns-3
 returns-3 c = open-rest _ _ _ (c .before .before .if1 .left) (c .before .if2 .left) (c .is-id-form .ensures)

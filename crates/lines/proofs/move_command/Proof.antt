@@ -2,12 +2,11 @@ use Rattle.lines.proofs.Forms.{move-length, move-formless, move-dateles
 use borrow.Author.Tests.{not-true, not-false}
 use mathlib.Core.Path.{_∙_}
 use native.Mathlib.Omega.{arith}
-use borrow.Author.Needs.{needs}
 use Rattle.lines.proofs.move_command.Statement.{statement}
 use Rattle.lines.proofs.move_command.Tie as tie
 
 array-read-letter : tie.Need-array-read-letter
-array-read-letter c = search needs
+array-read-letter c = omega arith
 
 other-line-requires : tie.Need-other-line-requires
 other-line-requires c κs = tt
@@ -16,7 +15,7 @@ returns : tie.Need-returns
 returns c = c .other-line .ensures ∙ move-length _ _ (c .before .if1 .taken)
 
 array-read-if2 : tie.Need-array-read-if2
-array-read-if2 c = search needs
+array-read-if2 c = omega arith
 
 other-line-requires-2 : tie.Need-other-line-requires-2
 other-line-requires-2 c κs = tt

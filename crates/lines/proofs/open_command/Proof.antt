@@ -3,7 +3,6 @@ use Rattle.questions.proofs.Bools.{said-no, said-yes}
 use borrow.Author.Tests.{not-true, not-false}
 use mathlib.Core.Path.{_∙_}
 use native.Mathlib.Omega.{arith}
-use borrow.Author.Needs.{needs}
 use Rattle.lines.proofs.open_command.Statement.{statement}
 use Rattle.lines.proofs.open_command.Tie as tie
 
@@ -23,7 +22,7 @@ returns-2 : tie.Need-returns-2
 returns-2 c = c .other-line2 .ensures ∙ open-formless _ _ (said-no (c .before .before .is-open-form .ensures) (c .before .if2 .taken))
 
 add-date-at : tie.Need-add-date-at
-add-date-at c = search needs
+add-date-at c = omega arith
 
 date-at-requires : tie.Need-date-at-requires
 date-at-requires c κs = omega (arith, open-most _ _ (said-yes (c .before .is-open-form .ensures) (c .if2 .left)))
