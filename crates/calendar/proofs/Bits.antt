@@ -9,7 +9,7 @@ use native.Mathlib.Omega.{arith}
 use lib.Dec.{lit<, eqb}
 use lib.Bits.{bitOr, or-shr, or-mod, or-zero-r}
 use mathlib.Core.List.{List}
-use lib.ListN.{getD, length, length-set, List·getD-eq-default}
+use lib.ListN.{getD, length, List·getD-eq-default}
 use lib.Pow.{pow-pos, pow-lt, pow-add, shl-exact}
 use lib.Seq.{getD-set-same, getD-set-other, set-out}
 use borrow.Author.Tests.{eqb-true, eqb-false}
@@ -50,10 +50,6 @@ bit-kept b k j ne =
 -- the code's shift of 1 in a byte
 pub one-shl : (k : ℕ) → k < 8 → 1 * 2 ^ k % 256 ≡ 2 ^ k
 one-shl k h = shl-exact 1 k 8 (lit< tt) (omega arith) ∙ one-mul (2 ^ k)
-
-pub set-length : (map : List ℕ) (n : ℕ) → length (setBit map n) ≡ length map
-unfolding setBit
-set-length map n = length-set map (n / 8) _
 
 -- the byte with its bit set
 abbrev pub marked : List ℕ → ℕ → ℕ

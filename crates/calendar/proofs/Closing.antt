@@ -15,7 +15,7 @@ use Rattle.days.specs.Gregorian.{weekdayOf}
 use Rattle.calendar.specs.declared.Calendar.{Calendar}
 use Rattle.calendar.specs.Bits.{bitAt, setBit}
 use Rattle.calendar.specs.Trading.{validCover, inCover, slotOf, closedOn, tradingDay, mayBeClosed, cleanSlot, clean, closeDay}
-use Rattle.calendar.proofs.Bits.{set-length, set-here, set-other, set-keeps, marked, one-shl}
+use Rattle.calendar.proofs.Bits.{set-here, set-other, set-keeps, marked, one-shl}
 use Rattle.calendar.proofs.Covered.{covered, slot-below, slot-may, slot-same}
 
 module _ (cal : Calendar) (d : ℕ) where
@@ -23,14 +23,6 @@ module _ (cal : Calendar) (d : ℕ) where
   pub close-cover : closeDay cal d .cover ≡ cal .cover
   unfolding closeDay
   close-cover = refl
-
-  pub close-length : length (closeDay cal d .closed) ≡ length (cal .closed)
-  unfolding closeDay
-  close-length = go (inCover (cal .cover) d)
-    where
-      go : (b : Bool) → length (cond b (setBit (cal .closed) (slotOf (cal .cover) d)) (cal .closed)) ≡ length (cal .closed)
-      go true = set-length (cal .closed) (slotOf (cal .cover) d)
-      go false = refl
 
   in-map : inCover (cal .cover) d ≡ true → closeDay cal d .closed ≡ setBit (cal .closed) (slotOf (cal .cover) d)
   unfolding closeDay

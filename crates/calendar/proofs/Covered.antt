@@ -5,8 +5,8 @@ use mathlib.Core.Bool.{true, false}
 use Prim.Native.Nat.{ℕ, _+_, _-_, _/_, _%_, _≤_, _<_}
 use native.Mathlib.Omega.{arith}
 use lib.Dec.{ltb}
-use borrow.Author.Tests.{leb-true, ltb-true, le-leb, lt-ltb, le-ltb}
-use Rattle.questions.proofs.Bools.{both, and-both}
+use borrow.Author.Tests.{leb-true, ltb-true, lt-ltb, le-ltb}
+use Rattle.questions.proofs.Bools.{both}
 use Rattle.days.specs.Gregorian.{weekdayOf}
 use Rattle.days.specs.Dates.{yearOf, yearStart, dayInYear}
 use Rattle.days.proofs.Years.{in-year, in-year-below, year-from, year-until, year-start-le, year-start-most, year-start-past, year-started}
@@ -33,18 +33,6 @@ unfolding inCover
 cover-facts c d e =
     let (a, b) = both _ _ e in
     (leb-true _ _ a, ltb-true _ _ b)
-
-pub facts-cover : (c : Cover) (d : ℕ) → coverStart c ≤ d → d < coverEnd c → inCover c d ≡ true
-unfolding inCover
-facts-cover c d a b = and-both (le-leb _ _ a) (lt-ltb _ _ b)
-
-pub start-most : (c : Cover) → coverStart c ≤ 36525
-unfolding coverStart
-start-most c = year-start-most (c .«first_year»)
-
-pub end-most : (c : Cover) → coverEnd c ≤ 36525
-unfolding coverEnd
-end-most c = year-start-most (c .«first_year» + c .years)
 
 pub start-end : (c : Cover) → coverStart c ≤ coverEnd c
 unfolding coverStart coverEnd

@@ -11,7 +11,7 @@ use borrow.Author.Tests.{eqb-true, eq-eqb, lt-ltb, le-ltb}
 use native.Mathlib.Nat.{le-refl, eq-or-lt-of-le}
 use native.Mathlib.Omega.{arith}
 use Rattle.questions.specs.Search.{every, some, latest}
-use Rattle.questions.proofs.Bools.{clash, both, is-false, lt-or-ge}
+use Rattle.questions.proofs.Bools.{clash, is-false, lt-or-ge}
 use Rattle.questions.proofs.Search.{every-at, every-all, every-not, some-at, some-one, latest-ge}
 use Rattle.days.specs.Gregorian.{weekdayOf}
 use Rattle.calendar.specs.declared.Calendar.{Calendar}

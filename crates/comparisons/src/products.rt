@@ -4,7 +4,6 @@ use crate::text::put;
 use crate::text::put_answer;
 use crate::text::put_signed;
 use crate::text::start_line;
-ghost use Prim.Native.Nat.{_<_};
 
 // Whether a group is Italian, and an option's days to settlement.
 fn group_line(a: u8, b: u8, tens: u8, ones: u8) {

@@ -181,11 +181,6 @@ module _ (r : Rule) (w : Lawful r) where
     pub keys-rise : (i j : ℕ) → i < j → j < length (freshKeys r cal date) → getD (freshKeys r cal date) i 0 < getD (freshKeys r cal date) j 0
     keys-rise i j l h = rw (fresh-is) (sift-rises (inListing r (front r cal date)) (r .beyond) 0 i j l (rw (fresh-is) at h))
 
-    pub days-follow : (i j : ℕ) → i < j → j < length (freshKeys r cal date) → dayOf r cal (getD (freshKeys r cal date) i 0) ≤ dayOf r cal (getD (freshKeys r cal date) j 0)
-    days-follow i j l h =
-        let q : getD (freshKeys r cal date) i 0 < getD (freshKeys r cal date) j 0 = keys-rise i j l h in
-        days-rise cal cal (λ d t. t) (getD (freshKeys r cal date) i 0) (getD (freshKeys r cal date) j 0) (omega arith)
-
   -- where no day that was past is ahead, the front does not go back
   pub front-later : (cal cal′ : Calendar) (date date′ : ℕ) → ((k : ℕ) → alive r cal′ date′ k ≡ true → alive r cal date k ≡ true) → front r cal date ≤ front r cal′ date′
   front-later cal cal′ date date′ h = go (lt-or-ge (front r cal′ date′) (r .beyond))

@@ -20,11 +20,10 @@ use Rattle.calendar.proofs.Covered.{years, cover-facts}
 use Rattle.calendar.proofs.Weeks.{within-six}
 use Rattle.product.specs.declared.Kind.{Kind}
 use Rattle.product.specs.Settlement.{italian}
-use Rattle.listing.specs.Rules.{widest, front, freshKeys}
+use Rattle.listing.specs.Rules.{front, freshKeys}
 use Rattle.expiry.specs.LastDays.{thirdFriday, anchorOf, lastTradingDay}
 use Rattle.listing.specs.Months.{monthSets, inSet, placesOf, rowOf, monthly, ruleOf}
 use Rattle.expiry.proofs.Fridays.{third-is, last-is}
-use Rattle.listing.proofs.Fresh.{first-place}
 use Rattle.listing.proofs.Taking.{rest, rest-room}
 use Rattle.listing.proofs.Places.{Nested, nested-wider, nested-first}
 use Rattle.listing.proofs.Lawful.{Lawful, risen, front-from, key-at, keys-rise}
@@ -186,11 +185,7 @@ module _ (c : Cover) (kind : Kind) (group : List ℕ) where
     counts = λ k e. refl;
   }
 
-  -- every month is in the first place's set, and no kind has more than fifteen places
-  pub monthly-wide : (m : ℕ) → widest (monthly c kind group .places) m ≡ true
-  unfolding monthly
-  monthly-wide m = first-place kind m
-
+  -- no kind has more than fifteen places
   pub monthly-room : length (monthly c kind group .places) ≤ 15
   unfolding monthly rest
   monthly-room = rest-room kind

@@ -9,7 +9,6 @@ use Rattle.questions.specs.Search.{firstFrom}
 use Rattle.calendar.specs.declared.Calendar.{Calendar}
 use Rattle.expiry.specs.LastDays.{lastDay}
 use Rattle.listing.specs.declared.Maturity.{Maturity}
-use Rattle.listing.specs.declared.Listing.{Listing}
 
 -- what a product's kind and group, and the cover, say of its maturities
 pub record Rule : Type 0 where

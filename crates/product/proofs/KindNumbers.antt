@@ -19,12 +19,6 @@ kind-of-number (Option Months12) = refl
 kind-of-number (Option Months24) = refl
 kind-of-number (Option Months60) = refl
 
-pub number-right : (kind : Kind) → kindRight (kindNumber kind) ≡ true
-number-right Future = refl
-number-right (Option Months12) = refl
-number-right (Option Months24) = refl
-number-right (Option Months60) = refl
-
 -- a number's kind
 pub record KindOf (number : ℕ) : Type 0 where
   pub kind : Kind

@@ -1,6 +1,5 @@
 use Rattle.command.proofs.Answers.{bad-held, bad-text, no-held, no-text, yes-held, yes-text}
 use mathlib.Core.Path.{sym, _∙_}
-use borrow.Author.Needs.{needs}
 use Rattle.command.proofs.answer.Statement.{statement}
 use Rattle.command.proofs.answer.Tie as tie
 

@@ -1,5 +1,4 @@
 use mathlib.Core.Path.{refl}
-use borrow.Author.Needs.{needs}
 use Rattle.command.proofs.is_bad.Statement.{statement}
 use Rattle.command.proofs.is_bad.Tie as tie
 

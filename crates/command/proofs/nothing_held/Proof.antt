@@ -1,6 +1,5 @@
 use Rattle.command.specs.Sessions.{nothingHeld}
 use mathlib.Core.Path.{refl}
-use borrow.Author.Needs.{needs}
 use Rattle.command.proofs.nothing_held.Statement.{statement}
 use Rattle.command.proofs.nothing_held.Tie as tie
 

@@ -1,6 +1,5 @@
 use Rattle.command.proofs.Answers.{opens, rolls, closes}
 use mathlib.Core.Path.{_∙_}
-use borrow.Author.Needs.{needs}
 use Rattle.command.proofs.outcome_of.Statement.{statement}
 use Rattle.command.proofs.outcome_of.Tie as tie
 

@@ -1,7 +1,6 @@
 use Rattle.table.proofs.Calls.{numbers-is, listing-unlike, listing-numbers, listing-few, listing-rest}
 use Rattle.questions.proofs.Bools.{said-no, said-yes}
 use mathlib.Core.Path.{sym}
-use native.Mathlib.Omega.{arith}
 use Rattle.table.proofs.is_listing_sound.Statement.{statement}
 use Rattle.table.proofs.is_listing_sound.Tie as tie
 
