@@ -1,7 +1,7 @@
 -- The forms of a line, test by test, as the code asks them.
 -- Assumes nothing.
 use mathlib.Core.Path.{_≡_, refl, _∙_, sym, ap}
-use mathlib.Core.Bool.{Bool, true, false, _&&_, _||_, cond, and-false}
+use mathlib.Core.Bool.{Bool, true, false, _&&_, _||_, and-false}
 use mathlib.Core.List.{List}
 use Prim.Native.Nat.{ℕ, _+_, _-_, _≤_, _<_}
 use native.Mathlib.Omega.{arith}
@@ -9,11 +9,9 @@ use lib.Dec.{eqb, leb}
 use lib.ListN.{replicate}
 use Rattle.questions.proofs.Bools.{and-fst, and-snd}
 use borrow.Author.Tests.{leb-true, le-leb, lt-leb, eq-eqb, ne-eqb}
-use Rattle.questions.specs.Questions.{Answer}
 use Rattle.days.specs.declared.DayAnswer.{DayAnswer}
 use Rattle.days.specs.declared.DayAnswer.the-variants.{Day, NotADate}
 use Rattle.days.specs.Dates.{dayCall, dayAnswer}
-use Rattle.lines.specs.declared.Line.{Line}
 use Rattle.lines.specs.declared.DateRead.{DateRead}
 use Rattle.lines.specs.Lines.{twoValue, dateForm, yearAt, noDate, dateAt, otherLine, moveForm, moveCommand, idForm, idAt, openForm, openCommand, commandAt}
 

@@ -4,13 +4,13 @@ use Prim.Native.Nat.{ℕ, zero, suc, _+_, _/_, _%_}
 use mathlib.Core.Bool.{cond}
 use mathlib.Core.List.{List, [], _∷_, _++_}
 use lib.Dec.{ltb}
-use lib.ListN.{getD, length}
+use lib.ListN.{getD}
 use Rattle.days.specs.declared.Date.{Date}
 use Rattle.days.specs.Gregorian.{monthYear, monthName}
 use Rattle.days.specs.Dates.{dateCall}
 use Rattle.listing.specs.declared.Maturity.{Maturity}
 use Rattle.listing.specs.Rules.{unused}
-use Rattle.listing.specs.Months.{placesOf, rowOf, monthSets}
+use Rattle.numbers.specs.Numbering.{placesOfKind}
 use Rattle.table.specs.declared.Outcome.{Outcome}
 
 -- the last decimal digit of a number, in ASCII
@@ -71,7 +71,7 @@ headingText letter date entered left given =
 unfoldable pub outcomeText : ℕ → Outcome → List ℕ
 outcomeText letter o =
     headingText letter (o .table .date) (o .entered) (o .left) (o .table .given)
-    ++ maturitiesText (length (placesOf (rowOf (o .table .product .kind)) monthSets)) (o .table .maturities)
+    ++ maturitiesText (placesOfKind (o .table .product .kind)) (o .table .maturities)
 
 -- '`NO` and the number'
 unfoldable pub refusalText : ℕ → List ℕ

@@ -5,7 +5,7 @@ use listing::Maturity;
 use table::Outcome;
 ghost use mathlib.Core.Path.{_≡_};
 ghost use mathlib.Core.List.{[], _∷_};
-ghost use Prim.Native.Nat.{_+_, _*_, _≤_, _<_};
+ghost use Prim.Native.Nat.{_+_, _≤_, _<_};
 ghost use lib.ListN.{length};
 ghost use Rattle.days.specs.Dates.{dateCall};
 ghost use Rattle.printing.specs.Text.{lastDigit, two, four, decimal, yearMonth, monthText, dayText, spaced, maturityText, maturitiesText, headingText, outcomeText, refusalText, badText};

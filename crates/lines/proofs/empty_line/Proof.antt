@@ -1,6 +1,5 @@
 use Rattle.lines.specs.Lines.{emptyLine}
 use mathlib.Core.Path.{refl}
-use borrow.Author.Needs.{needs}
 use Rattle.lines.proofs.empty_line.Statement.{statement}
 use Rattle.lines.proofs.empty_line.Tie as tie
 

@@ -1,6 +1,5 @@
 use Rattle.lines.specs.Lines.{idAt}
 use native.Mathlib.Omega.{arith}
-use borrow.Author.Needs.{needs}
 use Rattle.lines.proofs.id_at.Statement.{statement}
 use Rattle.lines.proofs.id_at.Tie as tie
 

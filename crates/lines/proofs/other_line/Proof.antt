@@ -1,5 +1,4 @@
 use mathlib.Core.Path.{refl}
-use borrow.Author.Needs.{needs}
 use Rattle.lines.proofs.other_line.Statement.{statement}
 use Rattle.lines.proofs.other_line.Tie as tie
 

@@ -5,7 +5,6 @@ use Rattle.printing.specs.Text.{maturitiesText}
 use Rattle.printing.specs.Buffer.{Written}
 use lib.ListN.{length}
 use Prim.Native.Nat.{_+_, _-_, _*_, _≤_}
-use borrow.Author.Needs.{needs}
 use Rattle.printing.proofs.put_maturities.Statement.{statement}
 use Rattle.printing.proofs.put_maturities.Tie as tie
 
