@@ -111,8 +111,7 @@ pub fn open(file: &[u8], id: [u8; 4], date: u16) -> Outcome
         return refused(zero_table(), 9);
     };
     let cal = years::calendar_of(file);
-    let cover = cal.cover;
-    if !calendar::in_cover(cover, date) {
+    if !calendar::in_cover(cal.cover, date) {
         return refused(zero_table(), 11);
     }
     let p = master::product_at(file, block, record);

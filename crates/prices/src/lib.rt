@@ -29,8 +29,7 @@ pub fn tick(t: Table, price: u32) -> u8
     if !product::price_right(price) {
         return 19;
     }
-    let p = t.product;
-    if !product::is_multiple(price, p.tick) {
+    if !product::is_multiple(price, t.product.tick) {
         return 20;
     }
     0

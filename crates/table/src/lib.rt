@@ -33,9 +33,8 @@ fn is_fresh(t: Table) -> bool
     let p = t.product;
     let kind = p.kind;
     let group = p.group;
-    let cal = t.calendar;
     let maturities = t.maturities;
-    let l = listing::list(cal, kind, group, t.date);
+    let l = listing::list(t.calendar, kind, group, t.date);
     if !l.complete {
         return false;
     }
@@ -53,7 +52,6 @@ fn is_listing_sound(t: Table) -> bool
     let p = t.product;
     let kind = p.kind;
     let group = p.group;
-    let cal = t.calendar;
     let maturities = t.maturities;
     if !numbers::are_numbers_right(maturities, kind, t.given) {
         return false;
@@ -62,29 +60,26 @@ fn is_listing_sound(t: Table) -> bool
     if t.given < n {
         return false;
     }
-    t.given - n <= expiry::months_before(cal, group, t.date)
+    t.given - n <= expiry::months_before(t.calendar, group, t.date)
 }
 
 // Question 10.
 pub fn is_sound(t: Table) -> bool
     ensures { λ r. ⌜ r ≡ sound t ⌝ }
 {
-    let p = t.product;
-    let cal = t.calendar;
-    let cover = cal.cover;
-    if !product::product_right(p) {
+    if !product::product_right(t.product) {
         return false;
     }
-    if !calendar::is_valid_cover(cover) {
+    if !calendar::is_valid_cover(t.calendar.cover) {
         return false;
     }
-    if !closures::is_clean(cal) {
+    if !closures::is_clean(t.calendar) {
         return false;
     }
-    if !closures::every_week_trades(cal) {
+    if !closures::every_week_trades(t.calendar) {
         return false;
     }
-    if !calendar::in_cover(cover, t.date) {
+    if !calendar::in_cover(t.calendar.cover, t.date) {
         return false;
     }
     is_listing_sound(t)
@@ -162,15 +157,13 @@ impl Table {
         if !is_sound(self) {
             return refused(self, 10);
         }
-        let cal = self.calendar;
-        let cover = cal.cover;
-        if !calendar::in_cover(cover, date) {
+        if !calendar::in_cover(self.calendar.cover, date) {
             return refused(self, 11);
         }
         if date < self.date {
             return refused(self, 12);
         }
-        relisted(self, cal, date)
+        relisted(self, self.calendar, date)
     }
 
     // Marks one day closed.
@@ -180,18 +173,16 @@ impl Table {
         if !is_sound(self) {
             return refused(self, 10);
         }
-        let old = self.calendar;
-        let cover = old.cover;
-        if !calendar::in_cover(cover, day) {
+        if !calendar::in_cover(self.calendar.cover, day) {
             return refused(self, 11);
         }
         if day <= self.date {
             return refused(self, 13);
         }
-        if !calendar::is_trading_day(old, day) {
+        if !calendar::is_trading_day(self.calendar, day) {
             return refused(self, 14);
         }
-        let cal = calendar::close_day(old, day);
+        let cal = calendar::close_day(self.calendar, day);
         if !closures::every_week_trades(cal) {
             return refused(self, 15);
         }

@@ -31,8 +31,7 @@ pub fn last_trading_day(t: Table, month: u16) -> DayReply
     }
     let p = t.product;
     let group = p.group;
-    let cal = t.calendar;
-    let day = expiry::last_trading_day(cal, group, month);
+    let day = expiry::last_trading_day(t.calendar, group, month);
     DayReply { refusal: 0, day }
 }
 
@@ -43,20 +42,18 @@ pub fn due(t: Table, day: u16) -> DayReply
     if !is_sound(t) {
         return no_day(10);
     }
-    let cal = t.calendar;
-    let cover = cal.cover;
-    if !calendar::in_cover(cover, day) {
+    if !calendar::in_cover(t.calendar.cover, day) {
         return no_day(11);
     }
-    if !calendar::is_trading_day(cal, day) {
+    if !calendar::is_trading_day(t.calendar, day) {
         return no_day(14);
     }
     let p = t.product;
     let kind = p.kind;
     let group = p.group;
     let n = product::settlement_days(kind, group) as u16;
-    let due = calendar::nth_trading_day(cal, day, n);
-    if !calendar::in_cover(cover, due) {
+    let due = calendar::nth_trading_day(t.calendar, day, n);
+    if !calendar::in_cover(t.calendar.cover, due) {
         return no_day(17);
     }
     DayReply {

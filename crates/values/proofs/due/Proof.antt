@@ -21,7 +21,7 @@ no-day-requires-2 : tie.Need-no-day-requires-2
 no-day-requires-2 c κs = tt
 
 returns-2 : tie.Need-returns-2
-returns-2 c = c .no-day2 .ensures ∙ sym (due-11 _ _ (said-yes (c .before .before .before .before .before .before .is-sound .ensures) (c .before .before .before .before .before .if1 .left)) (said-no (c .before .before .in-cover .ensures) (c .before .if2 .taken)))
+returns-2 c = c .no-day2 .ensures ∙ sym (due-11 _ _ (said-yes (c .before .before .before .before .is-sound .ensures) (c .before .before .before .if1 .left)) (said-no (c .before .before .in-cover .ensures) (c .before .if2 .taken)))
 
 is-trading-day-requires : tie.Need-is-trading-day-requires
 is-trading-day-requires c κs = tt
@@ -30,7 +30,7 @@ no-day-requires-3 : tie.Need-no-day-requires-3
 no-day-requires-3 c κs = tt
 
 returns-3 : tie.Need-returns-3
-returns-3 c = c .no-day3 .ensures ∙ sym (due-14 _ _ (said-yes (c .before .before .before .before .before .before .before .before .is-sound .ensures) (c .before .before .before .before .before .before .before .if1 .left)) (said-yes (c .before .before .before .before .in-cover .ensures) (c .before .before .before .if2 .left)) (said-no (c .before .before .is-trading-day .ensures) (c .before .if3 .taken)))
+returns-3 c = c .no-day3 .ensures ∙ sym (due-14 _ _ (said-yes (c .before .before .before .before .before .before .is-sound .ensures) (c .before .before .before .before .before .if1 .left)) (said-yes (c .before .before .before .before .in-cover .ensures) (c .before .before .before .if2 .left)) (said-no (c .before .before .is-trading-day .ensures) (c .before .if3 .taken)))
 
 settlement-days-requires : tie.Need-settlement-days-requires
 settlement-days-requires c κs = tt
@@ -48,10 +48,10 @@ no-day-requires-4 : tie.Need-no-day-requires-4
 no-day-requires-4 c κs = tt
 
 returns-4 : tie.Need-returns-4
-returns-4 c = c .no-day4 .ensures ∙ sym (due-17 _ _ (said-yes (c .before .before .before .before .before .before .before .before .before .before .before .before .before .before .is-sound .ensures) (c .before .before .before .before .before .before .before .before .before .before .before .before .before .if1 .left)) (said-yes (c .before .before .before .before .before .before .before .before .before .before .in-cover .ensures) (c .before .before .before .before .before .before .before .before .before .if2 .left)) (said-yes (c .before .before .before .before .before .before .before .before .is-trading-day .ensures) (c .before .before .before .before .before .before .before .if3 .left)) _ (due-is _ _ _ _ (c .before .before .before .before .settlement-days .ensures) (c .before .before .before .nth-trading-day .ensures)) (said-no (c .before .before .in-cover2 .ensures) (c .before .if4 .taken)))
+returns-4 c = c .no-day4 .ensures ∙ sym (due-17 _ _ (said-yes (c .before .before .before .before .before .before .before .before .before .before .before .before .is-sound .ensures) (c .before .before .before .before .before .before .before .before .before .before .before .if1 .left)) (said-yes (c .before .before .before .before .before .before .before .before .before .before .in-cover .ensures) (c .before .before .before .before .before .before .before .before .before .if2 .left)) (said-yes (c .before .before .before .before .before .before .before .before .is-trading-day .ensures) (c .before .before .before .before .before .before .before .if3 .left)) _ (due-is _ _ _ _ (c .before .before .before .before .settlement-days .ensures) (c .before .before .before .nth-trading-day .ensures)) (said-no (c .before .before .in-cover2 .ensures) (c .before .if4 .taken)))
 
 returns-5 : tie.Need-returns-5
-returns-5 c = sym (due-yes _ _ (said-yes (c .before .before .before .before .before .before .before .before .before .before .before .before .before .is-sound .ensures) (c .before .before .before .before .before .before .before .before .before .before .before .before .if1 .left)) (said-yes (c .before .before .before .before .before .before .before .before .before .in-cover .ensures) (c .before .before .before .before .before .before .before .before .if2 .left)) (said-yes (c .before .before .before .before .before .before .before .is-trading-day .ensures) (c .before .before .before .before .before .before .if3 .left)) _ (due-is _ _ _ _ (c .before .before .before .settlement-days .ensures) (c .before .before .nth-trading-day .ensures)) (said-yes (c .before .in-cover2 .ensures) (c .if4 .left)))
+returns-5 c = sym (due-yes _ _ (said-yes (c .before .before .before .before .before .before .before .before .before .before .before .is-sound .ensures) (c .before .before .before .before .before .before .before .before .before .before .if1 .left)) (said-yes (c .before .before .before .before .before .before .before .before .before .in-cover .ensures) (c .before .before .before .before .before .before .before .before .if2 .left)) (said-yes (c .before .before .before .before .before .before .before .is-trading-day .ensures) (c .before .before .before .before .before .before .if3 .left)) _ (due-is _ _ _ _ (c .before .before .before .settlement-days .ensures) (c .before .before .nth-trading-day .ensures)) (said-yes (c .before .in-cover2 .ensures) (c .if4 .left)))
 
 pub due-spec : {M : Type 1} → statement M
 due-spec =

@@ -26,7 +26,7 @@ last-trading-day-requires : tie.Need-last-trading-day-requires
 last-trading-day-requires c κs = tt
 
 returns-3 : tie.Need-returns-3
-returns-3 c = sym (last-day-yes _ _ (said-yes (c .before .before .before .before .before .before .before .is-sound .ensures) (c .before .before .before .before .before .before .if1 .left)) (said-yes (c .before .before .before .before .before .is-month-listed .ensures) (c .before .before .before .before .if2 .left)) _ (c .last-trading-day .ensures))
+returns-3 c = sym (last-day-yes _ _ (said-yes (c .before .before .before .before .before .before .is-sound .ensures) (c .before .before .before .before .before .if1 .left)) (said-yes (c .before .before .before .before .is-month-listed .ensures) (c .before .before .before .if2 .left)) _ (c .last-trading-day .ensures))
 
 pub last-trading-day-spec : {M : Type 1} → statement M
 last-trading-day-spec =

@@ -23,19 +23,19 @@ refused-requires-2 : tie.Need-refused-requires-2
 refused-requires-2 c κs = tt
 
 returns-2 : tie.Need-returns-2
-returns-2 c = c .refused2 .ensures ∙ sym (roll-11 _ _ (said-yes (c .before .before .before .before .before .before .is-sound .ensures) (c .before .before .before .before .before .if1 .left)) (said-no (c .before .before .in-cover .ensures) (c .before .if2 .taken)))
+returns-2 c = c .refused2 .ensures ∙ sym (roll-11 _ _ (said-yes (c .before .before .before .before .is-sound .ensures) (c .before .before .before .if1 .left)) (said-no (c .before .before .in-cover .ensures) (c .before .if2 .taken)))
 
 refused-requires-3 : tie.Need-refused-requires-3
 refused-requires-3 c κs = tt
 
 returns-3 : tie.Need-returns-3
-returns-3 c = c .refused3 .ensures ∙ sym (roll-12 _ _ (said-yes (c .before .before .before .before .before .before .before .before .is-sound .ensures) (c .before .before .before .before .before .before .before .if1 .left)) (said-yes (c .before .before .before .before .in-cover .ensures) (c .before .before .before .if2 .left)) (lt-leb _ _ (c .before .if3 .taken)))
+returns-3 c = c .refused3 .ensures ∙ sym (roll-12 _ _ (said-yes (c .before .before .before .before .before .before .is-sound .ensures) (c .before .before .before .before .before .if1 .left)) (said-yes (c .before .before .before .before .in-cover .ensures) (c .before .before .before .if2 .left)) (lt-leb _ _ (c .before .if3 .taken)))
 
 relisted-requires : tie.Need-relisted-requires
-relisted-requires c κs = given-most _ (said-yes (c .before .before .before .before .before .before .before .is-sound .ensures) (c .before .before .before .before .before .before .if1 .left))
+relisted-requires c κs = given-most _ (said-yes (c .before .before .before .before .before .is-sound .ensures) (c .before .before .before .before .if1 .left))
 
 returns-4 : tie.Need-returns-4
-returns-4 c = c .relisted .ensures ∙ sym (roll-16 _ _ (said-yes (c .before .before .before .before .before .before .before .before .is-sound .ensures) (c .before .before .before .before .before .before .before .if1 .left)) (said-yes (c .before .before .before .before .in-cover .ensures) (c .before .before .before .if2 .left)) (le-leb _ _ (c .before .if3 .left)))
+returns-4 c = c .relisted .ensures ∙ sym (roll-16 _ _ (said-yes (c .before .before .before .before .before .before .is-sound .ensures) (c .before .before .before .before .before .if1 .left)) (said-yes (c .before .before .before .before .in-cover .ensures) (c .before .before .before .if2 .left)) (le-leb _ _ (c .before .if3 .left)))
 
 pub roll-spec : {M : Type 1} → statement M
 roll-spec =
