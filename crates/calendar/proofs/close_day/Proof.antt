@@ -20,7 +20,8 @@ slot-of-requires c κs = tt
 
 returns-2 : tie.Need-returns-2
 returns-2 c =
-    let l : length (c .before .before .before .before .before .args .cal .closed) ≡ 736 = simp length-map at (c .before .before .before .before .before .good .0 .1 .1 .1 .0 .1 .0 .1) in
+    let start = c .before .before .before .before .before in
+    let l : length (start .args .cal .closed) ≡ 736 = simp length-map at (start .good .0 .1 .1 .1 .0 .1 .0 .1) in
     close-past _ _ (omega (arith, c .before .slot-of .ensures))
 
 sub-bit : tie.Need-sub-bit

@@ -24,9 +24,11 @@ slot-of-requires c κs = tt
 returns-2 : tie.Need-returns-2
 unfolding closedOn
 returns-2 c =
-    let l : length (c .before .before .before .before .before .args .t1 .closed) ≡ 736 = simp length-map at (c .before .before .before .before .before .good .0 .1 .1 .1 .0 .1 .0 .1) in
+    let at-in-cover = c .before .before .before in
+    let start = at-in-cover .before .before in
+    let l : length (start .args .t1 .closed) ≡ 736 = simp length-map at (start .good .0 .1 .1 .1 .0 .1 .0 .1) in
     sym
-    (rw (said-yes (c .before .before .before .in-cover .ensures) (c .before .before .if1 .left))
+    (rw (said-yes (at-in-cover .in-cover .ensures) (c .before .before .if1 .left))
     (bit-past _ _ (omega (arith, c .before .slot-of .ensures))))
 
 element-copy-out-byte : tie.Need-element-copy-out-byte

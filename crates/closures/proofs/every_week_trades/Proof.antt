@@ -36,10 +36,12 @@ add-loop c = omega (arith, c .loop .inv .to, c .before .before .cover-end .ensur
 covered : (c : tie.In-loop Inv-loop μ-loop) → inCover (c .before .before .before .before .before .args .t1 .cover) (c .before .loop .day) ≡ true
 unfolding inCover
 covered c =
+    let at-cover-end = c .before .before .before in
+    let start = at-cover-end .before .before in
     let h = c .before .loop .inv in
-    let s : c .before .before .cover-start .result ≡ coverStart (c .before .before .before .before .before .args .t1 .cover) = c .before .before .cover-start .ensures .0 in
-    let e : c .before .before .before .cover-end .result ≡ coverEnd (c .before .before .before .before .before .args .t1 .cover) = c .before .before .before .cover-end .ensures .0 in
-    let v = c .before .before .before .before .before .args .t1 .cover in
+    let s : c .before .before .cover-start .result ≡ coverStart (start .args .t1 .cover) = c .before .before .cover-start .ensures .0 in
+    let e : at-cover-end .cover-end .result ≡ coverEnd (start .args .t1 .cover) = at-cover-end .cover-end .ensures .0 in
+    let v = start .args .t1 .cover in
     let d = c .before .loop .day in
     and-both (le-leb (coverStart v) d (omega (arith, s, h .from, h .near))) (lt-ltb d (coverEnd v) (omega (arith, e, h .within, c .loop-test .taken)))
 
@@ -58,32 +60,51 @@ trades-on-requires c κs = tt
 -- the code's test is whether the day trades
 trading : (c : tie.After-trades-on Inv-loop μ-loop) → c .trades-on .result ≡ tradingDay (c .before .before .before .before .before .before .before .before .before .args .t1) (c .before .before .before .before .before .loop .day)
 trading c =
-    let l : length (c .before .before .before .before .before .before .before .before .before .args .t1 .closed) ≡ 736 = simp length-map at (c .before .before .before .before .before .before .before .before .before .good .0 .1 .1 .1 .0 .1 .0 .1) in
-    c .trades-on .ensures ∙ slot-trades (c .before .before .before .before .before .before .before .before .before .args .t1) _ _ _ (covered (c .before .before .before .before)) (c .before .before .before .slot-of .ensures) l (c .before .before .place-of .ensures .1)
+    let at-slot-of = c .before .before .before in
+    let start = at-slot-of .before .before .before .before .before .before in
+    let l : length (start .args .t1 .closed) ≡ 736 = simp length-map at (start .good .0 .1 .1 .1 .0 .1 .0 .1) in
+    c .trades-on .ensures ∙ slot-trades (start .args .t1) _ _ _ (covered (at-slot-of .before)) (at-slot-of .slot-of .ensures) l (c .before .before .place-of .ensures .1)
 
 returns : tie.Need-returns Inv-loop μ-loop
 unfolding everyWeek
 returns c =
+    let at-loop-test = c .before .before .before .before .before in
+    let at-loop = at-loop-test .before in
+    let at-cover-start = at-loop .before in
+    let at-cover-end = at-cover-start .before in
     let w = idle-first _ _ _ (c .if1 .taken) in
     sym
-    (rw (← c .before .before .before .before .before .before .before .before .cover-end .ensures .0, ← c .before .before .before .before .before .before .before .cover-start .ensures .0)
-    (held-fails _ _ _ _ _ (c .before .before .before .before .before .before .loop .inv) (c .before .before .before .before .before .loop-test .taken) (sym (trading (c .before)) ∙ w .0) (w .1)))
+    (rw (← at-cover-end .cover-end .ensures .0, ← at-cover-start .cover-start .ensures .0)
+    (held-fails _ _ _ _ _ (at-loop .loop .inv) (at-loop-test .loop-test .taken) (sym (trading (c .before)) ∙ w .0) (w .1)))
 
 next-first-requires : tie.Need-next-first-requires Inv-loop μ-loop
-next-first-requires c κs = omega (arith, c .before .before .before .before .before .before .loop .inv .within, c .before .before .before .before .before .loop-test .taken, c .before .before .before .before .before .before .before .before .cover-end .ensures .1)
+next-first-requires c κs =
+    let at-loop-test = c .before .before .before .before .before in
+    let at-loop = at-loop-test .before in
+    let at-cover-end = at-loop .before .before in
+    omega (arith, at-loop .loop .inv .within, at-loop-test .loop-test .taken, at-cover-end .cover-end .ensures .1)
 
 next-day-requires : tie.Need-next-day-requires Inv-loop μ-loop
-next-day-requires c κs = omega (arith, c .before .before .before .before .before .before .before .loop .inv .within, c .before .before .before .before .before .before .loop-test .taken, c .before .before .before .before .before .before .before .before .before .cover-end .ensures .1)
+next-day-requires c κs =
+    let at-loop-test = c .before .before .before .before .before .before in
+    let at-loop = at-loop-test .before in
+    let at-cover-end = at-loop .before .before in
+    omega (arith, at-loop .loop .inv .within, at-loop-test .loop-test .taken, at-cover-end .cover-end .ensures .1)
 
 loop-less : tie.Need-loop-less Inv-loop μ-loop
 loop-less c =
+    let at-trades-on = c .before .before .before in
+    let at-loop-test = at-trades-on .before .before .before .before in
+    let at-loop = at-loop-test .before in
     rw (c .before .next-first .ensures, c .next-day .ensures)
-    (held-less _ _ _ _ _ (c .before .before .before .before .before .before .before .before .loop .inv) (c .before .before .before .before .before .before .before .loop-test .taken) (c .before .before .before .trades-on .result) (not-idle-first _ _ _ (c .before .before .if1 .left)))
+    (held-less _ _ _ _ _ (at-loop .loop .inv) (at-loop-test .loop-test .taken) (at-trades-on .trades-on .result) (not-idle-first _ _ _ (c .before .before .if1 .left)))
 
 loop-again : tie.Need-loop-again Inv-loop μ-loop
 loop-again c =
+    let at-loop-test = c .before .before .before .before .before .before .before in
+    let at-loop = at-loop-test .before in
     rw (c .before .next-first .ensures, c .next-day .ensures)
-    (held-step _ _ _ _ _ (c .before .before .before .before .before .before .before .before .loop .inv) (c .before .before .before .before .before .before .before .loop-test .taken) _ (trading (c .before .before .before)) (not-idle-first _ _ _ (c .before .before .if1 .left)))
+    (held-step _ _ _ _ _ (at-loop .loop .inv) (at-loop-test .loop-test .taken) _ (trading (c .before .before .before)) (not-idle-first _ _ _ (c .before .before .if1 .left)))
 
 returns-2 : tie.Need-returns-2 Inv-loop μ-loop
 unfolding everyWeek

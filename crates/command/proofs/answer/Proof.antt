@@ -17,8 +17,11 @@ same-length c = c .before .before .print-bad .ensures .long
 
 returns : tie.Need-returns
 returns c =
-    let b = sym (c .before .before .before .before .before .is-bad .ensures) ∙ c .before .before .before .before .if1 .taken in
-    rw (← c .before .before .before .before .before .before .before .command-of .ensures) (bad-held _ _ _ b, rw (← bad-text _ _ _ b) (c .before .before .print-bad .ensures))
+    let at-if1 = c .before .before .before .before in
+    let at-is-bad = at-if1 .before in
+    let at-command-of = at-is-bad .before .before in
+    let b = sym (at-is-bad .is-bad .ensures) ∙ at-if1 .if1 .taken in
+    rw (← at-command-of .command-of .ensures) (bad-held _ _ _ b, rw (← bad-text _ _ _ b) (c .before .before .print-bad .ensures))
 
 outcome-of-requires : tie.Need-outcome-of-requires
 outcome-of-requires c κs = tt
@@ -31,12 +34,18 @@ same-length-2 c = c .before .before .print-refusal .ensures .long
 
 returns-2 : tie.Need-returns-2
 returns-2 c =
-    let b = sym (c .before .before .before .before .before .before .before .is-bad .ensures) ∙ c .before .before .before .before .before .before .if1 .left in
-    let h = c .before .before .before .before .before .before .before .before .before .before .before .before .args .held in
-    let k = c .before .before .before .before .before .before .before .before .before .command-of .result in
-    let o = c .before .before .before .before .before .outcome-of .ensures in
-    let n = c .before .before .before .before .if2 .taken in
-    rw (← c .before .before .before .before .before .before .before .before .before .command-of .ensures) (no-held _ h k b _ o n, rw (← no-text _ h k b _ o n) (c .before .before .print-refusal .ensures))
+    let at-if2 = c .before .before .before .before in
+    let at-outcome-of = at-if2 .before in
+    let at-if1 = at-outcome-of .before in
+    let at-is-bad = at-if1 .before in
+    let at-command-of = at-is-bad .before .before in
+    let start = at-command-of .before .before .before in
+    let b = sym (at-is-bad .is-bad .ensures) ∙ at-if1 .if1 .left in
+    let h = start .args .held in
+    let k = at-command-of .command-of .result in
+    let o = at-outcome-of .outcome-of .ensures in
+    let n = at-if2 .if2 .taken in
+    rw (← at-command-of .command-of .ensures) (no-held _ h k b _ o n, rw (← no-text _ h k b _ o n) (c .before .before .print-refusal .ensures))
 
 print-outcome-requires : tie.Need-print-outcome-requires
 print-outcome-requires c κs = tt
@@ -46,12 +55,19 @@ same-length-3 c = c .before .before .before .print-outcome .ensures .long
 
 returns-3 : tie.Need-returns-3
 returns-3 c =
-    let b = sym (c .before .before .before .before .before .before .before .before .is-bad .ensures) ∙ c .before .before .before .before .before .before .before .if1 .left in
-    let h = c .before .before .before .before .before .before .before .before .before .before .before .before .before .args .held in
-    let k = c .before .before .before .before .before .before .before .before .before .before .command-of .result in
-    let o = c .before .before .before .before .before .before .outcome-of .ensures in
-    let n = c .before .before .before .before .before .if2 .left in
-    rw (← c .before .before .before .before .before .before .before .before .before .before .command-of .ensures) (yes-held _ h k b _ o n, rw (← yes-text _ h k b _ o n) (c .before .before .before .print-outcome .ensures))
+    let at-print-outcome = c .before .before .before in
+    let at-if2 = at-print-outcome .before .before in
+    let at-outcome-of = at-if2 .before in
+    let at-if1 = at-outcome-of .before in
+    let at-is-bad = at-if1 .before in
+    let at-command-of = at-is-bad .before .before in
+    let start = at-command-of .before .before .before in
+    let b = sym (at-is-bad .is-bad .ensures) ∙ at-if1 .if1 .left in
+    let h = start .args .held in
+    let k = at-command-of .command-of .result in
+    let o = at-outcome-of .outcome-of .ensures in
+    let n = at-if2 .if2 .left in
+    rw (← at-command-of .command-of .ensures) (yes-held _ h k b _ o n, rw (← yes-text _ h k b _ o n) (at-print-outcome .print-outcome .ensures))
 
 pub answer-spec : {M : Type 1} → statement M
 answer-spec =

@@ -28,7 +28,11 @@ month-length-requires c κs = tt
 
 returns-6 : tie.Need-returns-6
 unfolding validDate
-returns-6 c = simp (le-leb _ _ (c .before .before .before .before .before .if1 .left), le-leb _ _ (c .before .before .before .before .if2 .left), le-leb _ _ (c .before .before .before .if3 .left), le-leb _ _ (c .before .before .if4 .left), le-leb _ _ (c .before .if5 .left), c .month-length .ensures)
+returns-6 c =
+    let at-if3 = c .before .before .before in
+    let at-if2 = at-if3 .before in
+    let at-if1 = at-if2 .before in
+    simp (le-leb _ _ (at-if1 .if1 .left), le-leb _ _ (at-if2 .if2 .left), le-leb _ _ (at-if3 .if3 .left), le-leb _ _ (c .before .before .if4 .left), le-leb _ _ (c .before .if5 .left), c .month-length .ensures)
 
 pub is-date-spec : {M : Type 1} → statement M
 is-date-spec =

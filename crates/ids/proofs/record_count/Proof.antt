@@ -35,9 +35,11 @@ loop-less c = omega arith
 
 loop-again : tie.Need-loop-again Inv-loop μ-loop
 loop-again c =
-    let l = c .before .before .before .loop in
+    let at-loop = c .before .before .before in
+    let start = at-loop .before .before in
+    let l = at-loop .loop in
     let e = c .before .is-record .ensures in
-    let test = isRecord (now (c .before .before .before .before .before .args .file)) in
+    let test = isRecord (now (start .args .file)) in
     ⊎-elim
     (λ w. (omega arith, omega (arith, count-yes test (l .p) e (w .0 .taken)), omega arith))
     (λ w. (omega arith, omega (arith, count-no test (l .p) e (w .0 .left)), omega arith))

@@ -51,14 +51,29 @@ enum-told c = search needs
 
 returns-2 : tie.Need-returns-2
 returns-2 c =
-    date-there _ _ (said-yes (c .before .before .before .before .before .before .before .before .before .is-date-form .ensures) (c .before .before .before .before .before .before .before .before .if1 .left)) _ _ _
-    (ap₂ (λ (a b : ℕ). 100 * a + b) (c .before .before .before .before .before .before .before .two-value .ensures .0) (c .before .before .before .before .before .before .two-value2 .ensures .0)) (c .before .before .before .before .before .two-value3 .ensures .0) (c .before .before .before .before .two-value4 .ensures .0)
-    _ (c .before .before .before .day-of-date .ensures) _ (c .before .day .given .1)
+    let at-day-of-date = c .before .before .before in
+    let at-two-value4 = at-day-of-date .before in
+    let at-two-value3 = at-two-value4 .before in
+    let at-two-value2 = at-two-value3 .before in
+    let at-two-value = at-two-value2 .before in
+    let at-if1 = at-two-value .before in
+    let at-is-date-form = at-if1 .before in
+    let yes-is-date-form = said-yes (at-is-date-form .is-date-form .ensures) (at-if1 .if1 .left) in
+    date-there _ _ yes-is-date-form _ _ _
+    (ap₂ (λ (a b : ℕ). 100 * a + b) (at-two-value .two-value .ensures .0) (at-two-value2 .two-value2 .ensures .0)) (at-two-value3 .two-value3 .ensures .0) (at-two-value4 .two-value4 .ensures .0)
+    _ (at-day-of-date .day-of-date .ensures) _ (c .before .day .given .1)
 
 returns-3 : tie.Need-returns-3
 returns-3 c =
-    date-refused _ _ (said-yes (c .before .before .before .before .before .before .before .before .is-date-form .ensures) (c .before .before .before .before .before .before .before .if1 .left)) _ _ _
-    (ap₂ (λ (a b : ℕ). 100 * a + b) (c .before .before .before .before .before .before .two-value .ensures .0) (c .before .before .before .before .before .two-value2 .ensures .0)) (c .before .before .before .before .two-value3 .ensures .0) (c .before .before .before .two-value4 .ensures .0)
+    let at-two-value4 = c .before .before .before in
+    let at-two-value3 = at-two-value4 .before in
+    let at-two-value2 = at-two-value3 .before in
+    let at-two-value = at-two-value2 .before in
+    let at-if1 = at-two-value .before in
+    let at-is-date-form = at-if1 .before in
+    let yes-is-date-form = said-yes (at-is-date-form .is-date-form .ensures) (at-if1 .if1 .left) in
+    date-refused _ _ yes-is-date-form _ _ _
+    (ap₂ (λ (a b : ℕ). 100 * a + b) (at-two-value .two-value .ensures .0) (at-two-value2 .two-value2 .ensures .0)) (at-two-value3 .two-value3 .ensures .0) (at-two-value4 .two-value4 .ensures .0)
     _ (c .before .before .day-of-date .ensures) (c .enum-told .given .1)
 
 pub date-at-spec : {M : Type 1} → statement M

@@ -31,13 +31,23 @@ other-line-requires-3 : tie.Need-other-line-requires-3
 other-line-requires-3 c κs = tt
 
 returns-3 : tie.Need-returns-3
-returns-3 c = c .other-line3 .ensures ∙ open-dateless _ _ (said-yes (c .before .before .before .before .before .is-open-form .ensures) (c .before .before .before .before .if2 .left)) _ (c .before .before .before .date-at .ensures) (not-true _ (c .before .if3 .taken))
+returns-3 c =
+    let at-date-at = c .before .before .before in
+    let at-if2 = at-date-at .before in
+    let at-is-open-form = at-if2 .before in
+    let yes-is-open-form = said-yes (at-is-open-form .is-open-form .ensures) (at-if2 .if2 .left) in
+    c .other-line3 .ensures ∙ open-dateless _ _ yes-is-open-form _ (at-date-at .date-at .ensures) (not-true _ (c .before .if3 .taken))
 
 id-at-requires : tie.Need-id-at-requires
 id-at-requires c κs = tt
 
 returns-4 : tie.Need-returns-4
-returns-4 c = open-is _ _ (said-yes (c .before .before .before .before .before .is-open-form .ensures) (c .before .before .before .before .if2 .left)) _ (c .before .before .before .date-at .ensures) _ (c .id-at .ensures) (not-false _ (c .before .if3 .left))
+returns-4 c =
+    let at-date-at = c .before .before .before in
+    let at-if2 = at-date-at .before in
+    let at-is-open-form = at-if2 .before in
+    let yes-is-open-form = said-yes (at-is-open-form .is-open-form .ensures) (at-if2 .if2 .left) in
+    open-is _ _ yes-is-open-form _ (at-date-at .date-at .ensures) _ (c .id-at .ensures) (not-false _ (c .before .if3 .left))
 
 pub open-command-spec : {M : Type 1} → statement M
 open-command-spec =

@@ -93,13 +93,20 @@ steps-again c = leaves _ _ _ _ (c .before .loop .inv .0) (c .loop-test .left)
 
 returns : tie.Need-returns Inv-loop μ-loop Inv-steps μ-steps
 returns c =
+    let at-end-month = c .before .before .before in
+    let at-kind-number = at-end-month .before in
+    let start = at-kind-number .before in
     finishes (c .before .steps .step) (c .steps-test .left) (c .before .steps .inv) ∙
-    listing-is _ (c .before .before .before .before .before .args .kind) _ (c .before .before .before .before .before .args .date) _ _ (c .before .before .before .before .kind-number .ensures) (c .before .before .before .end-month .ensures .0)
+    listing-is _ (start .args .kind) _ (start .args .date) _ _ (at-kind-number .kind-number .ensures) (at-end-month .end-month .ensures .0)
 
 returns-2 : tie.Need-returns-2 Inv-loop μ-loop Inv-steps μ-steps
 returns-2 c =
-    stops _ _ _ _ (c .before .before .before .loop .inv .0) (c .before .next-in-set .result) (c .before .before .loop-test .taken) (c .before .next-in-set .ensures) (c .if1 .taken) ∙
-    listing-is _ (c .before .before .before .before .before .before .before .before .before .before .args .kind) _ (c .before .before .before .before .before .before .before .before .before .before .args .date) _ _ (c .before .before .before .before .before .before .before .before .before .kind-number .ensures) (c .before .before .before .before .before .before .before .before .end-month .ensures .0)
+    let at-loop = c .before .before .before in
+    let at-end-month = at-loop .before .before .before .before .before in
+    let at-kind-number = at-end-month .before in
+    let start = at-kind-number .before in
+    stops _ _ _ _ (at-loop .loop .inv .0) (c .before .next-in-set .result) (c .before .before .loop-test .taken) (c .before .next-in-set .ensures) (c .if1 .taken) ∙
+    listing-is _ (start .args .kind) _ (start .args .date) _ _ (at-kind-number .kind-number .ensures) (at-end-month .end-month .ensures .0)
 
 pub list-spec : {M : Type 1} → statement M
 list-spec =

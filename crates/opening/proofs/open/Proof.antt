@@ -35,8 +35,11 @@ refused-requires-2 c κs = tt
 
 returns-2 : tie.Need-returns-2
 returns-2 c =
+    let at-find = c .before .before .before .before in
+    let at-if1 = at-find .before in
+    let at-load = at-if1 .before in
     rw (c .refused2 .ensures, c .before .zero-table2 .ensures)
-    (sym (open-9 _ _ _ (sym (load-is _ _ (c .before .before .before .before .before .before .load .ensures)) ∙ c .before .before .before .before .before .if1 .left) (find-none _ _ (rw (c .before .before .enum-told .given .1) at (c .before .before .before .before .find .ensures)))))
+    (sym (open-9 _ _ _ (sym (load-is _ _ (at-load .load .ensures)) ∙ at-if1 .if1 .left) (find-none _ _ (rw (c .before .before .enum-told .given .1) at (at-find .find .ensures)))))
 
 calendar-of-requires : tie.Need-calendar-of-requires
 calendar-of-requires c κs = tt
@@ -52,10 +55,16 @@ refused-requires-3 c κs = tt
 
 returns-3 : tie.Need-returns-3
 returns-3 c =
-    let there = find-there _ _ _ _ (rw (c .before .before .before .before .before .before .block .given .1) at (c .before .before .before .before .before .before .before .before .find .ensures)) in
-    let cal = c .before .before .before .before .calendar-of .ensures in
+    let at-in-cover = c .before .before .before in
+    let at-calendar-of = at-in-cover .before in
+    let at-block = at-calendar-of .before .before in
+    let at-find = at-block .before .before in
+    let at-if1 = at-find .before in
+    let at-load = at-if1 .before in
+    let there = find-there _ _ _ _ (rw (at-block .block .given .1) at (at-find .find .ensures)) in
+    let cal = at-calendar-of .calendar-of .ensures in
     rw (c .refused3 .ensures, c .before .zero-table3 .ensures)
-    (sym (open-11 _ _ _ (sym (load-is _ _ (c .before .before .before .before .before .before .before .before .before .before .load .ensures)) ∙ c .before .before .before .before .before .before .before .before .before .if1 .left) there (rw cal at (said-no (c .before .before .before .in-cover .ensures) (c .before .before .if2 .taken)))))
+    (sym (open-11 _ _ _ (sym (load-is _ _ (at-load .load .ensures)) ∙ at-if1 .if1 .left) there (rw cal at (said-no (at-in-cover .in-cover .ensures) (c .before .before .if2 .taken)))))
 
 product-at-requires : tie.Need-product-at-requires
 product-at-requires c κs = tt
@@ -71,27 +80,47 @@ refused-requires-4 c κs = tt
 
 returns-4 : tie.Need-returns-4
 returns-4 c =
-    let at = rw (c .before .before .before .before .before .before .before .before .before .before .before .block .given .1) at (c .before .before .before .before .before .before .before .before .before .before .before .before .before .find .ensures) in
+    let at-list = c .before .before .before .before in
+    let at-product-at = at-list .before .before in
+    let at-if2 = at-product-at .before in
+    let at-in-cover = at-if2 .before in
+    let at-calendar-of = at-in-cover .before in
+    let at-block = at-calendar-of .before .before in
+    let at-find = at-block .before .before in
+    let at-if1 = at-find .before in
+    let at-load = at-if1 .before in
+    let yes-in-cover = said-yes (at-in-cover .in-cover .ensures) (at-if2 .if2 .left) in
+    let at = rw (at-block .block .given .1) at (at-find .find .ensures) in
     let there = find-there _ _ _ _ at in
-    let cal = c .before .before .before .before .before .before .before .before .before .calendar-of .ensures in
-    let p = c .before .before .before .before .before .before .product-at .ensures ∙ find-product _ _ _ _ at in
-    let l = rw (p, cal) at (c .before .before .before .before .list .ensures) in
+    let cal = at-calendar-of .calendar-of .ensures in
+    let p = at-product-at .product-at .ensures ∙ find-product _ _ _ _ at in
+    let l = rw (p, cal) at (at-list .list .ensures) in
     rw (c .refused4 .ensures, c .before .zero-table4 .ensures)
-    (sym (open-16 _ _ _ (sym (load-is _ _ (c .before .before .before .before .before .before .before .before .before .before .before .before .before .before .before .load .ensures)) ∙ c .before .before .before .before .before .before .before .before .before .before .before .before .before .before .if1 .left) there (rw cal at (said-yes (c .before .before .before .before .before .before .before .before .in-cover .ensures) (c .before .before .before .before .before .before .before .if2 .left))) (said-no (complete-is _ _ _ _ _ l) (c .before .before .if3 .taken))))
+    (sym (open-16 _ _ _ (sym (load-is _ _ (at-load .load .ensures)) ∙ at-if1 .if1 .left) there (rw cal at yes-in-cover) (said-no (complete-is _ _ _ _ _ l) (c .before .before .if3 .taken))))
 
 opened-with-requires : tie.Need-opened-with-requires
 opened-with-requires c κs = tt
 
 returns-5 : tie.Need-returns-5
 returns-5 c =
-    let at = rw (c .before .before .before .before .before .before .before .before .before .before .before .block .given .1) at (c .before .before .before .before .before .before .before .before .before .before .before .before .before .find .ensures) in
+    let at-list = c .before .before .before .before in
+    let at-product-at = at-list .before .before in
+    let at-if2 = at-product-at .before in
+    let at-in-cover = at-if2 .before in
+    let at-calendar-of = at-in-cover .before in
+    let at-block = at-calendar-of .before .before in
+    let at-find = at-block .before .before in
+    let at-if1 = at-find .before in
+    let at-load = at-if1 .before in
+    let yes-in-cover = said-yes (at-in-cover .in-cover .ensures) (at-if2 .if2 .left) in
+    let at = rw (at-block .block .given .1) at (at-find .find .ensures) in
     let there = find-there _ _ _ _ at in
-    let cal = c .before .before .before .before .before .before .before .before .before .calendar-of .ensures in
-    let p = c .before .before .before .before .before .before .product-at .ensures ∙ find-product _ _ _ _ at in
-    let l = rw (p, cal) at (c .before .before .before .before .list .ensures) in
+    let cal = at-calendar-of .calendar-of .ensures in
+    let p = at-product-at .product-at .ensures ∙ find-product _ _ _ _ at in
+    let l = rw (p, cal) at (at-list .list .ensures) in
     let whole = said-yes refl (c .before .before .if3 .left) in
     (rw (p, cal) at (c .opened-with .ensures)) ∙ opened-is _ _ _ _ l whole ∙
-    sym (open-yes _ _ _ (sym (load-is _ _ (c .before .before .before .before .before .before .before .before .before .before .before .before .before .before .before .load .ensures)) ∙ c .before .before .before .before .before .before .before .before .before .before .before .before .before .before .if1 .left) there (rw cal at (said-yes (c .before .before .before .before .before .before .before .before .in-cover .ensures) (c .before .before .before .before .before .before .before .if2 .left))) (said-yes (complete-is _ _ _ _ _ l) (c .before .before .if3 .left)))
+    sym (open-yes _ _ _ (sym (load-is _ _ (at-load .load .ensures)) ∙ at-if1 .if1 .left) there (rw cal at yes-in-cover) (said-yes (complete-is _ _ _ _ _ l) (c .before .before .if3 .left)))
 
 pub open-spec : {M : Type 1} → statement M
 open-spec =

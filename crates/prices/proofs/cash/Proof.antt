@@ -31,7 +31,14 @@ no-cash-requires-3 : tie.Need-no-cash-requires-3
 no-cash-requires-3 c κs = tt
 
 returns-3 : tie.Need-returns-3
-returns-3 c = c .no-cash3 .ensures ∙ sym (cash-20 _ _ _ _ (said-yes (c .before .before .before .before .before .before .before .is-sound .ensures) (c .before .before .before .before .before .before .if1 .left)) (said-yes (c .before .before .before .before .before .price-right .ensures) (c .before .before .before .before .if2 .left)) (said-no (c .before .before .is-multiple .ensures) (c .before .if3 .taken)))
+returns-3 c =
+    let at-if2 = c .before .before .before .before in
+    let at-price-right = at-if2 .before in
+    let at-if1 = at-price-right .before in
+    let at-is-sound = at-if1 .before in
+    let yes-is-sound = said-yes (at-is-sound .is-sound .ensures) (at-if1 .if1 .left) in
+    let yes-price-right = said-yes (at-price-right .price-right .ensures) (at-if2 .if2 .left) in
+    c .no-cash3 .ensures ∙ sym (cash-20 _ _ _ _ yes-is-sound yes-price-right (said-no (c .before .before .is-multiple .ensures) (c .before .if3 .taken)))
 
 is-future-requires : tie.Need-is-future-requires
 is-future-requires c κs = tt
@@ -40,7 +47,17 @@ no-cash-requires-4 : tie.Need-no-cash-requires-4
 no-cash-requires-4 c κs = tt
 
 returns-4 : tie.Need-returns-4
-returns-4 c = c .no-cash4 .ensures ∙ sym (cash-21 _ _ _ _ (said-yes (c .before .before .before .before .before .before .before .before .before .is-sound .ensures) (c .before .before .before .before .before .before .before .before .if1 .left)) (said-yes (c .before .before .before .before .before .before .before .price-right .ensures) (c .before .before .before .before .before .before .if2 .left)) (said-yes (c .before .before .before .before .is-multiple .ensures) (c .before .before .before .if3 .left)) (said-no (c .before .before .is-future .ensures) (c .before .if4 .taken)))
+returns-4 c =
+    let at-if3 = c .before .before .before in
+    let at-is-multiple = at-if3 .before in
+    let at-if2 = at-is-multiple .before .before in
+    let at-price-right = at-if2 .before in
+    let at-if1 = at-price-right .before in
+    let at-is-sound = at-if1 .before in
+    let yes-is-sound = said-yes (at-is-sound .is-sound .ensures) (at-if1 .if1 .left) in
+    let yes-price-right = said-yes (at-price-right .price-right .ensures) (at-if2 .if2 .left) in
+    let yes-is-multiple = said-yes (at-is-multiple .is-multiple .ensures) (at-if3 .if3 .left) in
+    c .no-cash4 .ensures ∙ sym (cash-21 _ _ _ _ yes-is-sound yes-price-right yes-is-multiple (said-no (c .before .before .is-future .ensures) (c .before .if4 .taken)))
 
 final-right-requires : tie.Need-final-right-requires
 final-right-requires c κs = tt
@@ -52,15 +69,42 @@ no-cash-requires-5 : tie.Need-no-cash-requires-5
 no-cash-requires-5 c κs = tt
 
 returns-5 : tie.Need-returns-5
-returns-5 c = c .no-cash5 .ensures ∙ sym (cash-22 _ _ _ _ (said-yes (c .before .before .before .before .before .before .before .before .before .before .before .before .is-sound .ensures) (c .before .before .before .before .before .before .before .before .before .before .before .if1 .left)) (said-yes (c .before .before .before .before .before .before .before .before .before .before .price-right .ensures) (c .before .before .before .before .before .before .before .before .before .if2 .left)) (said-yes (c .before .before .before .before .before .before .before .is-multiple .ensures) (c .before .before .before .before .before .before .if3 .left)) (said-yes (c .before .before .before .before .before .is-future .ensures) (c .before .before .before .before .if4 .left)) (said-no (both-are (c .before .before .before .final-right .ensures) (c .before .before .contracts-right .ensures)) (c .before .if5 .taken)))
+returns-5 c =
+    let at-final-right = c .before .before .before in
+    let at-if4 = at-final-right .before in
+    let at-is-future = at-if4 .before in
+    let at-if3 = at-is-future .before in
+    let at-is-multiple = at-if3 .before in
+    let at-if2 = at-is-multiple .before .before in
+    let at-price-right = at-if2 .before in
+    let at-if1 = at-price-right .before in
+    let at-is-sound = at-if1 .before in
+    let yes-is-sound = said-yes (at-is-sound .is-sound .ensures) (at-if1 .if1 .left) in
+    let yes-price-right = said-yes (at-price-right .price-right .ensures) (at-if2 .if2 .left) in
+    let yes-is-multiple = said-yes (at-is-multiple .is-multiple .ensures) (at-if3 .if3 .left) in
+    let yes-is-future = said-yes (at-is-future .is-future .ensures) (at-if4 .if4 .left) in
+    c .no-cash5 .ensures ∙ sym (cash-22 _ _ _ _ yes-is-sound yes-price-right yes-is-multiple yes-is-future (said-no (both-are (at-final-right .final-right .ensures) (c .before .before .contracts-right .ensures)) (c .before .if5 .taken)))
 
 cash-requires : tie.Need-cash-requires
 cash-requires c κs = tt
 
 returns-6 : tie.Need-returns-6
 returns-6 c =
+    let at-final-right = c .before .before .before in
+    let at-if4 = at-final-right .before in
+    let at-is-future = at-if4 .before in
+    let at-if3 = at-is-future .before in
+    let at-is-multiple = at-if3 .before in
+    let at-if2 = at-is-multiple .before .before in
+    let at-price-right = at-if2 .before in
+    let at-if1 = at-price-right .before in
+    let at-is-sound = at-if1 .before in
+    let yes-is-sound = said-yes (at-is-sound .is-sound .ensures) (at-if1 .if1 .left) in
+    let yes-price-right = said-yes (at-price-right .price-right .ensures) (at-if2 .if2 .left) in
+    let yes-is-multiple = said-yes (at-is-multiple .is-multiple .ensures) (at-if3 .if3 .left) in
+    let yes-is-future = said-yes (at-is-future .is-future .ensures) (at-if4 .if4 .left) in
     let amount = toZ-ofZ {w = w64} {z = c .cash .result} (record { sfits = c .cash .ok }) ∙ c .cash .ensures in
-    sym (cash-yes _ _ _ _ (said-yes (c .before .before .before .before .before .before .before .before .before .before .before .before .is-sound .ensures) (c .before .before .before .before .before .before .before .before .before .before .before .if1 .left)) (said-yes (c .before .before .before .before .before .before .before .before .before .before .price-right .ensures) (c .before .before .before .before .before .before .before .before .before .if2 .left)) (said-yes (c .before .before .before .before .before .before .before .is-multiple .ensures) (c .before .before .before .before .before .before .if3 .left)) (said-yes (c .before .before .before .before .before .is-future .ensures) (c .before .before .before .before .if4 .left)) (said-yes (both-are (c .before .before .before .final-right .ensures) (c .before .before .contracts-right .ensures)) (c .before .if5 .left)) _ amount)
+    sym (cash-yes _ _ _ _ yes-is-sound yes-price-right yes-is-multiple yes-is-future (said-yes (both-are (at-final-right .final-right .ensures) (c .before .before .contracts-right .ensures)) (c .before .if5 .left)) _ amount)
 
 pub cash-spec : {M : Type 1} → statement M
 cash-spec =

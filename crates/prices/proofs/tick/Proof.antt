@@ -20,10 +20,20 @@ is-multiple-requires : tie.Need-is-multiple-requires
 is-multiple-requires c κs = tt
 
 returns-3 : tie.Need-returns-3
-returns-3 c = sym (tick-20 _ _ (said-yes (c .before .before .before .before .before .is-sound .ensures) (c .before .before .before .before .if1 .left)) (said-yes (c .before .before .before .price-right .ensures) (c .before .before .if2 .left)) (said-no (c .before .is-multiple .ensures) (c .if3 .taken)))
+returns-3 c =
+    let at-price-right = c .before .before .before in
+    let at-if1 = at-price-right .before in
+    let at-is-sound = at-if1 .before in
+    let yes-is-sound = said-yes (at-is-sound .is-sound .ensures) (at-if1 .if1 .left) in
+    sym (tick-20 _ _ yes-is-sound (said-yes (at-price-right .price-right .ensures) (c .before .before .if2 .left)) (said-no (c .before .is-multiple .ensures) (c .if3 .taken)))
 
 returns-4 : tie.Need-returns-4
-returns-4 c = sym (tick-yes _ _ (said-yes (c .before .before .before .before .before .is-sound .ensures) (c .before .before .before .before .if1 .left)) (said-yes (c .before .before .before .price-right .ensures) (c .before .before .if2 .left)) (said-yes (c .before .is-multiple .ensures) (c .if3 .left)))
+returns-4 c =
+    let at-price-right = c .before .before .before in
+    let at-if1 = at-price-right .before in
+    let at-is-sound = at-if1 .before in
+    let yes-is-sound = said-yes (at-is-sound .is-sound .ensures) (at-if1 .if1 .left) in
+    sym (tick-yes _ _ yes-is-sound (said-yes (at-price-right .price-right .ensures) (c .before .before .if2 .left)) (said-yes (c .before .is-multiple .ensures) (c .if3 .left)))
 
 pub tick-spec : {M : Type 1} → statement M
 tick-spec =

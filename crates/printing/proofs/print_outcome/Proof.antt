@@ -22,8 +22,11 @@ same-length-2 c = c .before .before .put-outcome .ensures .0 .long
 
 returns-2 : tie.Need-returns-2
 returns-2 c =
+    let at-if1 = c .before .before .before .before in
+    let at-has-room = at-if1 .before in
+    let yes-has-room = said-yes (at-has-room .has-room .ensures) (at-if1 .if1 .left) in
     let w = c .before .before .put-outcome .ensures in
-    printed (said-yes (c .before .before .before .before .before .has-room .ensures) (c .before .before .before .before .if1 .left)) (w .0) (omega (arith, w .1))
+    printed yes-has-room (w .0) (omega (arith, w .1))
 
 pub print-outcome-spec : {M : Type 1} → statement M
 print-outcome-spec =

@@ -22,7 +22,11 @@ same-length c = search needs
 
 returns : tie.Need-returns
 unfolding badText
-returns c = (then (c .before .before .before .before .before .before .before .before .before .before .before .before .before .before .put .ensures .0) (then (c .before .before .before .before .before .before .before .before .before .before .put2 .ensures .0) (then (c .before .before .before .before .before .before .put3 .ensures .0) (c .before .before .put4 .ensures .0))), omega (arith, c .before .before .before .before .before .before .before .before .before .before .before .before .before .before .put .ensures .1, c .before .before .before .before .before .before .before .before .before .before .put2 .ensures .1, c .before .before .before .before .before .before .put3 .ensures .1, c .before .before .put4 .ensures .1))
+returns c =
+    let at-put3 = c .before .before .before .before .before .before in
+    let at-put2 = at-put3 .before .before .before .before in
+    let at-put = at-put2 .before .before .before .before in
+    (then (at-put .put .ensures .0) (then (at-put2 .put2 .ensures .0) (then (at-put3 .put3 .ensures .0) (c .before .before .put4 .ensures .0))), omega (arith, at-put .put .ensures .1, at-put2 .put2 .ensures .1, at-put3 .put3 .ensures .1, c .before .before .put4 .ensures .1))
 
 pub put-bad-spec : {M : Type 1} → statement M
 put-bad-spec =

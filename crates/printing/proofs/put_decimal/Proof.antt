@@ -21,7 +21,10 @@ same-length-2 : tie.Need-same-length-2
 same-length-2 c = search needs
 
 returns-2 : tie.Need-returns-2
-returns-2 c = (rw (decimal-2 _ (c .before .before .before .before .before .if1 .left) (c .before .before .before .before .if2 .taken)) (c .before .before .put-two .ensures .0), omega (arith, c .before .before .put-two .ensures .1))
+returns-2 c =
+    let at-if2 = c .before .before .before .before in
+    let at-if1 = at-if2 .before in
+    (rw (decimal-2 _ (at-if1 .if1 .left) (at-if2 .if2 .taken)) (c .before .before .put-two .ensures .0), omega (arith, c .before .before .put-two .ensures .1))
 
 put-digit-requires-2 : tie.Need-put-digit-requires-2
 put-digit-requires-2 c κs = search needs
@@ -33,7 +36,12 @@ same-length-3 : tie.Need-same-length-3
 same-length-3 c = search needs
 
 returns-3 : tie.Need-returns-3
-returns-3 c = (rw (decimal-3 _ (c .before .before .before .before .before .before .before .before .before .before .if1 .left) (c .before .before .before .before .before .before .before .before .before .if2 .left) (c .before .before .before .before .before .before .before .before .if3 .taken)) (then (c .before .before .before .before .before .before .put-digit2 .ensures .0) (c .before .before .put-two2 .ensures .0)), omega (arith, c .before .before .before .before .before .before .put-digit2 .ensures .1, c .before .before .put-two2 .ensures .1))
+returns-3 c =
+    let at-put-digit2 = c .before .before .before .before .before .before in
+    let at-if3 = at-put-digit2 .before .before in
+    let at-if2 = at-if3 .before in
+    let at-if1 = at-if2 .before in
+    (rw (decimal-3 _ (at-if1 .if1 .left) (at-if2 .if2 .left) (at-if3 .if3 .taken)) (then (at-put-digit2 .put-digit2 .ensures .0) (c .before .before .put-two2 .ensures .0)), omega (arith, at-put-digit2 .put-digit2 .ensures .1, c .before .before .put-two2 .ensures .1))
 
 put-four-requires : tie.Need-put-four-requires
 put-four-requires c κs = search needs
@@ -42,7 +50,12 @@ same-length-4 : tie.Need-same-length-4
 same-length-4 c = search needs
 
 returns-4 : tie.Need-returns-4
-returns-4 c = (rw (decimal-4 _ (c .before .before .before .before .before .before .before .if1 .left) (c .before .before .before .before .before .before .if2 .left) (c .before .before .before .before .before .if3 .left) (c .before .before .before .before .if4 .taken)) (c .before .before .put-four .ensures .0), omega (arith, c .before .before .put-four .ensures .1))
+returns-4 c =
+    let at-if4 = c .before .before .before .before in
+    let at-if3 = at-if4 .before in
+    let at-if2 = at-if3 .before in
+    let at-if1 = at-if2 .before in
+    (rw (decimal-4 _ (at-if1 .if1 .left) (at-if2 .if2 .left) (at-if3 .if3 .left) (at-if4 .if4 .taken)) (c .before .before .put-four .ensures .0), omega (arith, c .before .before .put-four .ensures .1))
 
 put-digit-requires-3 : tie.Need-put-digit-requires-3
 put-digit-requires-3 c κs = search needs
@@ -54,7 +67,13 @@ same-length-5 : tie.Need-same-length-5
 same-length-5 c = search needs
 
 returns-5 : tie.Need-returns-5
-returns-5 c = (rw (decimal-5 _ (c .before .before .before .before .before .before .before .before .before .before .before .if1 .left) (c .before .before .before .before .before .before .before .before .before .before .if2 .left) (c .before .before .before .before .before .before .before .before .before .if3 .left) (c .before .before .before .before .before .before .before .before .if4 .left)) (then (c .before .before .before .before .before .before .put-digit3 .ensures .0) (c .before .before .put-four2 .ensures .0)), omega (arith, c .before .before .before .before .before .before .put-digit3 .ensures .1, c .before .before .put-four2 .ensures .1))
+returns-5 c =
+    let at-put-digit3 = c .before .before .before .before .before .before in
+    let at-if4 = at-put-digit3 .before .before in
+    let at-if3 = at-if4 .before in
+    let at-if2 = at-if3 .before in
+    let at-if1 = at-if2 .before in
+    (rw (decimal-5 _ (at-if1 .if1 .left) (at-if2 .if2 .left) (at-if3 .if3 .left) (at-if4 .if4 .left)) (then (at-put-digit3 .put-digit3 .ensures .0) (c .before .before .put-four2 .ensures .0)), omega (arith, at-put-digit3 .put-digit3 .ensures .1, c .before .before .put-four2 .ensures .1))
 
 pub put-decimal-spec : {M : Type 1} → statement M
 put-decimal-spec =

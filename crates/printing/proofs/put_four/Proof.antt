@@ -16,7 +16,9 @@ same-length c = search needs
 
 returns : tie.Need-returns
 unfolding four
-returns c = (then (c .before .before .before .before .before .before .put-two .ensures .0) (c .before .before .put-two2 .ensures .0), omega (arith, c .before .before .before .before .before .before .put-two .ensures .1, c .before .before .put-two2 .ensures .1))
+returns c =
+    let at-put-two = c .before .before .before .before .before .before in
+    (then (at-put-two .put-two .ensures .0) (c .before .before .put-two2 .ensures .0), omega (arith, at-put-two .put-two .ensures .1, c .before .before .put-two2 .ensures .1))
 
 pub put-four-spec : {M : Type 1} → statement M
 put-four-spec =

@@ -37,7 +37,8 @@ loop-less c = omega arith
 
 loop-again : tie.Need-loop-again Inv-loop μ-loop
 loop-again c =
-    let v = c .before .before .before .before .before .before .loop .inv in
+    let at-loop = c .before .before .before .before .before .before in
+    let v = at-loop .loop .inv in
     (v .0, v .1, omega arith, omega (arith, v .3, c .before .before .put-maturity .ensures .1), rw (more-lines _ _) (then (v .4) (c .before .before .put-maturity .ensures .0)))
 
 same-length : tie.Need-same-length Inv-loop μ-loop

@@ -28,7 +28,13 @@ same-length c = search needs
 
 returns : tie.Need-returns
 unfolding maturityText
-returns c = (then (c .before .before .before .before .before .before .before .before .before .before .before .before .before .before .before .before .before .before .before .before .before .before .put-decimal .ensures .0) (then (c .before .before .before .before .before .before .before .before .before .before .before .before .before .before .before .before .before .before .put .ensures .0) (then (c .before .before .before .before .before .before .before .before .before .before .before .before .before .before .put-month .ensures .0) (then (c .before .before .before .before .before .before .before .before .before .before .put2 .ensures .0) (then (c .before .before .before .before .before .before .put-day .ensures .0) (c .before .before .put3 .ensures .0))))), omega (arith, c .before .before .before .before .before .before .before .before .before .before .before .before .before .before .before .before .before .before .before .before .before .before .put-decimal .ensures .1, c .before .before .before .before .before .before .before .before .before .before .before .before .before .before .before .before .before .before .put .ensures .1, c .before .before .before .before .before .before .before .before .before .before .before .before .before .before .put-month .ensures .1, c .before .before .before .before .before .before .before .before .before .before .put2 .ensures .1, c .before .before .before .before .before .before .put-day .ensures .1, c .before .before .put3 .ensures .1))
+returns c =
+    let at-put-day = c .before .before .before .before .before .before in
+    let at-put2 = at-put-day .before .before .before .before in
+    let at-put-month = at-put2 .before .before .before .before in
+    let at-put = at-put-month .before .before .before .before in
+    let at-put-decimal = at-put .before .before .before .before in
+    (then (at-put-decimal .put-decimal .ensures .0) (then (at-put .put .ensures .0) (then (at-put-month .put-month .ensures .0) (then (at-put2 .put2 .ensures .0) (then (at-put-day .put-day .ensures .0) (c .before .before .put3 .ensures .0))))), omega (arith, at-put-decimal .put-decimal .ensures .1, at-put .put .ensures .1, at-put-month .put-month .ensures .1, at-put2 .put2 .ensures .1, at-put-day .put-day .ensures .1, c .before .before .put3 .ensures .1))
 
 pub put-maturity-spec : {M : Type 1} → statement M
 put-maturity-spec =

@@ -17,18 +17,24 @@ cast-put-maturities c = search needs
 
 put-maturities-requires : tie.Need-put-maturities-requires
 put-maturities-requires c κs =
-    let h = c .before .before .before .put-heading .ensures in
-    (c .before .before .before .before .before .months-listed .ensures .1, omega (arith, h .1, h .0 .long))
+    let at-put-heading = c .before .before .before in
+    let at-months-listed = at-put-heading .before .before in
+    let h = at-put-heading .put-heading .ensures in
+    (at-months-listed .months-listed .ensures .1, omega (arith, h .1, h .0 .long))
 
 same-length : tie.Need-same-length
-same-length c = c .before .before .put-maturities .ensures .0 .long ∙ c .before .before .before .before .before .before .put-heading .ensures .0 .long
+same-length c =
+    let at-put-heading = c .before .before .before .before .before .before in
+    c .before .before .put-maturities .ensures .0 .long ∙ at-put-heading .put-heading .ensures .0 .long
 
 returns : tie.Need-returns
 unfolding outcomeText
 returns c =
-    let h = c .before .before .before .before .before .before .put-heading .ensures in
+    let at-put-heading = c .before .before .before .before .before .before in
+    let at-months-listed = at-put-heading .before .before in
+    let h = at-put-heading .put-heading .ensures in
     let m = c .before .before .put-maturities .ensures in
-    (rw (← c .before .before .before .before .before .before .before .before .months-listed .ensures .0) (then (h .0) (m .0)), omega (arith, h .1, m .1))
+    (rw (← at-months-listed .months-listed .ensures .0) (then (h .0) (m .0)), omega (arith, h .1, m .1))
 
 pub put-outcome-spec : {M : Type 1} → statement M
 put-outcome-spec =

@@ -16,7 +16,9 @@ same-length c = search needs
 
 returns : tie.Need-returns
 unfolding spaced
-returns c = (then (c .before .before .before .before .before .before .put .ensures .0) (c .before .before .put-decimal .ensures .0), omega (arith, c .before .before .before .before .before .before .put .ensures .1, c .before .before .put-decimal .ensures .1))
+returns c =
+    let at-put = c .before .before .before .before .before .before in
+    (then (at-put .put .ensures .0) (c .before .before .put-decimal .ensures .0), omega (arith, at-put .put .ensures .1, c .before .before .put-decimal .ensures .1))
 
 pub put-spaced-spec : {M : Type 1} → statement M
 put-spaced-spec =

@@ -16,7 +16,9 @@ same-length c = search needs
 
 returns : tie.Need-returns
 unfolding two
-returns c = (then (c .before .before .before .before .before .before .put-digit .ensures .0) (c .before .before .put-digit2 .ensures .0), omega (arith, c .before .before .before .before .before .before .put-digit .ensures .1, c .before .before .put-digit2 .ensures .1))
+returns c =
+    let at-put-digit = c .before .before .before .before .before .before in
+    (then (at-put-digit .put-digit .ensures .0) (c .before .before .put-digit2 .ensures .0), omega (arith, at-put-digit .put-digit .ensures .1, c .before .before .put-digit2 .ensures .1))
 
 pub put-two-spec : {M : Type 1} → statement M
 put-two-spec =

@@ -19,7 +19,10 @@ same-length c = search needs
 
 returns : tie.Need-returns
 unfolding yearMonth
-returns c = (then (c .before .before .before .before .before .before .before .before .before .before .put-four .ensures .0) (then (c .before .before .before .before .before .before .put .ensures .0) (c .before .before .put-two .ensures .0)), omega (arith, c .before .before .before .before .before .before .before .before .before .before .put-four .ensures .1, c .before .before .before .before .before .before .put .ensures .1, c .before .before .put-two .ensures .1))
+returns c =
+    let at-put = c .before .before .before .before .before .before in
+    let at-put-four = at-put .before .before .before .before in
+    (then (at-put-four .put-four .ensures .0) (then (at-put .put .ensures .0) (c .before .before .put-two .ensures .0)), omega (arith, at-put-four .put-four .ensures .1, at-put .put .ensures .1, c .before .before .put-two .ensures .1))
 
 pub put-year-month-spec : {M : Type 1} → statement M
 put-year-month-spec =

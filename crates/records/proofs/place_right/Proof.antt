@@ -23,8 +23,9 @@ record-right-requires c κs = tt
 returns : tie.Need-returns
 unfolding placeRight
 returns c =
+    let start = c .before .before .before .before .before .before in
     let d = c .before .before .before in
-    let count : d .number-at .result ≡ numberAt (blockOf (now (c .before .before .before .before .before .before .args .file)) (c .before .before .before .before .before .before .args .n)) 2 = d .number-at .ensures .0 ∙ ap (λ (b : List ℕ). numberAt b 2) (d .before .block-at .ensures .0) in
+    let count : d .number-at .result ≡ numberAt (blockOf (now (start .args .file)) (start .args .n)) 2 = d .number-at .ensures .0 ∙ ap (λ (b : List ℕ). numberAt b 2) (d .before .block-at .ensures .0) in
     simp (← count, lt-ltb _ _ (c .before .if1 .taken)) (c .record-right .ensures ∙ ap recordRight (c .before .before .record-at .ensures))
 
 are-zero-requires : tie.Need-are-zero-requires
@@ -33,8 +34,9 @@ are-zero-requires c κs = tt
 returns-2 : tie.Need-returns-2
 unfolding placeRight
 returns-2 c =
+    let start = c .before .before .before .before .before .before in
     let d = c .before .before .before in
-    let count : d .number-at .result ≡ numberAt (blockOf (now (c .before .before .before .before .before .before .args .file)) (c .before .before .before .before .before .before .args .n)) 2 = d .number-at .ensures .0 ∙ ap (λ (b : List ℕ). numberAt b 2) (d .before .block-at .ensures .0) in
+    let count : d .number-at .result ≡ numberAt (blockOf (now (start .args .file)) (start .args .n)) 2 = d .number-at .ensures .0 ∙ ap (λ (b : List ℕ). numberAt b 2) (d .before .block-at .ensures .0) in
     simp (← count, le-ltb _ _ (c .before .if1 .left)) (c .are-zero .ensures ∙ ap (λ (b : List ℕ). zeros b 0 32) (c .before .before .record-at .ensures))
 
 pub place-right-spec : {M : Type 1} → statement M

@@ -32,7 +32,14 @@ are-zero-requires c κs = tt
 
 returns : tie.Need-returns
 unfolding recordRight
-returns c = simp (c .are-zero .ensures, c .before .fields-right .ensures, c .before .before .three-at .ensures, c .before .before .before .field-at2 .ensures, c .before .before .before .before .field-at .ensures, c .before .before .before .before .before .byte-at .ensures, c .before .before .before .before .before .before .four-at3 .ensures, c .before .before .before .before .before .before .before .four-at2 .ensures, c .before .before .before .before .before .before .before .before .four-at .ensures)
+returns c =
+    let at-field-at2 = c .before .before .before in
+    let at-field-at = at-field-at2 .before in
+    let at-byte-at = at-field-at .before in
+    let at-four-at3 = at-byte-at .before in
+    let at-four-at2 = at-four-at3 .before in
+    let at-four-at = at-four-at2 .before in
+    simp (c .are-zero .ensures, c .before .fields-right .ensures, c .before .before .three-at .ensures, at-field-at2 .field-at2 .ensures, at-field-at .field-at .ensures, at-byte-at .byte-at .ensures, at-four-at3 .four-at3 .ensures, at-four-at2 .four-at2 .ensures, at-four-at .four-at .ensures)
 
 pub record-right-spec : {M : Type 1} → statement M
 record-right-spec =

@@ -15,24 +15,41 @@ are-numbers-right-requires c κs = tt
 
 returns-2 : tie.Need-returns-2
 returns-2 c =
-    let t = c .before .before .before .before .before .before .before .args .t in
-    sym (listing-numbers t (said-yes (c .before .before .before .before .before .before .is-fresh .ensures) (c .before .before .before .before .before .if1 .left)) (said-no (numbers-is t _ (c .before .are-numbers-right .ensures)) (c .if2 .taken)))
+    let at-if1 = c .before .before .before .before .before in
+    let at-is-fresh = at-if1 .before in
+    let start = at-is-fresh .before in
+    let yes-is-fresh = said-yes (at-is-fresh .is-fresh .ensures) (at-if1 .if1 .left) in
+    let t = start .args .t in
+    sym (listing-numbers t yes-is-fresh (said-no (numbers-is t _ (c .before .are-numbers-right .ensures)) (c .if2 .taken)))
 
 months-listed-requires : tie.Need-months-listed-requires
 months-listed-requires c κs = tt
 
 returns-3 : tie.Need-returns-3
 returns-3 c =
-    let t = c .before .before .before .before .before .before .before .before .before .before .args .t in
-    sym (listing-few t (said-yes (c .before .before .before .before .before .before .before .before .before .is-fresh .ensures) (c .before .before .before .before .before .before .before .before .if1 .left)) (said-yes (numbers-is t _ (c .before .before .before .before .are-numbers-right .ensures)) (c .before .before .before .if2 .left)) _ (c .before .before .months-listed .ensures .0) (c .if3 .taken))
+    let at-if2 = c .before .before .before in
+    let at-are-numbers-right = at-if2 .before in
+    let at-if1 = at-are-numbers-right .before .before .before .before in
+    let at-is-fresh = at-if1 .before in
+    let start = at-is-fresh .before in
+    let yes-is-fresh = said-yes (at-is-fresh .is-fresh .ensures) (at-if1 .if1 .left) in
+    let t = start .args .t in
+    sym (listing-few t yes-is-fresh (said-yes (numbers-is t _ (at-are-numbers-right .are-numbers-right .ensures)) (at-if2 .if2 .left)) _ (c .before .before .months-listed .ensures .0) (c .if3 .taken))
 
 months-before-requires : tie.Need-months-before-requires
 months-before-requires c κs = tt
 
 returns-4 : tie.Need-returns-4
 returns-4 c =
-    let t = c .before .before .before .before .before .before .before .before .before .before .before .before .args .t in
-    listing-rest t (said-yes (c .before .before .before .before .before .before .before .before .before .before .before .is-fresh .ensures) (c .before .before .before .before .before .before .before .before .before .before .if1 .left)) (said-yes (numbers-is t _ (c .before .before .before .before .before .before .are-numbers-right .ensures)) (c .before .before .before .before .before .if2 .left)) _ (c .before .before .before .before .months-listed .ensures .0) _ (c .before .before .if3 .left) (c .months-before .ensures .0)
+    let at-months-listed = c .before .before .before .before in
+    let at-if2 = at-months-listed .before in
+    let at-are-numbers-right = at-if2 .before in
+    let at-if1 = at-are-numbers-right .before .before .before .before in
+    let at-is-fresh = at-if1 .before in
+    let start = at-is-fresh .before in
+    let yes-is-fresh = said-yes (at-is-fresh .is-fresh .ensures) (at-if1 .if1 .left) in
+    let t = start .args .t in
+    listing-rest t yes-is-fresh (said-yes (numbers-is t _ (at-are-numbers-right .are-numbers-right .ensures)) (at-if2 .if2 .left)) _ (at-months-listed .months-listed .ensures .0) _ (c .before .before .if3 .left) (c .months-before .ensures .0)
 
 pub is-listing-sound-spec : {M : Type 1} → statement M
 is-listing-sound-spec =

@@ -23,28 +23,55 @@ is-clean-requires c κs = tt
 
 returns-3 : tie.Need-returns-3
 unfolding sound
-returns-3 c = simp (said-yes (c .before .before .before .before .before .product-right .ensures) (c .before .before .before .before .if1 .left), said-yes (c .before .before .before .is-valid-cover .ensures) (c .before .before .if2 .left), said-no (c .before .is-clean .ensures) (c .if3 .taken))
+returns-3 c =
+    let at-is-valid-cover = c .before .before .before in
+    let at-if1 = at-is-valid-cover .before in
+    let at-product-right = at-if1 .before in
+    simp (said-yes (at-product-right .product-right .ensures) (at-if1 .if1 .left), said-yes (at-is-valid-cover .is-valid-cover .ensures) (c .before .before .if2 .left), said-no (c .before .is-clean .ensures) (c .if3 .taken))
 
 every-week-trades-requires : tie.Need-every-week-trades-requires
 every-week-trades-requires c κs = tt
 
 returns-4 : tie.Need-returns-4
 unfolding sound
-returns-4 c = simp (said-yes (c .before .before .before .before .before .before .before .product-right .ensures) (c .before .before .before .before .before .before .if1 .left), said-yes (c .before .before .before .before .before .is-valid-cover .ensures) (c .before .before .before .before .if2 .left), said-yes (c .before .before .before .is-clean .ensures) (c .before .before .if3 .left), said-no (c .before .every-week-trades .ensures) (c .if4 .taken))
+returns-4 c =
+    let at-is-clean = c .before .before .before in
+    let at-if2 = at-is-clean .before in
+    let at-is-valid-cover = at-if2 .before in
+    let at-if1 = at-is-valid-cover .before in
+    let at-product-right = at-if1 .before in
+    simp (said-yes (at-product-right .product-right .ensures) (at-if1 .if1 .left), said-yes (at-is-valid-cover .is-valid-cover .ensures) (at-if2 .if2 .left), said-yes (at-is-clean .is-clean .ensures) (c .before .before .if3 .left), said-no (c .before .every-week-trades .ensures) (c .if4 .taken))
 
 in-cover-requires : tie.Need-in-cover-requires
 in-cover-requires c κs = tt
 
 returns-5 : tie.Need-returns-5
 unfolding sound
-returns-5 c = simp (said-yes (c .before .before .before .before .before .before .before .before .before .product-right .ensures) (c .before .before .before .before .before .before .before .before .if1 .left), said-yes (c .before .before .before .before .before .before .before .is-valid-cover .ensures) (c .before .before .before .before .before .before .if2 .left), said-yes (c .before .before .before .before .before .is-clean .ensures) (c .before .before .before .before .if3 .left), said-yes (c .before .before .before .every-week-trades .ensures) (c .before .before .if4 .left), said-no (c .before .in-cover .ensures) (c .if5 .taken))
+returns-5 c =
+    let at-every-week-trades = c .before .before .before in
+    let at-if3 = at-every-week-trades .before in
+    let at-is-clean = at-if3 .before in
+    let at-if2 = at-is-clean .before in
+    let at-is-valid-cover = at-if2 .before in
+    let at-if1 = at-is-valid-cover .before in
+    let at-product-right = at-if1 .before in
+    simp (said-yes (at-product-right .product-right .ensures) (at-if1 .if1 .left), said-yes (at-is-valid-cover .is-valid-cover .ensures) (at-if2 .if2 .left), said-yes (at-is-clean .is-clean .ensures) (at-if3 .if3 .left), said-yes (at-every-week-trades .every-week-trades .ensures) (c .before .before .if4 .left), said-no (c .before .in-cover .ensures) (c .if5 .taken))
 
 is-listing-sound-requires : tie.Need-is-listing-sound-requires
 is-listing-sound-requires c κs = tt
 
 returns-6 : tie.Need-returns-6
 unfolding sound
-returns-6 c = simp (said-yes (c .before .before .before .before .before .before .before .before .before .before .product-right .ensures) (c .before .before .before .before .before .before .before .before .before .if1 .left), said-yes (c .before .before .before .before .before .before .before .before .is-valid-cover .ensures) (c .before .before .before .before .before .before .before .if2 .left), said-yes (c .before .before .before .before .before .before .is-clean .ensures) (c .before .before .before .before .before .if3 .left), said-yes (c .before .before .before .before .every-week-trades .ensures) (c .before .before .before .if4 .left), said-yes (c .before .before .in-cover .ensures) (c .before .if5 .left), c .is-listing-sound .ensures)
+returns-6 c =
+    let at-if4 = c .before .before .before in
+    let at-every-week-trades = at-if4 .before in
+    let at-if3 = at-every-week-trades .before in
+    let at-is-clean = at-if3 .before in
+    let at-if2 = at-is-clean .before in
+    let at-is-valid-cover = at-if2 .before in
+    let at-if1 = at-is-valid-cover .before in
+    let at-product-right = at-if1 .before in
+    simp (said-yes (at-product-right .product-right .ensures) (at-if1 .if1 .left), said-yes (at-is-valid-cover .is-valid-cover .ensures) (at-if2 .if2 .left), said-yes (at-is-clean .is-clean .ensures) (at-if3 .if3 .left), said-yes (at-every-week-trades .every-week-trades .ensures) (at-if4 .if4 .left), said-yes (c .before .before .in-cover .ensures) (c .before .if5 .left), c .is-listing-sound .ensures)
 
 pub is-sound-spec : {M : Type 1} → statement M
 is-sound-spec =

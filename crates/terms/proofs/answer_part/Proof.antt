@@ -31,19 +31,31 @@ make-room-requires : tie.Need-make-room-requires Inv-loop μ-loop
 make-room-requires c κs = tt
 
 same-length : tie.Need-same-length Inv-loop μ-loop
-same-length c = c .before .before .before .before .before .before .before .before .answer .ensures .1 .long ∙ c .before .before .before .before .before .before .before .before .before .before .before .before .before .before .loop .inv .0
+same-length c =
+    let at-answer = c .before .before .before .before .before .before .before .before in
+    let at-loop = at-answer .before .before .before .before .before .before in
+    at-answer .answer .ensures .1 .long ∙ at-loop .loop .inv .0
 
 returns : tie.Need-returns Inv-loop μ-loop
 returns c = search needs
 
 add-from : tie.Need-add-from Inv-loop μ-loop
-add-from c = omega (arith, c .before .before .before .before .before .before .before .before .before .before .before .before .line-end .ensures .1, c .before .before .before .before .before .before .before .before .before .before .if1 .left, c .before .before .before .before .before .before .before .before .before .before .before .before .before .before .before .before .before .before .before .before .good .1 .1 .0 .0)
+add-from c =
+    let at-if1 = c .before .before .before .before .before .before .before .before .before .before in
+    let at-line-end = at-if1 .before .before in
+    let start = at-line-end .before .before .before .before .before .before .before .before in
+    omega (arith, at-line-end .line-end .ensures .1, at-if1 .if1 .left, start .good .1 .1 .0 .0)
 
 loop-less : tie.Need-loop-less Inv-loop μ-loop
 loop-less c = search needs
 
 loop-again : tie.Need-loop-again Inv-loop μ-loop
-loop-again c = (c .before .before .before .before .before .before .before .before .answer .ensures .1 .long ∙ c .before .before .before .before .before .before .before .before .before .before .before .before .before .before .loop .inv .0, omega (arith, c .before .before .before .before .before .before .before .before .before .before .before .before .line-end .ensures .1, c .before .before .before .before .before .before .before .before .before .before .if1 .left))
+loop-again c =
+    let at-answer = c .before .before .before .before .before .before .before .before in
+    let at-if1 = at-answer .before .before in
+    let at-line-end = at-if1 .before .before in
+    let at-loop = at-line-end .before .before in
+    (at-answer .answer .ensures .1 .long ∙ at-loop .loop .inv .0, omega (arith, at-line-end .line-end .ensures .1, at-if1 .if1 .left))
 
 write-out-requires : tie.Need-write-out-requires Inv-loop μ-loop
 write-out-requires c κs = tt

@@ -54,7 +54,9 @@ loop-less : tie.Need-loop-less Inv-loop μ-loop
 loop-less c = search needs
 
 loop-again : tie.Need-loop-again Inv-loop μ-loop
-loop-again c = (c .before .before .before .before .before .before .before .part2 .given, c .before .before .out2 .given)
+loop-again c =
+    let at-part2 = c .before .before .before .before .before .before .before in
+    (at-part2 .part2 .given, c .before .before .out2 .given)
 
 slice-aggregate-answer-rest : tie.Need-slice-aggregate-answer-rest Inv-loop μ-loop
 slice-aggregate-answer-rest c = search needs

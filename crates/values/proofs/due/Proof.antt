@@ -30,7 +30,14 @@ no-day-requires-3 : tie.Need-no-day-requires-3
 no-day-requires-3 c κs = tt
 
 returns-3 : tie.Need-returns-3
-returns-3 c = c .no-day3 .ensures ∙ sym (due-14 _ _ (said-yes (c .before .before .before .before .before .before .is-sound .ensures) (c .before .before .before .before .before .if1 .left)) (said-yes (c .before .before .before .before .in-cover .ensures) (c .before .before .before .if2 .left)) (said-no (c .before .before .is-trading-day .ensures) (c .before .if3 .taken)))
+returns-3 c =
+    let at-if2 = c .before .before .before in
+    let at-in-cover = at-if2 .before in
+    let at-if1 = at-in-cover .before in
+    let at-is-sound = at-if1 .before in
+    let yes-is-sound = said-yes (at-is-sound .is-sound .ensures) (at-if1 .if1 .left) in
+    let yes-in-cover = said-yes (at-in-cover .in-cover .ensures) (at-if2 .if2 .left) in
+    c .no-day3 .ensures ∙ sym (due-14 _ _ yes-is-sound yes-in-cover (said-no (c .before .before .is-trading-day .ensures) (c .before .if3 .taken)))
 
 settlement-days-requires : tie.Need-settlement-days-requires
 settlement-days-requires c κs = tt
@@ -48,10 +55,33 @@ no-day-requires-4 : tie.Need-no-day-requires-4
 no-day-requires-4 c κs = tt
 
 returns-4 : tie.Need-returns-4
-returns-4 c = c .no-day4 .ensures ∙ sym (due-17 _ _ (said-yes (c .before .before .before .before .before .before .before .before .before .before .before .before .is-sound .ensures) (c .before .before .before .before .before .before .before .before .before .before .before .if1 .left)) (said-yes (c .before .before .before .before .before .before .before .before .before .before .in-cover .ensures) (c .before .before .before .before .before .before .before .before .before .if2 .left)) (said-yes (c .before .before .before .before .before .before .before .before .is-trading-day .ensures) (c .before .before .before .before .before .before .before .if3 .left)) _ (due-is _ _ _ _ (c .before .before .before .before .settlement-days .ensures) (c .before .before .before .nth-trading-day .ensures)) (said-no (c .before .before .in-cover2 .ensures) (c .before .if4 .taken)))
+returns-4 c =
+    let at-nth-trading-day = c .before .before .before in
+    let at-settlement-days = at-nth-trading-day .before in
+    let at-if3 = at-settlement-days .before .before .before in
+    let at-is-trading-day = at-if3 .before in
+    let at-if2 = at-is-trading-day .before in
+    let at-in-cover = at-if2 .before in
+    let at-if1 = at-in-cover .before in
+    let at-is-sound = at-if1 .before in
+    let yes-is-sound = said-yes (at-is-sound .is-sound .ensures) (at-if1 .if1 .left) in
+    let yes-in-cover = said-yes (at-in-cover .in-cover .ensures) (at-if2 .if2 .left) in
+    let yes-is-trading-day = said-yes (at-is-trading-day .is-trading-day .ensures) (at-if3 .if3 .left) in
+    c .no-day4 .ensures ∙ sym (due-17 _ _ yes-is-sound yes-in-cover yes-is-trading-day _ (due-is _ _ _ _ (at-settlement-days .settlement-days .ensures) (at-nth-trading-day .nth-trading-day .ensures)) (said-no (c .before .before .in-cover2 .ensures) (c .before .if4 .taken)))
 
 returns-5 : tie.Need-returns-5
-returns-5 c = sym (due-yes _ _ (said-yes (c .before .before .before .before .before .before .before .before .before .before .before .is-sound .ensures) (c .before .before .before .before .before .before .before .before .before .before .if1 .left)) (said-yes (c .before .before .before .before .before .before .before .before .before .in-cover .ensures) (c .before .before .before .before .before .before .before .before .if2 .left)) (said-yes (c .before .before .before .before .before .before .before .is-trading-day .ensures) (c .before .before .before .before .before .before .if3 .left)) _ (due-is _ _ _ _ (c .before .before .before .settlement-days .ensures) (c .before .before .nth-trading-day .ensures)) (said-yes (c .before .in-cover2 .ensures) (c .if4 .left)))
+returns-5 c =
+    let at-settlement-days = c .before .before .before in
+    let at-if3 = at-settlement-days .before .before .before in
+    let at-is-trading-day = at-if3 .before in
+    let at-if2 = at-is-trading-day .before in
+    let at-in-cover = at-if2 .before in
+    let at-if1 = at-in-cover .before in
+    let at-is-sound = at-if1 .before in
+    let yes-is-sound = said-yes (at-is-sound .is-sound .ensures) (at-if1 .if1 .left) in
+    let yes-in-cover = said-yes (at-in-cover .in-cover .ensures) (at-if2 .if2 .left) in
+    let yes-is-trading-day = said-yes (at-is-trading-day .is-trading-day .ensures) (at-if3 .if3 .left) in
+    sym (due-yes _ _ yes-is-sound yes-in-cover yes-is-trading-day _ (due-is _ _ _ _ (at-settlement-days .settlement-days .ensures) (c .before .before .nth-trading-day .ensures)) (said-yes (c .before .in-cover2 .ensures) (c .if4 .left)))
 
 pub due-spec : {M : Type 1} → statement M
 due-spec =

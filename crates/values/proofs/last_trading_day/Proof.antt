@@ -26,7 +26,14 @@ last-trading-day-requires : tie.Need-last-trading-day-requires
 last-trading-day-requires c κs = tt
 
 returns-3 : tie.Need-returns-3
-returns-3 c = sym (last-day-yes _ _ (said-yes (c .before .before .before .before .before .before .is-sound .ensures) (c .before .before .before .before .before .if1 .left)) (said-yes (c .before .before .before .before .is-month-listed .ensures) (c .before .before .before .if2 .left)) _ (c .last-trading-day .ensures))
+returns-3 c =
+    let at-if2 = c .before .before .before in
+    let at-is-month-listed = at-if2 .before in
+    let at-if1 = at-is-month-listed .before in
+    let at-is-sound = at-if1 .before in
+    let yes-is-sound = said-yes (at-is-sound .is-sound .ensures) (at-if1 .if1 .left) in
+    let yes-is-month-listed = said-yes (at-is-month-listed .is-month-listed .ensures) (at-if2 .if2 .left) in
+    sym (last-day-yes _ _ yes-is-sound yes-is-month-listed _ (c .last-trading-day .ensures))
 
 pub last-trading-day-spec : {M : Type 1} → statement M
 last-trading-day-spec =

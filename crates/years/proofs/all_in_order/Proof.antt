@@ -29,9 +29,11 @@ loop-holds c = (omega arith, every-none _)
 
 in-order-requires : tie.Need-in-order-requires Inv-loop μ-loop
 in-order-requires c κs =
-    let p = c .before .before .before .before .before .pre in
+    let at-block-at = c .before .before .before in
+    let start = at-block-at .before .before in
+    let p = start .pre in
     let n = c .before .before .number-at .ensures in
-    (p .0, p .1, n .0 ∙ ap (λ (b : List ℕ). numberAt b 2) (c .before .before .before .block-at .ensures .0), n .1)
+    (p .0, p .1, n .0 ∙ ap (λ (b : List ℕ). numberAt b 2) (at-block-at .block-at .ensures .0), n .1)
 
 returns : tie.Need-returns Inv-loop μ-loop
 returns c = sym (every-not _ _ _ (said-no (c .before .in-order .ensures) (c .if1 .taken)) (omega arith))
@@ -47,7 +49,8 @@ loop-again c = (omega arith, every-more _ _ (c .before .before .before .loop .in
 
 returns-2 : tie.Need-returns-2 Inv-loop μ-loop
 returns-2 c =
-    let e : c .before .loop .k ≡ blockCount (now (c .before .before .before .before .before .args .file)) = omega arith in
+    let start = c .before .before .before .before .before in
+    let e : c .before .loop .k ≡ blockCount (now (start .args .file)) = omega arith in
     sym (rw e at (c .before .loop .inv .1))
 
 pub all-in-order-spec : {M : Type 1} → statement M

@@ -19,7 +19,10 @@ add-result c = search needs
 
 returns : tie.Need-returns
 unfolding inOrder
-returns c = simp (← c .before .before .before .before .before .pre .0, lt-ltb _ _ (c .before .if1 .taken), c .number-at .ensures .0, c .before .before .byte-at .ensures, c .before .before .before .block-at .ensures .0, c .before .before .before .before .before .pre .2)
+returns c =
+    let at-block-at = c .before .before .before in
+    let start = at-block-at .before .before in
+    simp (← start .pre .0, lt-ltb _ _ (c .before .if1 .taken), c .number-at .ensures .0, c .before .before .byte-at .ensures, at-block-at .block-at .ensures .0, start .pre .2)
 
 returns-2 : tie.Need-returns-2
 unfolding inOrder

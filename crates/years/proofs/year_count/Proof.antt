@@ -39,8 +39,10 @@ loop-less c = omega arith
 
 loop-again : tie.Need-loop-again Inv-loop μ-loop
 loop-again c =
-    let l = c .before .before .before .before .loop in
-    let f = now (c .before .before .before .before .before .before .args .file) in
+    let at-loop = c .before .before .before .before in
+    let start = at-loop .before .before in
+    let l = at-loop .loop in
+    let f = now (start .args .file) in
     let test : ℕ → Bool = λ n. isCalendar (blockOf f n) in
     let e : c .before .byte-at .result ≡ getD (blockOf f (l .k)) 0 0 = c .before .byte-at .ensures ∙ ap (λ (b : List ℕ). getD b 0 0) (c .before .before .block-at .ensures .0) in
     ⊎-elim
