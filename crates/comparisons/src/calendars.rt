@@ -39,7 +39,7 @@ fn closing_lines(cal: Calendar, from: u16, to: u16, step: u16)
     while day <= to {
         start_line(b'X');
         put(day);
-        put_answer(closures::trades_with_closed(cal, day));
+        put_answer(calendar_questions::trades_with_closed(cal, day));
         end_line();
         day += step;
     }
@@ -52,8 +52,8 @@ fn header(cal: Calendar, index: u16) {
     put(cover.first_year);
     put(cover.years);
     put_answer(calendar::is_valid_cover(cover));
-    put_answer(closures::is_clean(cal));
-    put_answer(closures::every_week_trades(cal));
+    put_answer(calendar_questions::is_clean(cal));
+    put_answer(calendar_questions::every_week_trades(cal));
     end_line();
 }
 

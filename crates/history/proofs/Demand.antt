@@ -18,7 +18,7 @@ use Rattle.listing.proofs.Lawful.{Lawful, key-of, day-past}
 use Rattle.listing.proofs.Monthly.{monthly-lawful, monthly-most}
 use Rattle.table.specs.declared.Table.{Table}
 use Rattle.table.specs.declared.Outcome.{Outcome}
-use Rattle.numbers.specs.Numbering.{isListed, numberOf}
+use Rattle.places.specs.Numbering.{isListed, numberOf}
 use Rattle.table.specs.Table.{freshOf, held, sound, openedTable}
 use Rattle.history.specs.Book.{Call, Book, bookOpened, bookAfter, bookRun, bookReplies}
 use Rattle.history.specs.History.{tableCall, tableRun, tableReplies, calendarWith, dateWith, opens, unnumbered, Demand3}

@@ -17,7 +17,7 @@ use Rattle.listing.specs.Rules.{Rule, dayOf, front, freshKeys, maturity}
 use Rattle.listing.proofs.Walks.{bit, sift}
 use Rattle.listing.proofs.Places.{before-none}
 use Rattle.listing.proofs.Lawful.{Lawful, inListing, front-most, fresh-is, key-of, keys-stay}
-use Rattle.numbers.specs.Numbering.{isListed, numberOf, missing, renumbered}
+use Rattle.places.specs.Numbering.{isListed, numberOf, missing, renumbered}
 use Rattle.table.specs.Table.{countFrom, monthsBefore}
 use Rattle.history.proofs.Counting.{count-add, count-most, count-window, count-balance, count-less, length-sift}
 use Rattle.history.proofs.Numbers.{mat, but, next, months-of, number-of, listed-is, missing-is, one-sift, renumbered-is, Numbers, next-keeps, next-numbers}

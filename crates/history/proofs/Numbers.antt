@@ -13,7 +13,7 @@ use Rattle.questions.specs.Search.{oneOf}
 use Rattle.questions.proofs.Bools.{clash, both, or-left, or-right, or-either, same-test}
 use Rattle.listing.specs.declared.Maturity.{Maturity}
 use Rattle.listing.proofs.Walks.{bit, put, sift}
-use Rattle.numbers.specs.Numbering.{isListed, numberOf, missing, renumbered}
+use Rattle.places.specs.Numbering.{isListed, numberOf, missing, renumbered}
 use Rattle.table.specs.Table.{countFrom}
 use Rattle.history.proofs.Counting.{count-end, count-zero, count-before}
 

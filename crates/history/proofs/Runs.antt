@@ -18,7 +18,7 @@ use Rattle.listing.specs.Rules.{Rule, front}
 use Rattle.listing.specs.Months.{ruleOf}
 use Rattle.listing.proofs.Lawful.{Lawful}
 use Rattle.listing.proofs.Monthly.{monthly-lawful, monthly-begins}
-use Rattle.numbers.specs.Numbering.{missing, renumbered}
+use Rattle.places.specs.Numbering.{missing, renumbered}
 use Rattle.history.specs.Book.{Call, Book, calendarAfter, dateAfter, bookOpened, bookAsks, bookMoved, bookAfter, bookRun}
 use Rattle.history.proofs.Numbers.{one-append}
 use Rattle.history.proofs.Moves.{fresh, Numbered, numbersNext, numbersFirst, Moved, moves, first-length, first-numbered}

@@ -21,7 +21,7 @@ use Rattle.listing.specs.Months.{ruleOf}
 use Rattle.listing.proofs.Lawful.{Lawful, complete-length, keys-rise}
 use Rattle.listing.proofs.Monthly.{monthly-lawful, monthly-room, monthly-begins, monthly-most}
 use Rattle.table.specs.declared.Table.{Table}
-use Rattle.numbers.specs.Numbering.{isListed, numberOf, sameMaturity, numbersRight}
+use Rattle.places.specs.Numbering.{isListed, numberOf, sameMaturity, numbersRight}
 use Rattle.table.specs.Table.{placesUsed, held, listsFresh, monthsBefore, sound, moved, refusedWith, answered, rollCall, closeCall}
 use Rattle.history.specs.Book.{Call, roll, close, Book, calendarAfter, dateAfter, bookAsks}
 use Rattle.history.specs.History.{tableCall}

@@ -24,7 +24,7 @@ use Rattle.listing.proofs.Walks.{sift-at}
 use Rattle.listing.proofs.Lawful.{Lawful, fresh-is, complete-length, keys-rise}
 use Rattle.listing.proofs.Monthly.{monthly-lawful}
 use Rattle.table.specs.declared.Table.{Table}
-use Rattle.numbers.specs.Numbering.{sameMaturity, numbersRight}
+use Rattle.places.specs.Numbering.{sameMaturity, numbersRight}
 use Rattle.table.specs.Table.{allInCover, held, listsFresh, monthsBefore, sound}
 use Rattle.history.specs.History.{opens}
 use Rattle.history.proofs.Numbers.{mat}

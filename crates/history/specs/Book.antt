@@ -10,7 +10,7 @@ use Rattle.calendar.specs.declared.Calendar.{Calendar}
 use Rattle.calendar.specs.Trading.{inCover, tradingDay, everyWeek, closeDay}
 use Rattle.product.specs.declared.Kind.{Kind}
 use Rattle.listing.specs.declared.Maturity.{Maturity}
-use Rattle.numbers.specs.Numbering.{missing, renumbered, numberedFresh}
+use Rattle.places.specs.Numbering.{missing, renumbered, numberedFresh}
 use Rattle.table.specs.Table.{freshOf, allInCover}
 
 -- a call of the list, with its argument

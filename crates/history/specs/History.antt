@@ -17,7 +17,7 @@ use Rattle.listing.specs.Rules.{places15}
 use Rattle.expiry.specs.LastDays.{lastTradingDay}
 use Rattle.table.specs.declared.Table.{Table}
 use Rattle.table.specs.declared.Outcome.{Outcome}
-use Rattle.numbers.specs.Numbering.{isListed, numberOf, withNumber}
+use Rattle.places.specs.Numbering.{isListed, numberOf, withNumber}
 use Rattle.table.specs.Table.{freshOf, allInCover, held, sound, rollCall, closeCall, openedTable}
 use Rattle.history.specs.Book.{Call, roll, close, Reply, calendarAfter, dateAfter, bookOpened, bookRun, bookReplies}
 

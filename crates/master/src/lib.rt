@@ -47,7 +47,8 @@ fn calendars_clean(file: &[u8]) -> bool
     requires { ⌜ orderRight (now file) ≡ true ⌝ }
     ensures { λ r. ⌜ r ≡ calendarsClean (now (file .entry)) ⌝ }
 {
-    closures::is_clean(years::calendar_of(file)) & years::tails_zero(file, years::year_count(file))
+    calendar_questions::is_clean(years::calendar_of(file))
+        & years::tails_zero(file, years::year_count(file))
 }
 
 // The number of the first of questions 1 to 8 answered no, 0 where there is none.

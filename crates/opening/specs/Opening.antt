@@ -14,7 +14,7 @@ use Rattle.years.specs.Calendars.{calendarOf}
 use Rattle.master.specs.Load.{loadAsks, found, productOf}
 use Rattle.table.specs.declared.Table.{Table}
 use Rattle.table.specs.declared.Outcome.{Outcome}
-use Rattle.numbers.specs.Numbering.{numberedFresh}
+use Rattle.places.specs.Numbering.{numberedFresh}
 use Rattle.table.specs.Table.{freshOf, allInCover, answered}
 
 -- 'a table of zeros'; kind 0 is a future

@@ -13,7 +13,7 @@ ghost use Prim.Native.Nat.{_≤_};
 ghost use lib.ListN.{length, take};
 ghost use Rattle.listing.specs.Rules.{places15};
 ghost use Rattle.listing.specs.Months.{placesOf, rowOf, monthSets};
-ghost use Rattle.numbers.specs.Numbering.{numberedFresh};
+ghost use Rattle.places.specs.Numbering.{numberedFresh};
 ghost use Rattle.opening.specs.Opening.{zeroTable, openedWith, openCall};
 
 // A table of zeros.

@@ -10,7 +10,7 @@ use Rattle.days.specs.Gregorian.{monthYear, monthName}
 use Rattle.days.specs.Dates.{dateCall}
 use Rattle.listing.specs.declared.Maturity.{Maturity}
 use Rattle.listing.specs.Rules.{unused}
-use Rattle.numbers.specs.Numbering.{placesOfKind}
+use Rattle.places.specs.Numbering.{placesOfKind}
 use Rattle.table.specs.declared.Outcome.{Outcome}
 
 -- the last decimal digit of a number, in ASCII

@@ -26,7 +26,7 @@ use Rattle.listing.proofs.Taking.{rest, rest-room}
 use Rattle.listing.proofs.Fresh.{front-is}
 use Rattle.table.specs.declared.Table.{Table}
 use Rattle.table.specs.declared.Outcome.{Outcome}
-use Rattle.numbers.specs.Numbering.{placesOfKind, isListed, placeRight, numbersRight}
+use Rattle.places.specs.Numbering.{placesOfKind, isListed, placeRight, numbersRight}
 use Rattle.table.specs.Table.{freshOf, allInCover, placesUsed, held, listsFresh, countFrom, monthsBefore, listingSound, sound, movedTo, moved, refusedWith, answered, rollAsks, rollCall, closeAsks, closeCall}
 
 -- every month is counted

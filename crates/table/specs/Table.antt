@@ -17,7 +17,7 @@ use Rattle.listing.specs.Rules.{Rule, front, freshKeys, complete, maturity, pla
 use Rattle.listing.specs.Months.{ruleOf}
 use Rattle.table.specs.declared.Table.{Table}
 use Rattle.table.specs.declared.Outcome.{Outcome}
-use Rattle.numbers.specs.Numbering.{missing, renumbered, numberedFresh, placeRight, numbersRight}
+use Rattle.places.specs.Numbering.{missing, renumbered, numberedFresh, placeRight, numbersRight}
 
 -- the fresh listing of a product's kind and group, under a calendar, on a date
 abbrev pub freshOf : Calendar → Kind → List ℕ → ℕ → List Maturity

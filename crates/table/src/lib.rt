@@ -6,7 +6,7 @@ ghost use mathlib.Core.Path.{_≡_};
 ghost use mathlib.Core.Bool.{_&&_, cond};
 ghost use Prim.Native.Nat.{_≤_};
 ghost use lib.ListN.{take};
-ghost use Rattle.numbers.specs.Numbering.{isListed};
+ghost use Rattle.places.specs.Numbering.{isListed};
 ghost use Rattle.table.specs.Table.{allInCover, placesUsed, held, listsFresh, listingSound, sound, movedTo, moved, refusedWith, rollCall, closeCall};
 
 // A product, its calendar, a date, up to 15 maturities by rising month, and the count of numbers given.
@@ -39,7 +39,7 @@ fn is_fresh(t: Table) -> bool
         return false;
     }
     let fresh = l.maturities;
-    numbers::are_places_right(maturities, fresh, kind)
+    places::are_places_right(maturities, fresh, kind)
 }
 
 // What question 10 says of the maturities.
@@ -53,7 +53,7 @@ fn is_listing_sound(t: Table) -> bool
     let kind = p.kind;
     let group = p.group;
     let maturities = t.maturities;
-    if !numbers::are_numbers_right(maturities, kind, t.given) {
+    if !places::are_numbers_right(maturities, kind, t.given) {
         return false;
     }
     let n = listing::months_listed(kind);
@@ -73,10 +73,10 @@ pub fn is_sound(t: Table) -> bool
     if !calendar::is_valid_cover(t.calendar.cover) {
         return false;
     }
-    if !closures::is_clean(t.calendar) {
+    if !calendar_questions::is_clean(t.calendar) {
         return false;
     }
-    if !closures::every_week_trades(t.calendar) {
+    if !calendar_questions::every_week_trades(t.calendar) {
         return false;
     }
     if !calendar::in_cover(t.calendar.cover, t.date) {
@@ -92,7 +92,7 @@ pub fn is_month_listed(t: Table, month: u16) -> bool
     let p = t.product;
     let kind = p.kind;
     let maturities = t.maturities;
-    numbers::is_listed(maturities, kind, month)
+    places::is_listed(maturities, kind, month)
 }
 
 // The same table with the number of a question and counts 0 and 0.
@@ -115,9 +115,9 @@ fn moved_to(t: Table, cal: Calendar, date: u16, fresh: [Maturity; 15]) -> Outcom
     let p = t.product;
     let kind = p.kind;
     let old = t.maturities;
-    let entered = numbers::count_missing(fresh, old, kind);
-    let left = numbers::count_missing(old, fresh, kind);
-    let maturities = numbers::renumber(old, fresh, kind, t.given);
+    let entered = places::count_missing(fresh, old, kind);
+    let left = places::count_missing(old, fresh, kind);
+    let maturities = places::renumber(old, fresh, kind, t.given);
     let table = Table {
         product: p,
         calendar: cal,
@@ -183,7 +183,7 @@ impl Table {
             return refused(self, 14);
         }
         let cal = calendar::close_day(self.calendar, day);
-        if !closures::every_week_trades(cal) {
+        if !calendar_questions::every_week_trades(cal) {
             return refused(self, 15);
         }
         relisted(self, cal, self.date)

@@ -9,7 +9,7 @@ use Rattle.calendar.specs.Trading.{inCover, tradingDay, nthTradingDay}
 use Rattle.product.specs.Settlement.{settlementDays}
 use Rattle.expiry.specs.LastDays.{lastTradingDay}
 use Rattle.table.specs.declared.Table.{Table}
-use Rattle.numbers.specs.Numbering.{isListed}
+use Rattle.places.specs.Numbering.{isListed}
 use Rattle.table.specs.Table.{held, sound}
 use Rattle.values.specs.Values.{noDay, lastDayAsks, lastDayCall, dueDay, dueAsks, dueCall}
 

@@ -8,7 +8,7 @@ use Rattle.product.specs.Settlement.{settlementDays}
 use Rattle.expiry.specs.LastDays.{lastTradingDay}
 use Rattle.table.specs.declared.Table.{Table}
 use Rattle.values.specs.declared.DayReply.{DayReply}
-use Rattle.numbers.specs.Numbering.{isListed}
+use Rattle.places.specs.Numbering.{isListed}
 use Rattle.table.specs.Table.{held, sound}
 
 -- 'returns the number of the first answered no', and the value, of a reply with a day

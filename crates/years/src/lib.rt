@@ -137,5 +137,5 @@ pub fn tails_zero(file: &[u8], years: usize) -> bool
 pub fn weeks_right(file: &[u8]) -> bool
     ensures { λ r. ⌜ r ≡ weeksRight (now (file .entry)) ⌝ }
 {
-    closures::every_week_trades(calendar_of(file))
+    calendar_questions::every_week_trades(calendar_of(file))
 }

@@ -1,0 +1,25 @@
+use Prim.Native.Nat.{_-_}
+use borrow.Author.Needs.{needs}
+use borrow.Author.Tests.{le-leb, lt-leb}
+use Rattle.places.proofs.renumber.Statement.{statement}
+use Rattle.places.proofs.renumber.Tie as tie
+
+returns : tie.Need-returns
+returns c = rw (lt-leb _ _ (c .if1 .taken))
+
+months-listed-requires : tie.Need-months-listed-requires
+months-listed-requires c κs = tt
+
+cast-n : tie.Need-cast-n
+cast-n c = search needs
+
+number-fresh-requires : tie.Need-number-fresh-requires
+number-fresh-requires c κs = search needs
+
+returns-2 : tie.Need-returns-2
+returns-2 c = rw (le-leb _ _ (c .before .before .if1 .left), ← c .before .months-listed .ensures .0) (c .number-fresh .ensures)
+
+pub renumber-spec : {M : Type 1} → statement M
+renumber-spec =
+    tie.close
+    (tie.spec returns months-listed-requires cast-n number-fresh-requires returns-2)
