@@ -1,7 +1,7 @@
 -- Question 5 byte by byte: a byte of zero is clean, and the bits of the bytes are the slots.
 -- Assumes nothing.
 use mathlib.Core.Path.{_≡_, _∙_, ap}
-use mathlib.Core.Bool.{true, false}
+use mathlib.Core.Bool.{Bool, true, false, not, _||_}
 use Prim.Native.Nat.{ℕ, _+_, _-_, _*_, _/_, _%_, _^_, _<_}
 use native.Mathlib.Nat.{zero-div}
 use native.Mathlib.Omega.{arith}
@@ -10,8 +10,16 @@ use Rattle.questions.specs.Search.{every}
 use Rattle.questions.proofs.Search.{every-at, every-all, every-add, every-one, every-not}
 use Rattle.calendar.specs.declared.Cover.{Cover}
 use Rattle.calendar.specs.declared.Calendar.{Calendar}
-use Rattle.calendar.specs.Bits.{bitAt}
-use Rattle.calendar.specs.Trading.{cleanBit, cleanByte, cleanSlot}
+use Rattle.calendar.specs.Bits.{byteBit, bitAt}
+use Rattle.calendar.specs.Trading.{mayBeClosed, cleanSlot}
+
+-- 5, of bit j of byte number `at` of the maps: it is 0, or may be 1
+abbrev pub cleanBit : Cover → ℕ → ℕ → ℕ → Bool
+cleanBit c at byte j = not (byteBit byte j) || mayBeClosed c (8 * at + j)
+
+-- 5, of byte number `at` of the maps
+unfoldable pub cleanByte : Cover → ℕ → ℕ → Bool
+cleanByte c at byte = every 8 (cleanBit c at byte)
 
 pub zero-clean : (c : Cover) (at : ℕ) → cleanByte c at 0 ≡ true
 unfolding cleanByte

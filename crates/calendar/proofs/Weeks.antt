@@ -46,49 +46,49 @@ abbrev week : (ℕ → Bool) → ℕ → ℕ → Bool
 week f s k = some 7 (λ i. f (s + k + i))
 
 -- the loop's state: every week that begins at s or later and before `first` holds a day that passes, and of the week from `first` on the days after d do not pass
-pub record Held (f : ℕ → Bool) (s e first d : ℕ) : Type 0 where
+pub record Passed (f : ℕ → Bool) (s e first d : ℕ) : Type 0 where
   pub from : s ≤ first
   pub to : first ≤ e
   pub near : first ≤ d
   pub within : d ≤ first + 6
-  pub held : (k : ℕ) → s + k < first → week f s k ≡ true
+  pub passed : (k : ℕ) → s + k < first → week f s k ≡ true
   pub idle : (x : ℕ) → d < x → x ≤ first + 6 → f x ≡ false
 
 module _ (f : ℕ → Bool) (s e : ℕ) where
-  pub held-start : s ≤ e → Held f s e s (s + 6)
-  held-start h =
+  pub passed-start : s ≤ e → Passed f s e s (s + 6)
+  passed-start h =
       record {
         from = le-refl s;
         to = h;
         near = omega arith;
         within = le-refl (s + 6);
-        held = λ k l. absurd (omega arith);
+        passed = λ k l. absurd (omega arith);
         idle = λ x a b. absurd (omega arith);
       }
 
-  module _ (first d : ℕ) (h : Held f s e first d) (l : first + 7 ≤ e) where
+  module _ (first d : ℕ) (h : Passed f s e first d) (l : first + 7 ≤ e) where
     -- the day passes: it is in the weeks that begin up to it
-    passing : f d ≡ true → Held f s e (d + 1) (d + 7)
+    passing : f d ≡ true → Passed f s e (d + 1) (d + 7)
     passing t =
         record {
           from = omega (arith, h .from, h .near);
           to = omega (arith, h .within);
           near = omega arith;
           within = omega arith;
-          held = λ k b. side k b (lt-or-ge (s + k) first);
+          passed = λ k b. side k b (lt-or-ge (s + k) first);
           idle = λ x a b. absurd (omega arith);
         }
       where
         side : (k : ℕ) → s + k < d + 1 → (s + k < first) ⊎ (first ≤ s + k) → week f s k ≡ true
-        side k b (inl r) = h .held k r
+        side k b (inl r) = h .passed k r
         side k b (inr r) =
             let at : s + k + (d - (s + k)) ≡ d = omega arith in
             some-at (λ i. f (s + k + i)) 7 (d - (s + k)) (ap f at ∙ t) (omega (arith, h .within))
 
     -- the day does not pass, and is not the week's first
-    failing : f d ≡ false → (d ≡ first → ⊥) → Held f s e first (d - 1)
+    failing : f d ≡ false → (d ≡ first → ⊥) → Passed f s e first (d - 1)
     failing t n =
-        record { from = h .from; to = h .to; near = omega (arith, h .near); within = omega (arith, h .within); held = h .held; idle = λ x a b. side x b (eq-or-lt-of-le (later x a)) }
+        record { from = h .from; to = h .to; near = omega (arith, h .near); within = omega (arith, h .within); passed = h .passed; idle = λ x a b. side x b (eq-or-lt-of-le (later x a)) }
       where
         later : (x : ℕ) → d - 1 < x → d ≤ x
         later x a = omega arith
@@ -97,21 +97,21 @@ module _ (f : ℕ → Bool) (s e : ℕ) where
         side x b (inl q) = ap f (sym q) ∙ t
         side x b (inr q) = h .idle x q b
 
-    pub held-step : (b : Bool) → b ≡ f d → (b ≡ false → d ≡ first → ⊥) → Held f s e (cond b (d + 1) first) (cond b (d + 7) (d - 1))
-    held-step true q n = passing (sym q)
-    held-step false q n = failing (sym q) (n refl)
+    pub passed-step : (b : Bool) → b ≡ f d → (b ≡ false → d ≡ first → ⊥) → Passed f s e (cond b (d + 1) first) (cond b (d + 7) (d - 1))
+    passed-step true q n = passing (sym q)
+    passed-step false q n = failing (sym q) (n refl)
 
     -- the loop ends: what is left gets less
-    pub held-less : (b : Bool) → (b ≡ false → d ≡ first → ⊥) → 8 * (e - cond b (d + 1) first) + (cond b (d + 7) (d - 1) - cond b (d + 1) first) < 8 * (e - first) + (d - first)
-    held-less true n = omega (arith, h .near, h .within)
-    held-less false n = unlike (n refl)
+    pub passed-less : (b : Bool) → (b ≡ false → d ≡ first → ⊥) → 8 * (e - cond b (d + 1) first) + (cond b (d + 7) (d - 1) - cond b (d + 1) first) < 8 * (e - first) + (d - first)
+    passed-less true n = omega (arith, h .near, h .within)
+    passed-less false n = unlike (n refl)
       where
         unlike : (d ≡ first → ⊥) → 8 * (e - first) + (d - 1 - first) < 8 * (e - first) + (d - first)
         unlike n = omega (arith, h .near)
 
     -- no day of the week passes
-    pub held-fails : f d ≡ false → d ≡ first → every (e - s - 6) (week f s) ≡ false
-    held-fails t q = every-not (week f s) (e - s - 6) (first - s) (is-false (week f s (first - s)) none) (omega (arith, h .from))
+    pub passed-fails : f d ≡ false → d ≡ first → every (e - s - 6) (week f s) ≡ false
+    passed-fails t q = every-not (week f s) (e - s - 6) (first - s) (is-false (week f s (first - s)) none) (omega (arith, h .from))
       where
         side : (x : ℕ) → x ≤ first + 6 → (d ≡ x) ⊎ (d < x) → f x ≡ false
         side x b (inl q) = ap f (sym q) ∙ t
@@ -125,8 +125,8 @@ module _ (f : ℕ → Bool) (s e : ℕ) where
             let b : x ≤ first + 6 = omega (arith, h .from, p .below) in
             clash (p .passes) (side x b (eq-or-lt-of-le a))
 
-  pub held-ends : (first d : ℕ) → Held f s e first d → e < first + 7 → every (e - s - 6) (week f s) ≡ true
-  held-ends first d h l = every-all (week f s) (e - s - 6) (λ k b. h .held k (omega (arith, h .from)))
+  pub passed-ends : (first d : ℕ) → Passed f s e first d → e < first + 7 → every (e - s - 6) (week f s) ≡ true
+  passed-ends first d h l = every-all (week f s) (e - s - 6) (λ k b. h .passed k (omega (arith, h .from)))
 
 -- every seven consecutive days wholly in the cover hold a trading day
 pub every-week : (cal : Calendar) → everyWeek cal ≡ true → (s : ℕ) → coverStart (cal .cover) ≤ s → s + 7 ≤ coverEnd (cal .cover) → someTrades cal s 7 ≡ true

@@ -6,7 +6,7 @@ use lib.Dec.{leb, ltb}
 use Rattle.questions.specs.Search.{every, some, firstFrom}
 use Rattle.days.specs.Gregorian.{weekdayOf}
 use Rattle.days.specs.Dates.{yearOf, yearStart, dayInYear}
-use Rattle.calendar.specs.Bits.{byteBit, bitAt, setBit}
+use Rattle.calendar.specs.Bits.{bitAt, setBit}
 use Rattle.calendar.specs.declared.Cover.{Cover}
 use Rattle.calendar.specs.declared.Calendar.{Calendar}
 
@@ -54,14 +54,6 @@ mayClose y n = ltb (yearStart y + n) (yearStart (y + 1)) && ltb (weekdayOf (year
 -- the slot belongs to a year of the cover, and to a Monday to Friday of that year
 unfoldable pub mayBeClosed : Cover → ℕ → Bool
 mayBeClosed c slot = ltb (slot / 368) (c .years) && mayClose (c .«first_year» + slot / 368) (slot % 368)
-
--- 5, of bit j of byte number `at` of the maps: it is 0, or may be 1
-abbrev pub cleanBit : Cover → ℕ → ℕ → ℕ → Bool
-cleanBit c at byte j = not (byteBit byte j) || mayBeClosed c (8 * at + j)
-
--- 5, of byte number `at` of the maps
-unfoldable pub cleanByte : Cover → ℕ → ℕ → Bool
-cleanByte c at byte = every 8 (cleanBit c at byte)
 
 -- 5, of a slot of the maps: its bit is 0, or may be 1
 abbrev pub cleanSlot : Calendar → ℕ → Bool

@@ -7,7 +7,8 @@ ghost use Prim.Native.Nat.{_+_, _-_, _/_, _%_, _≤_, _<_};
 ghost use lib.Dec.{ltb};
 ghost use Rattle.days.specs.Gregorian.{weekdayOf};
 ghost use Rattle.calendar.specs.Bits.{byteBit};
-ghost use Rattle.calendar.specs.Trading.{mayClose, mayBeClosed, cleanBit, cleanByte, clean, everyWeek, closeDay};
+ghost use Rattle.calendar.proofs.Clean.{cleanBit, cleanByte};
+ghost use Rattle.calendar.specs.Trading.{mayClose, mayBeClosed, clean, everyWeek, closeDay};
 
 // Whether the year has a day n, from 0, and it is a Monday to Friday.
 pub fn may_close(year: u16, n: u16) -> bool

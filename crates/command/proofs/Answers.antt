@@ -11,8 +11,8 @@ use Rattle.table.specs.Table.{rollCall, closeCall}
 use Rattle.opening.specs.Opening.{openCall}
 use Rattle.printing.specs.Text.{outcomeText, refusalText, badText}
 use Rattle.lines.specs.declared.Command.{Command}
-use Rattle.command.specs.declared.Held.{Held}
-use Rattle.command.specs.Sessions.{bad, outcomeOf, answerText, heldAfter}
+use Rattle.command.specs.declared.Kept.{Kept}
+use Rattle.command.specs.Sessions.{bad, outcomeOf, answerText, keptAfter}
 
 -- the call of a command by its letter
 module _ (file : List ℕ) (t : Table) (c : Command) where
@@ -28,27 +28,27 @@ module _ (file : List ℕ) (t : Table) (c : Command) where
   unfolding outcomeOf
   closes n m = rw (ne-eqb (c .letter) 79 n, ne-eqb (c .letter) 82 m) refl
 
-module _ (file : List ℕ) (h : Held) (c : Command) where
-  pub bad-held : bad (h .opened) (c .letter) ≡ true → h ≡ heldAfter file h c
-  unfolding heldAfter
-  bad-held b = rw b refl
+module _ (file : List ℕ) (h : Kept) (c : Command) where
+  pub bad-kept : bad (h .opened) (c .letter) ≡ true → h ≡ keptAfter file h c
+  unfolding keptAfter
+  bad-kept b = rw b refl
 
   pub bad-text : bad (h .opened) (c .letter) ≡ true → badText ≡ answerText file h c
   unfolding answerText
   bad-text b = rw b refl
 
   module _ (b : bad (h .opened) (c .letter) ≡ false) (o : Outcome) (e : o ≡ outcomeOf file (h .table) c) where
-    pub no-held : (o .refusal ≡ 0 → ⊥) → h ≡ heldAfter file h c
-    unfolding heldAfter
-    no-held n = rw (b, ← e, ne-eqb (o .refusal) 0 n) refl
+    pub no-kept : (o .refusal ≡ 0 → ⊥) → h ≡ keptAfter file h c
+    unfolding keptAfter
+    no-kept n = rw (b, ← e, ne-eqb (o .refusal) 0 n) refl
 
     pub no-text : (o .refusal ≡ 0 → ⊥) → refusalText (o .refusal) ≡ answerText file h c
     unfolding answerText
     no-text n = rw (b, ← e, ne-eqb (o .refusal) 0 n) refl
 
-    pub yes-held : o .refusal ≡ 0 → record { opened = true; table = o .table } ≡ heldAfter file h c
-    unfolding heldAfter
-    yes-held n = rw (b, ← e, eq-eqb (o .refusal) 0 n) refl
+    pub yes-kept : o .refusal ≡ 0 → record { opened = true; table = o .table } ≡ keptAfter file h c
+    unfolding keptAfter
+    yes-kept n = rw (b, ← e, eq-eqb (o .refusal) 0 n) refl
 
     pub yes-text : o .refusal ≡ 0 → outcomeText (c .letter) o ≡ answerText file h c
     unfolding answerText

@@ -4,28 +4,28 @@ use lines::Line;
 use table::Outcome;
 use table::Table;
 ghost use mathlib.Core.Path.{_≡_};
-ghost use Rattle.lines.specs.Lines.{heldCommand};
+ghost use Rattle.lines.specs.Lines.{lineCommand};
 ghost use Rattle.printing.specs.Buffer.{Printed};
-ghost use Rattle.command.specs.Sessions.{nothingHeld, bad, outcomeOf, answerText, heldAfter};
+ghost use Rattle.command.specs.Sessions.{nothingKept, bad, outcomeOf, answerText, keptAfter};
 
 // Whether an O has been accepted, and the table of the last accepted call.
-pub struct Held {
+pub struct Kept {
     pub opened: bool,
     pub table: Table,
 }
 
 // What is kept after a line, and the place in the buffer after its answer.
 pub struct Answered {
-    pub held: Held,
+    pub kept: Kept,
     pub at: usize,
 }
 
 // What is kept before the first command.
-pub fn nothing_held() -> Held
-    ensures { λ r. ⌜ r ≡ nothingHeld ⌝ }
+pub fn nothing_kept() -> Kept
+    ensures { λ r. ⌜ r ≡ nothingKept ⌝ }
 {
     let table = opening::zero_table();
-    Held {
+    Kept {
         opened: false,
         table,
     }
@@ -55,25 +55,25 @@ fn outcome_of(file: &[u8], t: Table, c: Command) -> Outcome
 }
 
 // The answer to a line, in a lent buffer from a place on, and what is kept after it.
-pub fn answer(file: &[u8], held: Held, line: Line, out: &mut [u8], at: usize) -> Answered
-    ensures { λ r. ⌜ (r .held ≡ heldAfter (now (file .entry)) held (heldCommand line)) × Printed (now (out .entry)) (now (out .exit)) at (r .at) (answerText (now (file .entry)) held (heldCommand line)) ⌝ }
+pub fn answer(file: &[u8], kept: Kept, line: Line, out: &mut [u8], at: usize) -> Answered
+    ensures { λ r. ⌜ (r .kept ≡ keptAfter (now (file .entry)) kept (lineCommand line)) × Printed (now (out .entry)) (now (out .exit)) at (r .at) (answerText (now (file .entry)) kept (lineCommand line)) ⌝ }
 {
     let c = lines::command_of(line);
-    let t = held.table;
-    if is_bad(held.opened, c.letter) {
+    let t = kept.table;
+    if is_bad(kept.opened, c.letter) {
         let next = printing::print_bad(out, at);
-        return Answered { held, at: next };
+        return Answered { kept, at: next };
     }
     let o = outcome_of(file, t, c);
     let refusal = o.refusal;
     if refusal != 0 {
         let next = printing::print_refusal(out, at, refusal);
-        return Answered { held, at: next };
+        return Answered { kept, at: next };
     }
     let next = printing::print_outcome(out, at, c.letter, o);
     let table = o.table;
     Answered {
-        held: Held {
+        kept: Kept {
             opened: true,
             table,
         },

@@ -39,7 +39,7 @@ fn listing_line(cal: Calendar, kind: Kind, group: [u8; 4], date: u16) {
     let maturities = l.maturities;
     start_line(b'L');
     put(date);
-    put(expiry::front_month(cal, group, date));
+    put(listing::front_month(cal, group, date));
     put_answer(l.complete);
     put_maturities(maturities);
     end_line();

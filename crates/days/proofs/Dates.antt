@@ -11,7 +11,7 @@ use Rattle.questions.specs.Questions.{answer}
 use Rattle.questions.proofs.Bools.{both}
 use Rattle.questions.proofs.Asks.{no-asks, first-yes, first-no, none-no, accepted, refused}
 use Rattle.days.specs.Gregorian.{lengthOf, firstDay, monthLength, monthNumber}
-use Rattle.days.specs.Dates.{validDate, dayOf, monthOf, dateOf, noDate, dayAsks, dateAsks, dayCall, dateCall, Undo}
+use Rattle.days.specs.Dates.{validDate, dayOf, monthOf, dateOf, zeroDate, dayAsks, dateAsks, dayCall, dateCall, Undo}
 use Rattle.days.proofs.Months.{first-suc, first-last, month-is, month-holds, Holds}
 
 pub record Valid (y m d : ℕ) : Type 0 where
@@ -59,11 +59,11 @@ day-refused y m d e = refused (dayAsks y m d) 0 (dayOf y m d) 22 (first-no 23 []
 
 pub date-accepted : (n : ℕ) → n < 36525 → dateCall n ≡ record { refusal = 0; value = dateOf n }
 unfolding dateCall
-date-accepted n h = accepted (dateAsks n) noDate (dateOf n) (first-yes 23 {b = leb n 36524} [] (le-leb n 36524 (omega arith)) ∙ no-asks)
+date-accepted n h = accepted (dateAsks n) zeroDate (dateOf n) (first-yes 23 {b = leb n 36524} [] (le-leb n 36524 (omega arith)) ∙ no-asks)
 
-pub date-refused : (n : ℕ) → 36525 ≤ n → dateCall n ≡ record { refusal = 23; value = noDate }
+pub date-refused : (n : ℕ) → 36525 ≤ n → dateCall n ≡ record { refusal = 23; value = zeroDate }
 unfolding dateCall
-date-refused n h = refused (dateAsks n) noDate (dateOf n) 22 (first-no 23 [] (lt-leb n 36524 (omega arith)))
+date-refused n h = refused (dateAsks n) zeroDate (dateOf n) 22 (first-no 23 [] (lt-leb n 36524 (omega arith)))
 
 -- a valid date's day has the date's month
 day-month : (y m d : ℕ) → Valid y m d → monthOf (dayOf y m d) ≡ monthNumber y m

@@ -35,8 +35,8 @@ unfoldable pub dateOf : ℕ → Date
 dateOf d = record { year = monthYear (monthOf d); month = monthName (monthOf d); day = d - firstDay (monthOf d) + 1 }
 
 -- a date of zeros, which stands with a refusal
-abbrev pub noDate : Date
-noDate = record { year = 0; month = 0; day = 0 }
+abbrev pub zeroDate : Date
+zeroDate = record { year = 0; month = 0; day = 0 }
 
 -- 23, of a date: 'Is it a date .. of 2000–2099?'
 abbrev pub dayAsks : ℕ → ℕ → ℕ → List Ask
@@ -52,7 +52,7 @@ dayCall y m d = answer (dayAsks y m d) 0 (dayOf y m d)
 
 -- the call from a day to its date
 unfoldable pub dateCall : ℕ → Answer Date
-dateCall d = answer (dateAsks d) noDate (dateOf d)
+dateCall d = answer (dateAsks d) zeroDate (dateOf d)
 
 -- the number and the value that each case of the answer stands for
 abbrev pub dayAnswer : DayAnswer → Answer ℕ
@@ -62,7 +62,7 @@ dayAnswer NotADate = record { refusal = 23; value = 0 }
 -- the number and the values that each case of the answer stands for
 abbrev pub dateAnswer : DateAnswer → Answer Date
 dateAnswer (Is date) = record { refusal = 0; value = date }
-dateAnswer NotADay = record { refusal = 23; value = noDate }
+dateAnswer NotADay = record { refusal = 23; value = zeroDate }
 
 -- the first day of a month of 2000 to 2099; 36,525 for any later month
 unfoldable pub firstOf : ℕ → ℕ

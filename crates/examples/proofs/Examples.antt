@@ -11,11 +11,11 @@ use Rattle.calendar.specs.Trading.{coverStart, coverEnd, inCover, slotOf, close
 use Rattle.product.specs.Fields.{isCode, oneOfCodes, idOf, idRight, groupRight, marketRight, tickRight, currencyRight, fieldsRight, productRight}
 use Rattle.product.specs.Settlement.{italian}
 use Rattle.product.specs.Prices.{cashAdmitted, cashOf}
-use Rattle.listing.specs.Rules.{front, taken, freshKeys, complete, places15}
+use Rattle.listing.specs.Rules.{front, countFrom, monthsBefore, taken, freshKeys, complete, places15}
 use Rattle.expiry.specs.LastDays.{thirdFriday, anchorOf, lastDay, lastTradingDay}
 use Rattle.listing.specs.Months.{inSet, placesOf, monthly}
 use Rattle.places.specs.Numbering.{isListed, numberOf, renumbered, numbersRight}
-use Rattle.table.specs.Table.{listsFresh, countFrom, monthsBefore, sound, openedTable}
+use Rattle.table.specs.Table.{listsFresh, sound, openedTable}
 use Rattle.prices.specs.Prices.{tickCall}
 use Rattle.examples.specs.Examples.{rows, allHold, only21, also20, monthsOn, axa, axaTable}
 

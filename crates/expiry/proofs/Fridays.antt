@@ -11,8 +11,7 @@ use Rattle.days.specs.Gregorian.{weekdayOf}
 use Rattle.days.specs.Dates.{firstOf}
 use Rattle.calendar.specs.declared.Calendar.{Calendar}
 use Rattle.calendar.specs.Trading.{tradingDay}
-use Rattle.expiry.specs.LastDays.{lastDay}
-use Rattle.expiry.specs.LastDays.{friday, thirdFriday}
+use Rattle.expiry.specs.LastDays.{lastDay, friday, thirdFriday}
 
 -- the days from d to the next Friday
 abbrev wait : ℕ → ℕ

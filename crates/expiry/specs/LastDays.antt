@@ -1,14 +1,14 @@
--- The third Friday, the anchor, the last trading day and the front month (01, Last trading day; Listed months; 002, 1.6.4; 000, 2.6.4).
+-- The third Friday, the anchor and the last trading day (01, Last trading day; 002, 1.6.4).
 -- Assumes nothing.
 use Prim.Native.Nat.{ℕ, _+_, _-_}
 use mathlib.Core.Bool.{Bool, cond}
 use mathlib.Core.List.{List}
-use lib.Dec.{eqb, leb}
+use lib.Dec.{eqb}
 use Rattle.questions.specs.Search.{latest, firstFrom}
 use Rattle.days.specs.Gregorian.{weekdayOf}
-use Rattle.days.specs.Dates.{firstOf, monthOf}
+use Rattle.days.specs.Dates.{firstOf}
 use Rattle.calendar.specs.declared.Calendar.{Calendar}
-use Rattle.calendar.specs.Trading.{coverEnd, tradingDay}
+use Rattle.calendar.specs.Trading.{tradingDay}
 use Rattle.product.specs.Settlement.{italian}
 
 -- a Friday
@@ -30,9 +30,3 @@ lastDay cal anchor = cond (tradingDay cal anchor) anchor (latest (tradingDay cal
 -- the last trading day of a month
 unfoldable pub lastTradingDay : Calendar → List ℕ → ℕ → ℕ
 lastTradingDay cal group m = lastDay cal (anchorOf group m)
-
--- 'The front month on a date is the first month, from the date's own month on, whose last trading day is not before the date'; the first month beyond the cover where the cover has none
-unfoldable pub frontMonth : Calendar → List ℕ → ℕ → ℕ
-frontMonth cal group date =
-    firstFrom (λ m. leb date (lastTradingDay cal group m)) (monthOf (coverEnd (cal .cover)))
-    (monthOf (coverEnd (cal .cover)) - monthOf date) (monthOf date)

@@ -1,11 +1,11 @@
-// Last trading days, and the front month on a date.
+// Third Fridays, anchors and last trading days.
 use calendar::Calendar;
 use calendar::Cover;
 ghost use mathlib.Core.Path.{_≡_};
-ghost use Prim.Native.Nat.{_-_, _≤_};
-ghost use Rattle.calendar.specs.Trading.{coverStart, coverEnd};
+ghost use Prim.Native.Nat.{_≤_};
+ghost use Rattle.calendar.specs.Trading.{coverEnd};
 ghost use Rattle.days.specs.Dates.{monthOf};
-ghost use Rattle.expiry.specs.LastDays.{thirdFriday, anchorOf, lastDay, lastTradingDay, frontMonth};
+ghost use Rattle.expiry.specs.LastDays.{thirdFriday, anchorOf, lastDay, lastTradingDay};
 
 // The third Friday of a month.
 pub fn third_friday(month: u16) -> u16
@@ -51,31 +51,4 @@ pub fn end_month(cover: Cover) -> u16
     ensures { λ r. ⌜ (r ≡ monthOf (coverEnd cover)) × (r ≤ 1200) ⌝ }
 {
     days::month_of(calendar::cover_end(cover))
-}
-
-// The front month on a date; the first month beyond the cover where the cover has none.
-pub fn front_month(cal: Calendar, group: [u8; 4], date: u16) -> u16
-    ensures { λ r. ⌜ r ≡ frontMonth cal group date ⌝ }
-{
-    let end = end_month(cal.cover);
-    let mut month = days::month_of(date);
-    while month < end {
-        if date <= last_trading_day(cal, group, month) {
-            return month;
-        }
-        month += 1;
-    }
-    end
-}
-
-// The number of cover months before the front month.
-pub fn months_before(cal: Calendar, group: [u8; 4], date: u16) -> u16
-    ensures { λ r. ⌜ (r ≡ frontMonth cal group date - monthOf (coverStart (cal .cover))) × (r ≤ 1200) ⌝ }
-{
-    let front = front_month(cal, group, date);
-    let first = days::month_of(calendar::cover_start(cal.cover));
-    if front < first {
-        return 0;
-    }
-    front - first
 }

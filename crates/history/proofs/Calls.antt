@@ -16,10 +16,9 @@ use Rattle.calendar.specs.Trading.{inCover, tradingDay, everyWeek, closeDay, cl
 use Rattle.calendar.proofs.Closing.{close-cover, trading-before, clean-close}
 use Rattle.product.specs.declared.Kind.{Kind}
 use Rattle.product.specs.declared.Product.{Product}
-use Rattle.listing.specs.Rules.{Rule, dayOf, alive, front}
-use Rattle.listing.specs.Months.{ruleOf}
+use Rattle.listing.specs.Rules.{Rule, lastDayOf, alive, front}
+use Rattle.listing.specs.Months.{ruleOf, allInCover}
 use Rattle.listing.proofs.Lawful.{Lawful, days-rise, front-later}
-use Rattle.table.specs.Table.{allInCover}
 use Rattle.history.specs.Book.{Call, roll, close, Book, calendarAfter, dateAfter, bookAsks}
 use Rattle.history.proofs.Soundness.{Opened}
 
@@ -88,13 +87,13 @@ module _ (r : Rule) (w : Lawful r) where
   not-back : (kind : Kind) (group : List ℕ) (b : Book) (c : Call) → Accepted kind group b c
       → (k : ℕ) → alive r (calendarAfter (b .calendar) c) (dateAfter (b .date) c) k ≡ true → alive r (b .calendar) (b .date) k ≡ true
   not-back kind group b (roll date) e k t =
-      le-leb (b .date) (dayOf r (b .calendar) k)
-      (omega (arith, leb-true (b .date) date (rolled kind group b date e .later), leb-true date (dayOf r (b .calendar) k) t))
+      le-leb (b .date) (lastDayOf r (b .calendar) k)
+      (omega (arith, leb-true (b .date) date (rolled kind group b date e .later), leb-true date (lastDayOf r (b .calendar) k) t))
   not-back kind group b (close day) e k t =
-      le-leb (b .date) (dayOf r (b .calendar) k)
+      le-leb (b .date) (lastDayOf r (b .calendar) k)
       (omega (
         arith,
-        leb-true (b .date) (dayOf r (closeDay (b .calendar) day) k) t,
+        leb-true (b .date) (lastDayOf r (closeDay (b .calendar) day) k) t,
         days-rise r w (closeDay (b .calendar) day) (b .calendar) (trading-before (b .calendar) day) k k (omega arith),
       ))
 

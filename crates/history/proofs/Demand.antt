@@ -10,22 +10,22 @@ use Rattle.questions.specs.Search.{oneOf}
 use Rattle.questions.proofs.Bools.{clash, is-false, lt-or-ge}
 use Rattle.calendar.specs.declared.Calendar.{Calendar}
 use Rattle.product.specs.declared.Product.{Product}
-use Rattle.listing.specs.Rules.{Rule, widest, dayOf, freshKeys, maturity}
+use Rattle.listing.specs.Rules.{Rule, widest, lastDayOf, freshKeys, maturity}
 use Rattle.expiry.specs.LastDays.{lastTradingDay}
-use Rattle.listing.specs.Months.{monthly, ruleOf}
+use Rattle.listing.specs.Months.{monthly, ruleOf, freshOf}
 use Rattle.listing.proofs.Places.{before-none}
 use Rattle.listing.proofs.Lawful.{Lawful, key-of, day-past}
 use Rattle.listing.proofs.Monthly.{monthly-lawful, monthly-most}
 use Rattle.table.specs.declared.Table.{Table}
 use Rattle.table.specs.declared.Outcome.{Outcome}
 use Rattle.places.specs.Numbering.{isListed, numberOf}
-use Rattle.table.specs.Table.{freshOf, held, sound, openedTable}
+use Rattle.table.specs.Table.{listedIn, sound, openedTable}
 use Rattle.history.specs.Book.{Call, Book, bookOpened, bookAfter, bookRun, bookReplies}
 use Rattle.history.specs.History.{tableCall, tableRun, tableReplies, calendarWith, dateWith, opens, unnumbered, Demand3}
-use Rattle.history.proofs.Moves.{fresh, now, held-is, number-is, given-most, numbersFirst}
+use Rattle.history.proofs.Moves.{fresh, now, present-is, number-is, given-most, numbersFirst}
 use Rattle.history.proofs.Soundness.{Opened, opened}
 use Rattle.history.proofs.Runs.{ruleIn, frontIn, Inv, Later, starts, turn-later, run-later, run-append}
-use Rattle.history.proofs.Tables.{tableIn, held-in, sound-in, turn, table-run, reply-run, calendar-run, date-run, opened-in}
+use Rattle.history.proofs.Tables.{tableIn, table-lists, sound-in, turn, table-run, reply-run, calendar-run, date-run, opened-in}
 
 -- without its numbers a numbered listing is the fresh one
 unnumbered-is : (r : Rule) (cal : Calendar) (nu : ℕ → ℕ) (ks : List ℕ) → unnumbered (map (maturity r cal nu) ks) ≡ map (maturity r cal (λ k. 0)) ks
@@ -50,7 +50,7 @@ module _ (p : Product) (b : Book) (nu : ℕ → ℕ) (I : Inv p b nu) where
   in-now = now (ruleIn p b) (b .calendar) (b .date)
 
   listed-in : (m : ℕ) → isListed (b .maturities) m ≡ in-now m
-  listed-in = held-is (ruleIn p b) w (b .calendar) (b .date) (b .maturities) (b .given) nu (I .numbered)
+  listed-in = present-is (ruleIn p b) w (b .calendar) (b .date) (b .maturities) (b .given) nu (I .numbered)
 
   number-in : (m : ℕ) → numberOf (b .maturities) m ≡ cond (in-now m) (nu m) 0
   number-in = number-is (ruleIn p b) w (b .calendar) (b .date) (b .maturities) (b .given) nu (I .numbered)
@@ -83,11 +83,11 @@ module _ (p : Product) (b : Book) (nu : ℕ → ℕ) (I : Inv p b nu) where
   unfolding lastTradingDay monthly
   off-iff m v = (gone (lt-or-ge m (frontIn p b)), past)
     where
-      gone : (m < frontIn p b) ⊎ (frontIn p b ≤ m) → isListed (b .maturities) m ≡ false → dayOf (ruleIn p b) (b .calendar) m < b .date
+      gone : (m < frontIn p b) ⊎ (frontIn p b ≤ m) → isListed (b .maturities) m ≡ false → lastDayOf (ruleIn p b) (b .calendar) m < b .date
       gone (inl s) e = day-past (ruleIn p b) w (b .calendar) (b .date) m (v .below) (v .wide) s
       gone (inr s) e = clash (listed-in m ∙ I .numbered .there m (v .number) s) e
 
-      past : dayOf (ruleIn p b) (b .calendar) m < b .date → isListed (b .maturities) m ≡ false
+      past : lastDayOf (ruleIn p b) (b .calendar) m < b .date → isListed (b .maturities) m ≡ false
       past s = is-false (isListed (b .maturities) m) (λ t. absurd (omega (arith, key-of (ruleIn p b) w (b .calendar) (b .date) m (sym (listed-in m) ∙ t) .day)))
 
   most-given : b .given ≤ 192
@@ -125,8 +125,8 @@ module _ (p : Product) (cal : Calendar) (date : ℕ) (o : Opened p cal date) whe
   replies-are : (cs : List Call) → tableReplies (openedTable p cal date) cs ≡ bookReplies (p .kind) (p .group) start cs
   replies-are cs = ap (λ (t : Table). tableReplies t cs) (opened-in p cal date) ∙ reply-run p cs start nu₀ (starts p cal date o)
 
-  listed-are : (cs : List Call) → held (table cs) ≡ book cs .maturities
-  listed-are cs = ap held (table-is cs) ∙ held-in p (book cs) (at cs .nu′) (at cs .inv)
+  listed-are : (cs : List Call) → listedIn (table cs) ≡ book cs .maturities
+  listed-are cs = ap listedIn (table-is cs) ∙ table-lists p (book cs) (at cs .nu′) (at cs .inv)
 
   calendar-at : (cs : List Call) → table cs .calendar ≡ calendarWith cal cs (tableReplies (openedTable p cal date) cs)
   unfolding bookOpened
@@ -136,37 +136,55 @@ module _ (p : Product) (cal : Calendar) (date : ℕ) (o : Opened p cal date) whe
   unfolding bookOpened
   date-at cs = ap (λ (t : Table). t .date) (table-is cs) ∙ date-run p cs start ∙ ap (dateWith date cs) (sym (replies-are cs))
 
-  fresh-at : (cs : List Call) → unnumbered (held (table cs))
+  fresh-at : (cs : List Call) → unnumbered (listedIn (table cs))
       ≡ freshOf (calendarWith cal cs (tableReplies (openedTable p cal date) cs)) (p .kind) (p .group) (dateWith date cs (tableReplies (openedTable p cal date) cs))
   fresh-at cs =
       rw (listed-are cs, ← calendar-at cs, ← date-at cs, table-is cs, at cs .inv .numbered .listing)
       (unnumbered-is (ruleIn p (book cs)) (book cs .calendar) (at cs .nu′) (freshKeys (ruleIn p (book cs)) (book cs .calendar) (book cs .date)))
 
   -- the number shown now is the key's number at any later moment
-  still-had : (cs ds : List Call) (m n : ℕ) → numberOf (held (table cs)) m ≡ suc n → after cs ds .nu′ m ≡ suc n
+  still-had : (cs ds : List Call) (m n : ℕ) → numberOf (listedIn (table cs)) m ≡ suc n → after cs ds .nu′ m ≡ suc n
   still-had cs ds m n e =
       let q : at cs .nu′ m ≡ suc n = had p (book cs) (at cs .nu′) (at cs .inv) m n (rw (listed-are cs) at e) in
       after cs ds .grows m (omega arith) ∙ q
 
-  later-had : (cs ds : List Call) (m n : ℕ) → numberOf (held (table (cs ++ ds))) m ≡ suc n → after cs ds .nu′ m ≡ suc n
+  later-had : (cs ds : List Call) (m n : ℕ) → numberOf (listedIn (table (cs ++ ds))) m ≡ suc n → after cs ds .nu′ m ≡ suc n
   later-had cs ds m n e = had p (book (cs ++ ds)) (after cs ds .nu′) (after cs ds .inv) m n (rw (listed-are (cs ++ ds)) at e)
 
-  never-back : (cs ds : List Call) (m : ℕ) → oneOf (book cs .gone) m ≡ true → isListed (held (table (cs ++ ds))) m ≡ false
+  never-back : (cs ds : List Call) (m : ℕ) → oneOf (book cs .gone) m ≡ true → isListed (listedIn (table (cs ++ ds))) m ≡ false
   never-back cs ds m e =
       rw (listed-are (cs ++ ds))
       (before-front p (book (cs ++ ds)) (after cs ds .nu′) (after cs ds .inv) m (omega (arith, at cs .inv .past m e, after cs ds .on)))
+
+  -- a month that was listed and is not any more lies before the front, now and later
+  not-again : (cs ds es : List Call) (m : ℕ) → isListed (listedIn (table cs)) m ≡ true → isListed (listedIn (table (cs ++ ds))) m ≡ false
+      → isListed (listedIn (table ((cs ++ ds) ++ es))) m ≡ false
+  not-again cs ds es m e off = go (lt-or-ge m (frontIn p (book (cs ++ ds))))
+    where
+      z : Later p (book cs) (at cs .nu′) (book (cs ++ ds))
+      z = after cs ds
+
+      v : Ever p (book (cs ++ ds)) (z .nu′) m
+      v = ever-after p (book cs) (at cs .nu′) (book (cs ++ ds)) z m (ever p (book cs) (at cs .nu′) (at cs .inv) m (rw (listed-are cs) at e))
+
+      y : Later p (book (cs ++ ds)) (z .nu′) (book ((cs ++ ds) ++ es))
+      y = rw (run-append p (cs ++ ds) es start) (run-later p es (book (cs ++ ds)) (z .nu′) (z .inv))
+
+      go : (m < frontIn p (book (cs ++ ds))) ⊎ (frontIn p (book (cs ++ ds)) ≤ m) → isListed (listedIn (table ((cs ++ ds) ++ es))) m ≡ false
+      go (inl s) = rw (listed-are ((cs ++ ds) ++ es)) (before-front p (book ((cs ++ ds) ++ es)) (y .nu′) (y .inv) m (omega (arith, s, y .on)))
+      go (inr s) = clash (listed-in p (book (cs ++ ds)) (z .nu′) (z .inv) m ∙ z .inv .numbered .there m (v .number) s) (rw (listed-are (cs ++ ds)) at off)
 
   -- one more call
   next-table : (cs : List Call) (c : Call) → tableCall (table cs) c .table ≡ tableIn p (bookAfter (p .kind) (p .group) (book cs) c)
   next-table cs c = rw (table-is cs) (ap (λ (o : Outcome). o .table) (turn p (book cs) (at cs .nu′) (at cs .inv) c))
 
-  taken-off : (cs : List Call) (c : Call) (m : ℕ) → isListed (held (table cs)) m ≡ true
-      → (isListed (held (tableCall (table cs) c .table)) m ≡ false) ↔ (lastTradingDay (tableCall (table cs) c .table .calendar) (p .group) m < tableCall (table cs) c .table .date)
+  taken-off : (cs : List Call) (c : Call) (m : ℕ) → isListed (listedIn (table cs)) m ≡ true
+      → (isListed (listedIn (tableCall (table cs) c .table)) m ≡ false) ↔ (lastTradingDay (tableCall (table cs) c .table .calendar) (p .group) m < tableCall (table cs) c .table .date)
   taken-off cs c m e =
       let b′ : Book = bookAfter (p .kind) (p .group) (book cs) c in
       let z : Later p (book cs) (at cs .nu′) b′ = turn-later p (book cs) (at cs .nu′) (at cs .inv) c in
       let v : Ever p (book cs) (at cs .nu′) m = ever p (book cs) (at cs .nu′) (at cs .inv) m (rw (listed-are cs) at e) in
-      rw (next-table cs c, held-in p b′ (z .nu′) (z .inv)) (off-iff p b′ (z .nu′) (z .inv) m (ever-after p (book cs) (at cs .nu′) b′ z m v))
+      rw (next-table cs c, table-lists p b′ (z .nu′) (z .inv)) (off-iff p b′ (z .nu′) (z .inv) m (ever-after p (book cs) (at cs .nu′) b′ z m v))
 
   history : (cs ds : List Call) → Demand3 p cal date cs ds
   history cs ds = record {
@@ -184,6 +202,7 @@ module _ (p : Product) (cal : Calendar) (date : ℕ) (o : Opened p cal date) whe
     one-number = λ m n n′ e d. omega (arith, still-had cs ds m n e, later-had cs ds m n′ d);
     numbered = λ m e. rw (listed-are cs) (has-number p (book cs) (at cs .nu′) (at cs .inv) m (rw (listed-are cs) at e));
     for-good = never-back cs ds;
+    never-back = λ m es. not-again cs ds es m;
     off = taken-off cs;
     sum = rw (listed-are cs) (ap (λ (t : Table). t .given) (table-is cs) ∙ at cs .inv .total);
     stays-sound = ap sound (table-is cs) ∙ sound-in p (book cs) (at cs .nu′) (at cs .inv);

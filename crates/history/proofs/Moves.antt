@@ -13,12 +13,11 @@ use Rattle.questions.specs.Search.{oneOf}
 use Rattle.questions.proofs.Bools.{clash, both, is-false, lt-or-ge}
 use Rattle.calendar.specs.declared.Calendar.{Calendar}
 use Rattle.listing.specs.declared.Maturity.{Maturity}
-use Rattle.listing.specs.Rules.{Rule, dayOf, front, freshKeys, maturity}
+use Rattle.listing.specs.Rules.{Rule, lastDayOf, front, countFrom, monthsBefore, freshKeys, maturity}
 use Rattle.listing.proofs.Walks.{bit, sift}
 use Rattle.listing.proofs.Places.{before-none}
 use Rattle.listing.proofs.Lawful.{Lawful, inListing, front-most, fresh-is, key-of, keys-stay}
 use Rattle.places.specs.Numbering.{isListed, numberOf, missing, renumbered}
-use Rattle.table.specs.Table.{countFrom, monthsBefore}
 use Rattle.history.proofs.Counting.{count-add, count-most, count-window, count-balance, count-less, length-sift}
 use Rattle.history.proofs.Numbers.{mat, but, next, months-of, number-of, listed-is, missing-is, one-sift, renumbered-is, Numbers, next-keeps, next-numbers}
 
@@ -63,15 +62,15 @@ module _ (r : Rule) (w : Lawful r) where
 
   module _ (cal : Calendar) (date : ℕ) (nu : ℕ → ℕ) where
     pub listed-now : (k : ℕ) → isListed (map (maturity r cal nu) (freshKeys r cal date)) k ≡ now r cal date k
-    listed-now k = rw (fresh-is r w cal date) (listed-is (dayOf r cal) nu (now r cal date) k (r .beyond) (below cal date k))
+    listed-now k = rw (fresh-is r w cal date) (listed-is (lastDayOf r cal) nu (now r cal date) k (r .beyond) (below cal date k))
 
     number-now : (k : ℕ) → numberOf (map (maturity r cal nu) (freshKeys r cal date)) k ≡ cond (now r cal date k) (nu k) 0
-    number-now k = number-of (dayOf r cal) nu (freshKeys r cal date) k ∙ rw (listed-now k)
+    number-now k = number-of (lastDayOf r cal) nu (freshKeys r cal date) k ∙ rw (listed-now k)
 
   module _ (cal : Calendar) (date : ℕ) (ms : List Maturity) (given : ℕ) (nu : ℕ → ℕ) (I : Numbered r cal date ms given nu) where
     -- a key is listed where the fresh listing has it, and then has its number
-    pub held-is : (k : ℕ) → isListed ms k ≡ now r cal date k
-    held-is k = rw (I .listing) (listed-now cal date nu k)
+    pub present-is : (k : ℕ) → isListed ms k ≡ now r cal date k
+    present-is k = rw (I .listing) (listed-now cal date nu k)
 
     pub number-is : (k : ℕ) → numberOf ms k ≡ cond (now r cal date k) (nu k) 0
     number-is k = rw (I .listing) (number-now cal date nu k)
@@ -130,25 +129,25 @@ module _ (r : Rule) (w : Lawful r) where
       renumbered-now : renumbered ms given (fresh r cal′ date′) ≡ map (maturity r cal′ numbers-then) (freshKeys r cal′ date′)
       renumbered-now =
           rw (fresh-is r w cal′ date′)
-          (renumbered-is p p′ nu (dayOf r cal′) (λ k. 0) given ms held-is (λ k e. number-is k ∙ rw e) (r .beyond))
+          (renumbered-is p p′ nu (lastDayOf r cal′) (λ k. 0) given ms present-is (λ k e. number-is k ∙ rw e) (r .beyond))
 
       entered-is : length (missing (fresh r cal′ date′) ms) ≡ countFrom (but p′ p) (r .beyond) 0
       entered-is =
-          rw (fresh-is r w cal′ date′, missing-is (dayOf r cal′) (λ k. 0) p′ p ms held-is (r .beyond) 0)
-          (length-map (sift (but p′ p) (r .beyond) 0) (mat (dayOf r cal′) (λ k. 0)) ∙ length-sift (but p′ p) (r .beyond) 0)
+          rw (fresh-is r w cal′ date′, missing-is (lastDayOf r cal′) (λ k. 0) p′ p ms present-is (r .beyond) 0)
+          (length-map (sift (but p′ p) (r .beyond) 0) (mat (lastDayOf r cal′) (λ k. 0)) ∙ length-sift (but p′ p) (r .beyond) 0)
 
-      left-is : missing ms (fresh r cal′ date′) ≡ map (mat (dayOf r cal) nu) (sift (but p p′) (r .beyond) 0)
+      left-is : missing ms (fresh r cal′ date′) ≡ map (mat (lastDayOf r cal) nu) (sift (but p p′) (r .beyond) 0)
       left-is =
           rw (I .listing ∙ ap (map (maturity r cal nu)) (fresh-is r w cal date))
-          (missing-is (dayOf r cal) nu p p′ (fresh r cal′ date′) (listed-now cal′ date′ (λ k. 0)) (r .beyond) 0)
+          (missing-is (lastDayOf r cal) nu p p′ (fresh r cal′ date′) (listed-now cal′ date′ (λ k. 0)) (r .beyond) 0)
 
       left-before : (k : ℕ) → oneOf (map (λ m. m .month) (missing ms (fresh r cal′ date′))) k ≡ true → k < front r cal′ date′
       left-before k e =
-          let q : map (λ m. m .month) (missing ms (fresh r cal′ date′)) ≡ sift (but p p′) (r .beyond) 0 = rw left-is (months-of (dayOf r cal) nu (sift (but p p′) (r .beyond) 0)) in
+          let q : map (λ m. m .month) (missing ms (fresh r cal′ date′)) ≡ sift (but p p′) (r .beyond) 0 = rw left-is (months-of (lastDayOf r cal) nu (sift (but p p′) (r .beyond) 0)) in
           leaves k (one-sift (but p p′) k (r .beyond) 0 (rw q at e))
 
       left-count : length (missing ms (fresh r cal′ date′)) ≡ countFrom (but p p′) (r .beyond) 0
-      left-count = rw left-is (length-map (sift (but p p′) (r .beyond) 0) (mat (dayOf r cal) nu) ∙ length-sift (but p p′) (r .beyond) 0)
+      left-count = rw left-is (length-map (sift (but p p′) (r .beyond) 0) (mat (lastDayOf r cal) nu) ∙ length-sift (but p p′) (r .beyond) 0)
 
       balance : length (missing (fresh r cal′ date′) ms) + length ms ≡ length (missing ms (fresh r cal′ date′)) + length (renumbered ms given (fresh r cal′ date′))
       balance =
@@ -224,7 +223,7 @@ module _ (r : Rule) (w : Lawful r) where
     unfolding isListed
     first-listing =
         rw (fresh-is r w cal date)
-        (renumbered-is (λ k. false) (now r cal date) (λ k. 0) (dayOf r cal) (λ k. 0) 0 [] (λ k. refl) (λ k e. clash e refl) (r .beyond))
+        (renumbered-is (λ k. false) (now r cal date) (λ k. 0) (lastDayOf r cal) (λ k. 0) 0 [] (λ k. refl) (λ k e. clash e refl) (r .beyond))
 
     first-count : 0 + countFrom (but (now r cal date) (λ k. false)) (r .beyond) 0 ≡ length (fresh r cal date)
     first-count =

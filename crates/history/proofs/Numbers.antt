@@ -14,7 +14,7 @@ use Rattle.questions.proofs.Bools.{clash, both, or-left, or-right, or-either, s
 use Rattle.listing.specs.declared.Maturity.{Maturity}
 use Rattle.listing.proofs.Walks.{bit, put, sift}
 use Rattle.places.specs.Numbering.{isListed, numberOf, missing, renumbered}
-use Rattle.table.specs.Table.{countFrom}
+use Rattle.listing.specs.Rules.{countFrom}
 use Rattle.history.proofs.Counting.{count-end, count-zero, count-before}
 
 -- a maturity by its key, with days and numbers

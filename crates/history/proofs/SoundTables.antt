@@ -16,13 +16,14 @@ use Rattle.questions.specs.Search.{every}
 use Rattle.questions.proofs.Bools.{clash, both, lt-or-ge}
 use Rattle.questions.proofs.Search.{every-at}
 use Rattle.listing.specs.declared.Maturity.{Maturity}
-use Rattle.listing.specs.Rules.{Rule, dayOf, freshKeys, maturity, unused, places15}
-use Rattle.listing.specs.Months.{ruleOf}
+use Rattle.listing.specs.Rules.{Rule, lastDayOf, monthsBefore, freshKeys, maturity, unused, places15}
+use Rattle.listing.specs.Months.{placesOfKind, ruleOf}
 use Rattle.listing.proofs.Lawful.{Lawful, complete-length, keys-rise}
-use Rattle.listing.proofs.Monthly.{monthly-lawful, monthly-room, monthly-begins, monthly-most}
+use Rattle.listing.proofs.Fresh.{places-most}
+use Rattle.listing.proofs.Monthly.{monthly-lawful, monthly-places, monthly-begins, monthly-most}
 use Rattle.table.specs.declared.Table.{Table}
 use Rattle.places.specs.Numbering.{isListed, numberOf, sameMaturity, numbersRight}
-use Rattle.table.specs.Table.{placesUsed, held, listsFresh, monthsBefore, sound, moved, refusedWith, answered, rollCall, closeCall}
+use Rattle.table.specs.Table.{listedIn, listsFresh, sound, moved, refusedWith, answered, rollCall, closeCall}
 use Rattle.history.specs.Book.{Call, roll, close, Book, calendarAfter, dateAfter, bookAsks}
 use Rattle.history.specs.History.{tableCall}
 use Rattle.history.proofs.Numbers.{Numbers}
@@ -76,9 +77,9 @@ same-maturity m k d n a b c = rw (← a, ← b, ← c)
 record Sound (t : Table) : Type 0 where
   opened : Opened (t .product) (t .calendar) (t .date)
   lists : listsFresh t ≡ true
-  numbers : numbersRight (t .maturities) (placesUsed t) (t .given) ≡ true
-  enough : placesUsed t ≤ t .given
-  few : t .given - placesUsed t ≤ monthsBefore (ruleOf (t .calendar) (t .product .kind) (t .product .group)) (t .calendar) (t .date)
+  numbers : numbersRight (t .maturities) (placesOfKind (t .product .kind)) (t .given) ≡ true
+  enough : placesOfKind (t .product .kind) ≤ t .given
+  few : t .given - placesOfKind (t .product .kind) ≤ monthsBefore (ruleOf (t .calendar) (t .product .kind) (t .product .group)) (t .calendar) (t .date)
 
 sounds : (t : Table) → sound t ≡ true → Sound t
 unfolding sound
@@ -108,7 +109,7 @@ module _ (t : Table) (s : Sound t) where
   w = monthly-lawful (t .calendar .cover) (t .product .kind) (t .product .group)
 
   abbrev n : ℕ
-  n = placesUsed t
+  n = placesOfKind (t .product .kind)
 
   abbrev key : ℕ → ℕ
   key i = getD (freshKeys r (t .calendar) (t .date)) i 0
@@ -118,7 +119,7 @@ module _ (t : Table) (s : Sound t) where
   in-place i = getD (t .maturities) i unused
 
   as-many : length (freshKeys r (t .calendar) (t .date)) ≡ n
-  as-many = complete-length r w (t .calendar) (t .date) (s .opened .full)
+  as-many = complete-length r w (t .calendar) (t .date) (s .opened .full) ∙ monthly-places (t .calendar .cover) (t .product .kind) (t .product .group)
 
   fresh-in : (i : ℕ) → i < n → getD (places15 (fresh r (t .calendar) (t .date))) i unused ≡ maturity r (t .calendar) (λ k. 0) (key i)
   fresh-in i h =
@@ -126,13 +127,13 @@ module _ (t : Table) (s : Sound t) where
       ∙ at-map (maturity r (t .calendar) (λ k. 0)) unused (freshKeys r (t .calendar) (t .date)) i (omega (arith, as-many))
 
   -- the month and the day of the fresh listing
-  same-in : (i : ℕ) → i < n → (in-place i .month ≡ key i) × (in-place i .day ≡ dayOf r (t .calendar) (key i))
+  same-in : (i : ℕ) → i < n → (in-place i .month ≡ key i) × (in-place i .day ≡ lastDayOf r (t .calendar) (key i))
   unfolding listsFresh
   same-in i h =
-      let l : i < 15 = omega (arith, monthly-room (t .calendar .cover) (t .product .kind) (t .product .group)) in
+      let l : i < 15 = omega (arith, places-most (t .product .kind)) in
       let e : sameMaturity (in-place i) (getD (places15 (fresh r (t .calendar) (t .date))) i unused) ≡ true = both _ _ (every-at _ 15 i (s .lists) l) .0 in
-      let (a, b) = both (eqb (in-place i .month) (key i)) (eqb (in-place i .day) (dayOf r (t .calendar) (key i))) (rw (fresh-in i h) at e) in
-      (eqb-true (in-place i .month) (key i) a, eqb-true (in-place i .day) (dayOf r (t .calendar) (key i)) b)
+      let (a, b) = both (eqb (in-place i .month) (key i)) (eqb (in-place i .day) (lastDayOf r (t .calendar) (key i))) (rw (fresh-in i h) at e) in
+      (eqb-true (in-place i .month) (key i) a, eqb-true (in-place i .day) (lastDayOf r (t .calendar) (key i)) b)
 
   -- numbers from 1 to the count given, distinct
   record Number (i : ℕ) : Type 0 where
@@ -162,74 +163,74 @@ module _ (t : Table) (s : Sound t) where
           absurd (omega (arith, number-in (length (t .maturities)) l .pos, ap (λ (m : Maturity). m .number) e))
       go (inr l) = l
 
-  held-long : length (held t) ≡ n
-  held-long = length-take-le n (t .maturities) long
+  listed-long : length (listedIn t) ≡ n
+  listed-long = length-take-le n (t .maturities) long
 
-  held-at : (i : ℕ) → i < n → getD (held t) i unused ≡ in-place i
-  held-at i h = getD-take n (t .maturities) i unused h
+  listed-at : (i : ℕ) → i < n → getD (listedIn t) i unused ≡ in-place i
+  listed-at i h = getD-take n (t .maturities) i unused h
 
   -- the number of the month in a place
-  number-key : (i : ℕ) → i < n → numberOf (held t) (key i) ≡ in-place i .number
+  number-key : (i : ℕ) → i < n → numberOf (listedIn t) (key i) ≡ in-place i .number
   number-key i h =
-      let q : getD (held t) i unused .month ≡ key i = ap (λ (m : Maturity). m .month) (held-at i h) ∙ same-in i h .0 in
-      ap (numberOf (held t)) (sym q) ∙ number-place (held t) i (omega (arith, held-long)) (λ j l e. rises j l (e ∙ q))
-      ∙ ap (λ (m : Maturity). m .number) (held-at i h)
+      let q : getD (listedIn t) i unused .month ≡ key i = ap (λ (m : Maturity). m .month) (listed-at i h) ∙ same-in i h .0 in
+      ap (numberOf (listedIn t)) (sym q) ∙ number-place (listedIn t) i (omega (arith, listed-long)) (λ j l e. rises j l (e ∙ q))
+      ∙ ap (λ (m : Maturity). m .number) (listed-at i h)
     where
-      rises : (j : ℕ) → j < i → getD (held t) j unused .month ≡ key i → ⊥
+      rises : (j : ℕ) → j < i → getD (listedIn t) j unused .month ≡ key i → ⊥
       rises j l e =
           omega (
             arith,
-            ap (λ (m : Maturity). m .month) (held-at j (omega arith)),
+            ap (λ (m : Maturity). m .month) (listed-at j (omega arith)),
             same-in j (omega arith) .0,
             keys-rise r w (t .calendar) (t .date) j i l (omega (arith, as-many)),
           )
 
-  listing-is : held t ≡ map (maturity r (t .calendar) (numberOf (held t))) (freshKeys r (t .calendar) (t .date))
+  listing-is : listedIn t ≡ map (maturity r (t .calendar) (numberOf (listedIn t))) (freshKeys r (t .calendar) (t .date))
   listing-is =
-      ext-getD unused (held t) (map (maturity r (t .calendar) (numberOf (held t))) (freshKeys r (t .calendar) (t .date)))
-      (held-long ∙ sym (length-map (freshKeys r (t .calendar) (t .date)) (maturity r (t .calendar) (numberOf (held t))) ∙ as-many))
-      (λ i h. each i (omega (arith, held-long)))
+      ext-getD unused (listedIn t) (map (maturity r (t .calendar) (numberOf (listedIn t))) (freshKeys r (t .calendar) (t .date)))
+      (listed-long ∙ sym (length-map (freshKeys r (t .calendar) (t .date)) (maturity r (t .calendar) (numberOf (listedIn t))) ∙ as-many))
+      (λ i h. each i (omega (arith, listed-long)))
     where
-      each : (i : ℕ) → i < n → getD (held t) i unused ≡ getD (map (maturity r (t .calendar) (numberOf (held t))) (freshKeys r (t .calendar) (t .date))) i unused
+      each : (i : ℕ) → i < n → getD (listedIn t) i unused ≡ getD (map (maturity r (t .calendar) (numberOf (listedIn t))) (freshKeys r (t .calendar) (t .date))) i unused
       each i h =
-          held-at i h
-          ∙ same-maturity (in-place i) (key i) (dayOf r (t .calendar) (key i)) (numberOf (held t) (key i)) (same-in i h .0) (same-in i h .1) (sym (number-key i h))
-          ∙ sym (at-map (maturity r (t .calendar) (numberOf (held t))) unused (freshKeys r (t .calendar) (t .date)) i (omega (arith, as-many)))
+          listed-at i h
+          ∙ same-maturity (in-place i) (key i) (lastDayOf r (t .calendar) (key i)) (numberOf (listedIn t) (key i)) (same-in i h .0) (same-in i h .1) (sym (number-key i h))
+          ∙ sym (at-map (maturity r (t .calendar) (numberOf (listedIn t))) unused (freshKeys r (t .calendar) (t .date)) i (omega (arith, as-many)))
 
   -- the place of a listed month has its number
-  record Held (k : ℕ) : Type 0 where
+  record Placed (k : ℕ) : Type 0 where
     place : ℕ
     below : place < n
     month : key place ≡ k
-    number : numberOf (held t) k ≡ in-place place .number
+    number : numberOf (listedIn t) k ≡ in-place place .number
 
-  held-place : (k : ℕ) → isListed (held t) k ≡ true → Held k
-  held-place k e =
-      let q = place-of (held t) k e in
-      let h : q .place < n = omega (arith, q .below, held-long) in
-      let m : key (q .place) ≡ k = sym (same-in (q .place) h .0) ∙ sym (ap (λ (m : Maturity). m .month) (held-at (q .place) h)) ∙ q .month in
-      record { place = q .place; below = h; month = m; number = ap (numberOf (held t)) (sym m) ∙ number-key (q .place) h }
+  placed-at : (k : ℕ) → isListed (listedIn t) k ≡ true → Placed k
+  placed-at k e =
+      let q = place-of (listedIn t) k e in
+      let h : q .place < n = omega (arith, q .below, listed-long) in
+      let m : key (q .place) ≡ k = sym (same-in (q .place) h .0) ∙ sym (ap (λ (m : Maturity). m .month) (listed-at (q .place) h)) ∙ q .month in
+      record { place = q .place; below = h; month = m; number = ap (numberOf (listedIn t)) (sym m) ∙ number-key (q .place) h }
 
-  listed-is : (k : ℕ) → isListed (held t) k ≡ now r (t .calendar) (t .date) k
-  listed-is k = ap (λ (ms : List Maturity). isListed ms k) listing-is ∙ listed-now r w (t .calendar) (t .date) (numberOf (held t)) k
+  listed-is : (k : ℕ) → isListed (listedIn t) k ≡ now r (t .calendar) (t .date) k
+  listed-is k = ap (λ (ms : List Maturity). isListed ms k) listing-is ∙ listed-now r w (t .calendar) (t .date) (numberOf (listedIn t)) k
 
-  numbers-are : Numbers (now r (t .calendar) (t .date)) (t .given) (numberOf (held t))
+  numbers-are : Numbers (now r (t .calendar) (t .date)) (t .given) (numberOf (listedIn t))
   numbers-are = record {
-    pos = λ k e. positive k (held-place k (listed-is k ∙ e));
-    small = λ k. within k (lt-or-ge 0 (numberOf (held t) k));
-    inj = λ x y e l. one x y e (held-place x (number-listed (held t) x l)) (held-place y (number-listed (held t) y (omega arith)));
+    pos = λ k e. positive k (placed-at k (listed-is k ∙ e));
+    small = λ k. within k (lt-or-ge 0 (numberOf (listedIn t) k));
+    inj = λ x y e l. one x y e (placed-at x (number-listed (listedIn t) x l)) (placed-at y (number-listed (listedIn t) y (omega arith)));
   }
     where
-      positive : (k : ℕ) → Held k → 1 ≤ numberOf (held t) k
+      positive : (k : ℕ) → Placed k → 1 ≤ numberOf (listedIn t) k
       positive k q = omega (arith, q .number, number-in (q .place) (q .below) .pos)
 
-      within : (k : ℕ) → (0 < numberOf (held t) k) ⊎ (numberOf (held t) k ≤ 0) → numberOf (held t) k ≤ t .given
+      within : (k : ℕ) → (0 < numberOf (listedIn t) k) ⊎ (numberOf (listedIn t) k ≤ 0) → numberOf (listedIn t) k ≤ t .given
       within k (inl h) =
-          let q = held-place k (number-listed (held t) k h) in
+          let q = placed-at k (number-listed (listedIn t) k h) in
           omega (arith, q .number, number-in (q .place) (q .below) .small)
       within k (inr h) = omega arith
 
-      one : (x y : ℕ) → numberOf (held t) x ≡ numberOf (held t) y → Held x → Held y → x ≡ y
+      one : (x y : ℕ) → numberOf (listedIn t) x ≡ numberOf (listedIn t) y → Placed x → Placed y → x ≡ y
       one x y e a b =
           let c : in-place (a .place) .number ≡ in-place (b .place) .number = sym (a .number) ∙ e ∙ b .number in
           let u : a .place < b .place → ⊥ = λ l. number-in (b .place) (b .below) .apart (a .place) l c in
@@ -237,19 +238,19 @@ module _ (t : Table) (s : Sound t) where
           let q : a .place ≡ b .place = omega arith in
           sym (a .month) ∙ ap key q ∙ b .month
 
-  numbered : Numbered r (t .calendar) (t .date) (held t) (t .given) (numberOf (held t))
+  numbered : Numbered r (t .calendar) (t .date) (listedIn t) (t .given) (numberOf (listedIn t))
   numbered = record {
     listing = listing-is;
     numbers = numbers-are;
-    there = λ k h l. sym (listed-is k) ∙ number-listed (held t) k h;
+    there = λ k h l. sym (listed-is k) ∙ number-listed (listedIn t) k h;
     begins = monthly-begins (t .calendar .cover) (t .product .kind) (t .product .group) (t .calendar) (t .date) (s .opened .covered);
-    enough = omega (arith, held-long, s .enough);
-    few = omega (arith, held-long, s .few);
+    enough = omega (arith, listed-long, s .enough);
+    few = omega (arith, listed-long, s .few);
   }
 
   -- the book that holds what the table holds
   abbrev beside : Book
-  beside = record { calendar = t .calendar; date = t .date; maturities = held t; given = t .given; gone = [] }
+  beside = record { calendar = t .calendar; date = t .date; maturities = listedIn t; given = t .given; gone = [] }
 
   abbrev refusal : Call → ℕ
   refusal c = firstNo (bookAsks (t .product .kind) (t .product .group) beside c)
@@ -261,9 +262,9 @@ module _ (t : Table) (s : Sound t) where
   moved-sound c e =
       let cal = calendarAfter (t .calendar) c in
       let date = dateAfter (t .date) c in
-      is-sound (t .product) cal date _ _ (numbersNext r (t .calendar) (t .date) (t .given) (numberOf (held t)) cal date) (after-opened (t .product) beside (s .opened) c e)
+      is-sound (t .product) cal date _ _ (numbersNext r (t .calendar) (t .date) (t .given) (numberOf (listedIn t)) cal date) (after-opened (t .product) beside (s .opened) c e)
       (rw (rule-stays (t .calendar) (t .product .kind) (t .product .group) c)
-      (moves r w (t .calendar) (t .date) (held t) (t .given) (numberOf (held t)) numbered cal date (forward r w (t .product .kind) (t .product .group) beside c e) .numbered))
+      (moves r w (t .calendar) (t .date) (listedIn t) (t .given) (numberOf (listedIn t)) numbered cal date (forward r w (t .product .kind) (t .product .group) beside c e) .numbered))
 
   called-sound : sound t ≡ true → (c : Call) → sound (tableCall t c .table) ≡ true
   unfolding answered
@@ -275,11 +276,11 @@ module _ (t : Table) (s : Sound t) where
 
 module _ (t : Table) (e : sound t ≡ true) where
   -- a sound table holds as many maturities as its kind's row of counts sums to
-  pub held-length : length (held t) ≡ placesUsed t
-  held-length = held-long t (sounds t e)
+  pub listed-length : length (listedIn t) ≡ placesOfKind (t .product .kind)
+  listed-length = listed-long t (sounds t e)
 
   -- they are a numbered listing
-  pub sound-numbered : Numbered (ruleOf (t .calendar) (t .product .kind) (t .product .group)) (t .calendar) (t .date) (held t) (t .given) (numberOf (held t))
+  pub sound-numbered : Numbered (ruleOf (t .calendar) (t .product .kind) (t .product .group)) (t .calendar) (t .date) (listedIn t) (t .given) (numberOf (listedIn t))
   sound-numbered = numbered t (sounds t e)
 
   -- 'So the listing number of a month never passes 192'
@@ -287,11 +288,11 @@ module _ (t : Table) (e : sound t ≡ true) where
   given-bound =
       omega (
         arith,
-        given-most (r t (sounds t e)) (w t (sounds t e)) (t .calendar) (t .date) (held t) (t .given) (numberOf (held t)) sound-numbered,
+        given-most (r t (sounds t e)) (w t (sounds t e)) (t .calendar) (t .date) (listedIn t) (t .given) (numberOf (listedIn t)) sound-numbered,
         monthly-most (t .calendar .cover) (t .product .kind) (t .product .group) (sounds t e .opened .valid),
       )
 
-  pub number-bound : (m : ℕ) → numberOf (held t) m ≤ 192
+  pub number-bound : (m : ℕ) → numberOf (listedIn t) m ≤ 192
   number-bound m = omega (arith, sound-numbered .numbers .small m, given-bound)
 
   -- accepted or refused, a call on it gives a sound table

@@ -18,14 +18,14 @@ use Rattle.calendar.specs.Trading.{validCover, inCover, clean, everyWeek}
 use Rattle.product.specs.declared.Product.{Product}
 use Rattle.product.specs.Fields.{productRight}
 use Rattle.listing.specs.declared.Maturity.{Maturity}
-use Rattle.listing.specs.Rules.{Rule, dayOf, freshKeys, maturity, unused, places15}
-use Rattle.listing.specs.Months.{ruleOf}
+use Rattle.listing.specs.Rules.{Rule, lastDayOf, monthsBefore, freshKeys, maturity, unused, places15}
+use Rattle.listing.specs.Months.{placesOfKind, ruleOf, allInCover}
 use Rattle.listing.proofs.Walks.{sift-at}
 use Rattle.listing.proofs.Lawful.{Lawful, fresh-is, complete-length, keys-rise}
-use Rattle.listing.proofs.Monthly.{monthly-lawful}
+use Rattle.listing.proofs.Monthly.{monthly-lawful, monthly-places}
 use Rattle.table.specs.declared.Table.{Table}
 use Rattle.places.specs.Numbering.{sameMaturity, numbersRight}
-use Rattle.table.specs.Table.{allInCover, held, listsFresh, monthsBefore, sound}
+use Rattle.table.specs.Table.{listedIn, listsFresh, sound}
 use Rattle.history.specs.History.{opens}
 use Rattle.history.proofs.Numbers.{mat}
 use Rattle.history.proofs.Moves.{fresh, now, Numbered}
@@ -93,47 +93,53 @@ module _ (p : Product) (cal : Calendar) (date : ℕ) (ms : List Maturity) (given
   abbrev w : Lawful (ruleOf cal (p .kind) (p .group))
   w = monthly-lawful (cal .cover) (p .kind) (p .group)
 
+  abbrev n : ℕ
+  n = placesOfKind (p .kind)
+
   module _ (I : Numbered (ruleOf cal (p .kind) (p .group)) cal date ms given nu) where
-    as-long : length ms ≡ length (r .places)
-    as-long = ap length (I .listing) ∙ length-map (freshKeys r cal date) (maturity r cal nu) ∙ complete-length r w cal date (o .full)
+    as-many : length (freshKeys r cal date) ≡ n
+    as-many = complete-length r w cal date (o .full) ∙ monthly-places (cal .cover) (p .kind) (p .group)
+
+    as-long : length ms ≡ n
+    as-long = ap length (I .listing) ∙ length-map (freshKeys r cal date) (maturity r cal nu) ∙ as-many
 
     -- it holds them
-    pub holds : held (tableOf p cal date ms given) ≡ ms
+    pub holds : listedIn (tableOf p cal date ms given) ≡ ms
     unfolding places15
-    holds = take-at ms (replicate (15 - length ms) unused) (length (r .places)) as-long
+    holds = take-at ms (replicate (15 - length ms) unused) (n) as-long
 
     lists-them : listsFresh (tableOf p cal date ms given) ≡ true
     unfolding listsFresh
-    lists-them = every-all _ 15 (λ i h. each i (lt-or-ge i (length (r .places))))
+    lists-them = every-all _ 15 (λ i h. each i (lt-or-ge i (n)))
       where
         same : (i : ℕ) → sameMaturity (getD (places15 ms) i unused) (getD (places15 (fresh r cal date)) i unused) ≡ true
-        same i = rw (I .listing) (same-places (dayOf r cal) nu (λ k. 0) (freshKeys r cal date) i)
+        same i = rw (I .listing) (same-places (lastDayOf r cal) nu (λ k. 0) (freshKeys r cal date) i)
 
-        each : (i : ℕ) → (i < length (r .places)) ⊎ (length (r .places) ≤ i)
-            → (sameMaturity (getD (places15 ms) i unused) (getD (places15 (fresh r cal date)) i unused) && (ltb i (length (r .places)) || eqb (getD (places15 ms) i unused .number) 0)) ≡ true
-        each i (inl l) = and-both (same i) (or-left (eqb (getD (places15 ms) i unused .number) 0) (lt-ltb i (length (r .places)) l))
-        each i (inr l) = and-both (same i) (or-right (ltb i (length (r .places))) (rw (at-unused ms i (omega (arith, as-long)))))
+        each : (i : ℕ) → (i < n) ⊎ (n ≤ i)
+            → (sameMaturity (getD (places15 ms) i unused) (getD (places15 (fresh r cal date)) i unused) && (ltb i (n) || eqb (getD (places15 ms) i unused .number) 0)) ≡ true
+        each i (inl l) = and-both (same i) (or-left (eqb (getD (places15 ms) i unused .number) 0) (lt-ltb i (n) l))
+        each i (inr l) = and-both (same i) (or-right (ltb i (n)) (rw (at-unused ms i (omega (arith, as-long)))))
 
     -- the key in a place, and its number
     abbrev key : ℕ → ℕ
     key i = getD (freshKeys r cal date) i 0
 
-    used : (i : ℕ) → i < length (r .places) → i < length (freshKeys r cal date)
-    used i h = omega (arith, complete-length r w cal date (o .full))
+    used : (i : ℕ) → i < n → i < length (freshKeys r cal date)
+    used i h = omega (arith, as-many)
 
-    number-at : (i : ℕ) → i < length (r .places) → getD (places15 ms) i unused .number ≡ nu (key i)
+    number-at : (i : ℕ) → i < n → getD (places15 ms) i unused .number ≡ nu (key i)
     number-at i h =
         ap (λ (m : Maturity). m .number)
         (at-used ms i (omega (arith, as-long)) ∙ ap (λ (l : List Maturity). getD l i unused) (I .listing) ∙ at-map (maturity r cal nu) unused (freshKeys r cal date) i (used i h))
 
-    key-listed : (i : ℕ) → i < length (r .places) → now r cal date (key i) ≡ true
+    key-listed : (i : ℕ) → i < n → now r cal date (key i) ≡ true
     key-listed i h = rw (fresh-is r w cal date) (sift-at (now r cal date) (r .beyond) 0 i (rw (fresh-is r w cal date) at (used i h)) .passes)
 
-    numbers-them : numbersRight (places15 ms) (length (r .places)) given ≡ true
+    numbers-them : numbersRight (places15 ms) (n) given ≡ true
     unfolding numbersRight
-    numbers-them = every-all _ (length (r .places)) each
+    numbers-them = every-all _ (n) each
       where
-        apart : (i j : ℕ) → i < length (r .places) → j < i → not (eqb (getD (places15 ms) j unused .number) (getD (places15 ms) i unused .number)) ≡ true
+        apart : (i j : ℕ) → i < n → j < i → not (eqb (getD (places15 ms) j unused .number) (getD (places15 ms) i unused .number)) ≡ true
         apart i j h l =
             rw (
               number-at i h,
@@ -142,7 +148,7 @@ module _ (p : Product) (cal : Calendar) (date : ℕ) (ms : List Maturity) (given
                   (λ q. absurd (omega (arith, I .numbers .inj (key j) (key i) q (I .numbers .pos (key j) (key-listed j (omega arith))), keys-rise r w cal date j i l (used i h)))),
             )
 
-        each : (i : ℕ) → i < length (r .places) → (leb 1 (getD (places15 ms) i unused .number)
+        each : (i : ℕ) → i < n → (leb 1 (getD (places15 ms) i unused .number)
             && (leb (getD (places15 ms) i unused .number) given && every i (λ j. not (eqb (getD (places15 ms) j unused .number) (getD (places15 ms) i unused .number))))) ≡ true
         each i h =
             and-both (le-leb 1 (getD (places15 ms) i unused .number) (rw (number-at i h) (I .numbers .pos (key i) (key-listed i h))))
@@ -153,5 +159,5 @@ module _ (p : Product) (cal : Calendar) (date : ℕ) (ms : List Maturity) (given
     is-sound =
         and-both (o .product) (and-both (o .valid) (and-both (o .cleaned) (and-both (o .weeks) (and-both (o .covered) (and-both (o .full)
         (and-both lists-them (and-both numbers-them
-        (and-both (le-leb (length (r .places)) given (omega (arith, I .enough, as-long)))
-        (le-leb (given - length (r .places)) (monthsBefore r cal date) (omega (arith, I .few, as-long)))))))))))
+        (and-both (le-leb (n) given (omega (arith, I .enough, as-long)))
+        (le-leb (given - n) (monthsBefore r cal date) (omega (arith, I .few, as-long)))))))))))

@@ -11,7 +11,7 @@ use Rattle.calendar.specs.declared.Calendar.{Calendar}
 use Rattle.product.specs.declared.Product.{Product}
 use Rattle.table.specs.declared.Table.{Table}
 use Rattle.table.specs.declared.Outcome.{Outcome}
-use Rattle.table.specs.Table.{held, sound, moved, refusedWith, answered, rollCall, closeCall, openedTable}
+use Rattle.table.specs.Table.{listedIn, sound, moved, refusedWith, answered, rollCall, closeCall, openedTable}
 use Rattle.history.specs.Book.{Call, roll, close, Reply, Book, calendarAfter, dateAfter, bookOpened, bookAsks, bookMoved, bookCounts, bookAfter, bookReply, bookRun, bookReplies}
 use Rattle.history.specs.History.{tableCall, tableRun, replyOf, tableReplies, calendarWith, dateWith}
 use Rattle.history.proofs.Soundness.{tableOf, holds, is-sound}
@@ -45,8 +45,8 @@ module _ (p : Product) where
       cond accepted (bookCounts (p .kind) (p .group) b (calendarAfter (b .calendar) c) (dateAfter (b .date) c)) (record { refusal = refusal b c; entered = 0; left = 0 })
 
   -- the table holds the book's maturities
-  pub held-in : (b : Book) (nu : ℕ → ℕ) → Inv p b nu → held (tableIn p b) ≡ b .maturities
-  held-in b nu I = holds p (b .calendar) (b .date) (b .maturities) (b .given) nu (I .opened) (I .numbered)
+  pub table-lists : (b : Book) (nu : ℕ → ℕ) → Inv p b nu → listedIn (tableIn p b) ≡ b .maturities
+  table-lists b nu I = holds p (b .calendar) (b .date) (b .maturities) (b .given) nu (I .opened) (I .numbered)
 
   pub sound-in : (b : Book) (nu : ℕ → ℕ) → Inv p b nu → sound (tableIn p b) ≡ true
   sound-in b nu I = is-sound p (b .calendar) (b .date) (b .maturities) (b .given) nu (I .opened) (I .numbered)
@@ -55,7 +55,7 @@ module _ (p : Product) where
   moved-in : (b : Book) (nu : ℕ → ℕ) → Inv p b nu → (cal : Calendar) (date : ℕ)
       → moved (tableIn p b) cal date ≡ outcome (bookCounts (p .kind) (p .group) b cal date) (tableIn p (bookMoved (p .kind) (p .group) b cal date))
   unfolding moved bookCounts bookMoved
-  moved-in b nu I cal date = rw (held-in b nu I)
+  moved-in b nu I cal date = rw (table-lists b nu I)
 
   -- any call
   pub turn : (b : Book) (nu : ℕ → ℕ) → Inv p b nu → (c : Call) → tableCall (tableIn p b) c ≡ outcome (bookReply (p .kind) (p .group) b c) (tableIn p (bookAfter (p .kind) (p .group) b c))

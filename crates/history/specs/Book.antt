@@ -11,7 +11,7 @@ use Rattle.calendar.specs.Trading.{inCover, tradingDay, everyWeek, closeDay}
 use Rattle.product.specs.declared.Kind.{Kind}
 use Rattle.listing.specs.declared.Maturity.{Maturity}
 use Rattle.places.specs.Numbering.{missing, renumbered, numberedFresh}
-use Rattle.table.specs.Table.{freshOf, allInCover}
+use Rattle.listing.specs.Months.{freshOf, allInCover}
 
 -- a call of the list, with its argument
 pub data Call : Type 0 where

@@ -18,8 +18,9 @@ use Rattle.expiry.specs.LastDays.{lastTradingDay}
 use Rattle.table.specs.declared.Table.{Table}
 use Rattle.table.specs.declared.Outcome.{Outcome}
 use Rattle.places.specs.Numbering.{isListed, numberOf, withNumber}
-use Rattle.table.specs.Table.{freshOf, allInCover, held, sound, rollCall, closeCall, openedTable}
-use Rattle.history.specs.Book.{Call, roll, close, Reply, calendarAfter, dateAfter, bookOpened, bookRun, bookReplies}
+use Rattle.listing.specs.Months.{freshOf, allInCover}
+use Rattle.table.specs.Table.{listedIn, sound, rollCall, closeCall, openedTable}
+use Rattle.history.specs.Book.{Call, roll, close, Reply, Book, calendarAfter, dateAfter, bookOpened, bookRun, bookReplies}
 
 -- a call on a table
 abbrev pub tableCall : Table → Call → Outcome
@@ -65,41 +66,73 @@ opens p cal date =
 abbrev pub unnumbered : List Maturity → List Maturity
 unnumbered ms = map (λ m. withNumber m 0) ms
 
--- Demand 3, for a product, the file's calendar and the opening's date, at the moment after the calls cs, at any later moment after cs ++ ds, and for one more call
-pub record Demand3 (p : Product) (cal : Calendar) (date : ℕ) (cs ds : List Call) : Type 0 where
-  -- 'After it, the table's calendar, date, maturities (month, day, number) and count given are the book's'
-  pub book-calendar : tableRun (openedTable p cal date) cs .calendar ≡ bookRun (p .kind) (p .group) (bookOpened (p .kind) (p .group) cal date) cs .calendar
-  pub book-date : tableRun (openedTable p cal date) cs .date ≡ bookRun (p .kind) (p .group) (bookOpened (p .kind) (p .group) cal date) cs .date
-  pub book-maturities : tableRun (openedTable p cal date) cs .maturities ≡ places15 (bookRun (p .kind) (p .group) (bookOpened (p .kind) (p .group) cal date) cs .maturities)
-  pub book-listed : held (tableRun (openedTable p cal date) cs) ≡ bookRun (p .kind) (p .group) (bookOpened (p .kind) (p .group) cal date) cs .maturities
-  pub book-given : tableRun (openedTable p cal date) cs .given ≡ bookRun (p .kind) (p .group) (bookOpened (p .kind) (p .group) cal date) cs .given
-  -- the product is the opened one
-  pub same-product : tableRun (openedTable p cal date) cs .product ≡ p
-  -- 'so are every call's acceptance or refusal number and its two counts'
-  pub replies : tableReplies (openedTable p cal date) cs ≡ bookReplies (p .kind) (p .group) (bookOpened (p .kind) (p .group) cal date) cs
-  -- 'months and last trading days equal a listing made afresh from the opened product, the file's calendar with the accepted closures, and the date of the last accepted roll (or the opening)'
-  pub calendar-is : tableRun (openedTable p cal date) cs .calendar ≡ calendarWith cal cs (tableReplies (openedTable p cal date) cs)
-  pub date-is : tableRun (openedTable p cal date) cs .date ≡ dateWith date cs (tableReplies (openedTable p cal date) cs)
-  pub fresh : unnumbered (held (tableRun (openedTable p cal date) cs))
-      ≡ freshOf (calendarWith cal cs (tableReplies (openedTable p cal date) cs)) (p .kind) (p .group) (dateWith date cs (tableReplies (openedTable p cal date) cs))
-  -- 'From the opening on no listing number stood for two months'
-  pub one-month : (m m′ n : ℕ) → numberOf (held (tableRun (openedTable p cal date) cs)) m ≡ suc n
-      → numberOf (held (tableRun (openedTable p cal date) (cs ++ ds))) m′ ≡ suc n → m ≡ m′
-  -- 'no month had two'
-  pub one-number : (m n n′ : ℕ) → numberOf (held (tableRun (openedTable p cal date) cs)) m ≡ suc n
-      → numberOf (held (tableRun (openedTable p cal date) (cs ++ ds))) m ≡ suc n′ → n ≡ n′
-  -- every listed month has a number
-  pub numbered : (m : ℕ) → isListed (held (tableRun (openedTable p cal date) cs)) m ≡ true → 1 ≤ numberOf (held (tableRun (openedTable p cal date) cs)) m
-  -- 'none that left came back'
-  pub for-good : (m : ℕ) → oneOf (bookRun (p .kind) (p .group) (bookOpened (p .kind) (p .group) cal date) cs .gone) m ≡ true
-      → isListed (held (tableRun (openedTable p cal date) (cs ++ ds))) m ≡ false
-  -- 'A call took a listed month off exactly when its last trading day, as the calendar stands after the call, is before the date the table then has'
-  pub off : (c : Call) (m : ℕ) → isListed (held (tableRun (openedTable p cal date) cs)) m ≡ true
-      → (isListed (held (tableCall (tableRun (openedTable p cal date) cs) c .table)) m ≡ false)
-      ↔ (lastTradingDay (tableCall (tableRun (openedTable p cal date) cs) c .table .calendar) (p .group) m < tableCall (tableRun (openedTable p cal date) cs) c .table .date)
-  -- 'Numbers given = months listed + months that left'
-  pub sum : tableRun (openedTable p cal date) cs .given
-      ≡ length (held (tableRun (openedTable p cal date) cs)) + length (bookRun (p .kind) (p .group) (bookOpened (p .kind) (p .group) cal date) cs .gone)
-  -- the table is sound, and 'the listing number of a month never passes 192'
-  pub stays-sound : sound (tableRun (openedTable p cal date) cs) ≡ true
-  pub below-193 : tableRun (openedTable p cal date) cs .given ≤ 192
+module _ (p : Product) (cal : Calendar) (date : ℕ) where
+  -- the table after some calls, from its opening on
+  abbrev pub after : List Call → Table
+  after cs = tableRun (openedTable p cal date) cs
+
+  -- the book that is fed the same calls
+  abbrev pub book : List Call → Book
+  book cs = bookRun (p .kind) (p .group) (bookOpened (p .kind) (p .group) cal date) cs
+
+  -- every call's answer, and the book's
+  abbrev pub answers : List Call → List Reply
+  answers cs = tableReplies (openedTable p cal date) cs
+
+  abbrev pub bookAnswers : List Call → List Reply
+  bookAnswers cs = bookReplies (p .kind) (p .group) (bookOpened (p .kind) (p .group) cal date) cs
+
+  -- 'the file's calendar with the accepted closures'
+  abbrev pub calendarThen : List Call → Calendar
+  calendarThen cs = calendarWith cal cs (answers cs)
+
+  -- 'the date of the last accepted roll (or the opening)'
+  abbrev pub dateThen : List Call → ℕ
+  dateThen cs = dateWith date cs (answers cs)
+
+  -- a month is listed after some calls
+  abbrev pub listedThen : List Call → ℕ → Bool
+  listedThen cs m = isListed (listedIn (after cs)) m
+
+  -- its listing number then; 0 where it is not listed
+  abbrev pub numberThen : List Call → ℕ → ℕ
+  numberThen cs m = numberOf (listedIn (after cs)) m
+
+  -- the table after one call more
+  abbrev pub next : List Call → Call → Table
+  next cs c = tableCall (after cs) c .table
+
+  -- Demand 3 at the moment after the calls cs, at any later moment after cs ++ ds, and for one more call
+  pub record Demand3 (cs ds : List Call) : Type 0 where
+    -- 'After it, the table's calendar, date, maturities (month, day, number) and count given are the book's'
+    pub book-calendar : after cs .calendar ≡ book cs .calendar
+    pub book-date : after cs .date ≡ book cs .date
+    pub book-maturities : after cs .maturities ≡ places15 (book cs .maturities)
+    pub book-listed : listedIn (after cs) ≡ book cs .maturities
+    pub book-given : after cs .given ≡ book cs .given
+    -- the product is the opened one
+    pub same-product : after cs .product ≡ p
+    -- 'so are every call's acceptance or refusal number and its two counts'
+    pub replies : answers cs ≡ bookAnswers cs
+    -- 'months and last trading days equal a listing made afresh from the opened product, the file's calendar with the accepted closures, and the date of the last accepted roll (or the opening)'
+    pub calendar-is : after cs .calendar ≡ calendarThen cs
+    pub date-is : after cs .date ≡ dateThen cs
+    pub fresh : unnumbered (listedIn (after cs)) ≡ freshOf (calendarThen cs) (p .kind) (p .group) (dateThen cs)
+    -- 'From the opening on no listing number stood for two months'
+    pub one-month : (m m′ n : ℕ) → numberThen cs m ≡ suc n → numberThen (cs ++ ds) m′ ≡ suc n → m ≡ m′
+    -- 'no month had two'
+    pub one-number : (m n n′ : ℕ) → numberThen cs m ≡ suc n → numberThen (cs ++ ds) m ≡ suc n′ → n ≡ n′
+    -- every listed month has a number
+    pub numbered : (m : ℕ) → listedThen cs m ≡ true → 1 ≤ numberThen cs m
+    -- 'none that left came back'
+    pub for-good : (m : ℕ) → oneOf (book cs .gone) m ≡ true → listedThen (cs ++ ds) m ≡ false
+    -- the same of the table alone: a month that was listed at some moment and is not at a later one is not listed again
+    pub never-back : (m : ℕ) (es : List Call) → listedThen cs m ≡ true → listedThen (cs ++ ds) m ≡ false → listedThen ((cs ++ ds) ++ es) m ≡ false
+    -- 'A call took a listed month off exactly when its last trading day, as the calendar stands after the call, is before the date the table then has'
+    pub off : (c : Call) (m : ℕ) → listedThen cs m ≡ true
+        → (isListed (listedIn (next cs c)) m ≡ false) ↔ (lastTradingDay (next cs c .calendar) (p .group) m < next cs c .date)
+    -- 'Numbers given = months listed + months that left'
+    pub sum : after cs .given ≡ length (listedIn (after cs)) + length (book cs .gone)
+    -- the table is sound, and 'the listing number of a month never passes 192'
+    pub stays-sound : sound (after cs) ≡ true
+    pub below-193 : after cs .given ≤ 192

@@ -39,7 +39,7 @@ id-trans a b c = byte-trans _ _ _ (byte-trans _ _ _ (byte-trans _ _ _ (less-tran
 -- the places before p have been walked, of n; `last` is the last that holds a record, n where none does
 pub record Walked (f : List ℕ) (n p last : ℕ) : Type 0 where
   pub to : p ≤ n
-  pub held : every p (placeRises f) ≡ true
+  pub risen : every p (placeRises f) ≡ true
   pub highest : (q : ℕ) → q < p → isRecord f q ≡ true → (last < n) × ((q ≡ last) ⊎ (idRises (idAt f q) (idAt f last) ≡ true))
   pub holds : last < n → (last < p) × (isRecord f last ≡ true)
 
@@ -56,7 +56,7 @@ module _ (f : List ℕ) (n : ℕ) where
   walk-start =
       record {
         to = omega arith;
-        held = every-none (placeRises f);
+        risen = every-none (placeRises f);
         highest = λ q h e. absurd (omega arith);
         holds = λ h. absurd (omega arith);
       }
@@ -85,7 +85,7 @@ module _ (f : List ℕ) (n : ℕ) where
     with-record e t =
         record {
           to = omega arith;
-          held = every-more (placeRises f) p (w .held) (rises e t);
+          risen = every-more (placeRises f) p (w .risen) (rises e t);
           highest = λ q h s. (l, side q s (lt-or-ge q p) h);
           holds = λ h. (omega arith, e);
         }
@@ -98,7 +98,7 @@ module _ (f : List ℕ) (n : ℕ) where
     without e =
         record {
           to = omega arith;
-          held = every-more (placeRises f) p (w .held) (no-record f p e);
+          risen = every-more (placeRises f) p (w .risen) (no-record f p e);
           highest = λ q h s. side q s (lt-or-ge q p) h;
           holds = λ h. let (a, b) = w .holds h in (omega arith, b);
         }
@@ -134,4 +134,4 @@ module _ (f : List ℕ) (n : ℕ) where
   pub walk-ends : (p last : ℕ) → Walked f n p last → n ≤ p → every n (placeRises f) ≡ true
   walk-ends p last w h =
       let e : n ≡ p = omega arith in
-      ap (λ (m : ℕ). every m (placeRises f)) e ∙ w .held
+      ap (λ (m : ℕ). every m (placeRises f)) e ∙ w .risen

@@ -7,7 +7,7 @@ use lib.ListN.{getD}
 use lib.Dec.{eqb, ltb}
 use Rattle.questions.specs.Search.{every}
 use Rattle.blocks.specs.Blocks.{blockCount, countOf, blockOf, isProducts, recordsOfBlock}
-use Rattle.records.specs.Records.{recordOf, four}
+use Rattle.records.specs.Records.{recordOf, fourBytes}
 
 -- the places for records, 15 to a block: place p is record p mod 15 of block p div 15
 abbrev pub placeCount : List ℕ → ℕ
@@ -23,7 +23,7 @@ recordCount f = countOf (placeCount f) (isRecord f)
 
 -- '0–3 product id', at a place
 unfoldable pub idAt : List ℕ → ℕ → List ℕ
-idAt f p = four (recordOf (blockOf f (p / 15)) (p % 15)) 0
+idAt f p = fourBytes (recordOf (blockOf f (p / 15)) (p % 15)) 0
 
 -- 'byte by byte': the first byte is less, or it is the same and what follows rises
 unfoldable pub byteRises : ℕ → ℕ → Bool → Bool

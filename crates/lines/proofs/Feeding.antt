@@ -13,7 +13,7 @@ use lib.Seq.{getD-append-seam, getD-set-same, getD-set-other, append-snoc}
 use borrow.Author.Tests.{lt-ltb, le-ltb, lt-leb, ne-eqb}
 use Rattle.questions.proofs.Bools.{lt-or-ge}
 use Rattle.lines.specs.declared.Line.{Line}
-use Rattle.lines.specs.Lines.{moveForm, moveCommand, openForm, openCommand, otherLine, commandAt, commandOf, heldCommand, emptyLine, extended, fed}
+use Rattle.lines.specs.Lines.{moveForm, moveCommand, openForm, openCommand, otherLine, commandAt, commandOf, lineCommand, emptyLine, extended, fed}
 
 -- a line of 18 bytes or more is no command
 no-open : (f : ℕ → ℕ) (k : ℕ) → 5 ≤ k → openForm f k ≡ false
@@ -122,8 +122,8 @@ none = record { room = length-replicate {A = ℕ} 18 0; holds = inl (record { sh
         go (inr h) = List·getD-eq-default (replicate 18 zero) 0 h
 
 -- a line of any length, fed byte by byte to an empty line, is the command that the definition says
-pub any-length : (bytes : List ℕ) → heldCommand (fed emptyLine bytes) ≡ commandOf bytes
-unfolding heldCommand commandOf
+pub any-length : (bytes : List ℕ) → lineCommand (fed emptyLine bytes) ≡ commandOf bytes
+unfolding lineCommand commandOf
 any-length bytes = go (all emptyLine [] bytes none .holds)
   where
     l : Line
@@ -132,3 +132,20 @@ any-length bytes = go (all emptyLine [] bytes none .holds)
     go : Fed l bytes ⊎ ((18 ≤ length bytes) × (l .length ≡ 18)) → commandAt (λ i. getD (l .bytes) i 0) (l .length) ≡ commandAt (λ i. getD bytes i 0) (length bytes)
     go (inl f) = ap (commandAt (λ i. getD (l .bytes) i 0)) (f .count) ∙ ap (λ (g : ℕ → ℕ). commandAt g (length bytes)) (fun-ext (f .same))
     go (inr f) = long-line (λ i. getD (l .bytes) i 0) (l .length) (omega (arith, f .1)) ∙ sym (long-line (λ i. getD bytes i 0) (length bytes) (f .0))
+
+-- it has no bytes exactly where it was fed none
+pub any-empty : (bytes : List ℕ) → eqb (fed emptyLine bytes .length) 0 ≡ eqb (length bytes) 0
+any-empty bytes = go (all emptyLine [] bytes none .holds)
+  where
+    l : Line
+    l = fed emptyLine bytes
+
+    go : Fed l bytes ⊎ ((18 ≤ length bytes) × (l .length ≡ 18)) → eqb (l .length) 0 ≡ eqb (length bytes) 0
+    go (inl f) = ap (λ (n : ℕ). eqb n 0) (f .count)
+    go (inr f) = ne-eqb (l .length) 0 (λ e. omega (arith, f .1)) ∙ sym (ne-eqb (length bytes) 0 (λ e. omega (arith, f .0)))
+
+-- one byte more
+pub fed-more : (l : Line) (bytes : List ℕ) (byte : ℕ) → fed l (bytes ++ (byte ∷ [])) ≡ extended (fed l bytes) byte
+unfolding fed
+fed-more l [] byte = refl
+fed-more l (b ∷ bs) byte = fed-more (extended l b) bs byte

@@ -13,12 +13,12 @@ use Rattle.days.specs.declared.DayAnswer.{DayAnswer}
 use Rattle.days.specs.declared.DayAnswer.the-variants.{Day, NotADate}
 use Rattle.days.specs.Dates.{dayCall, dayAnswer}
 use Rattle.lines.specs.declared.DateRead.{DateRead}
-use Rattle.lines.specs.Lines.{twoValue, dateForm, yearAt, noDate, dateAt, otherLine, moveForm, moveCommand, idForm, idAt, openForm, openCommand, commandAt}
+use Rattle.lines.specs.Lines.{twoValue, dateForm, yearAt, noDateRead, dateAt, otherLine, moveForm, moveCommand, idForm, idInLine, openForm, openCommand, commandAt}
 
 module _ (f : ℕ → ℕ) where
   -- the date at a place
   module _ (at : ℕ) where
-    pub date-formless : dateForm f at ≡ false → noDate ≡ dateAt f at
+    pub date-formless : dateForm f at ≡ false → noDateRead ≡ dateAt f at
     unfolding dateAt
     date-formless e = rw e refl
 
@@ -32,7 +32,7 @@ module _ (f : ℕ → ℕ) where
           let c : record { refusal = 0; value = n } ≡ dayCall (yearAt f at) (twoValue f (at + 5)) (twoValue f (at + 8)) = sym (ap dayAnswer t) ∙ called in
           rw (e, ← c) refl
 
-      pub date-refused : a ≡ NotADate → noDate ≡ dateAt f at
+      pub date-refused : a ≡ NotADate → noDateRead ≡ dateAt f at
       unfolding dateAt
       date-refused t =
           let c : record { refusal = 23; value = 0 } ≡ dayCall (yearAt f at) (twoValue f (at + 5)) (twoValue f (at + 8)) = sym (ap dayAnswer t) ∙ called in
@@ -90,7 +90,7 @@ module _ (f : ℕ → ℕ) where
       unfolding openCommand
       open-dateless t = rw (e, ← q, t) refl
 
-      pub open-is : (id : List ℕ) → id ≡ idAt f (n - 13) → r .there ≡ true → record { letter = 79; id = id; day = r .day } ≡ openCommand f n
+      pub open-is : (id : List ℕ) → id ≡ idInLine f (n - 13) → r .there ≡ true → record { letter = 79; id = id; day = r .day } ≡ openCommand f n
       unfolding openCommand
       open-is id i t = rw (e, ← q, t, ← i) refl
 

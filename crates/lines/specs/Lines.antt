@@ -38,14 +38,14 @@ abbrev pub yearAt : (ℕ → ℕ) → ℕ → ℕ
 yearAt line at = 100 * twoValue line at + twoValue line (at + 2)
 
 -- no date
-abbrev pub noDate : DateRead
-noDate = record { there = false; day = 0 }
+abbrev pub noDateRead : DateRead
+noDateRead = record { there = false; day = 0 }
 
 -- the date at a place, 'and one that 23 refuses makes another line'
 unfoldable pub dateAt : (ℕ → ℕ) → ℕ → DateRead
 dateAt line at =
     let call = dayCall (yearAt line at) (twoValue line (at + 5)) (twoValue line (at + 8)) in
-    cond (dateForm line at) (cond (eqb (call .refusal) 0) (record { there = true; day = call .value }) noDate) noDate
+    cond (dateForm line at) (cond (eqb (call .refusal) 0) (record { there = true; day = call .value }) noDateRead) noDateRead
 
 -- another line: no letter, and zeros
 abbrev pub otherLine : Command
@@ -70,8 +70,8 @@ abbrev pub idByteAt : (ℕ → ℕ) → ℕ → ℕ → ℕ
 idByteAt line k i = cond (ltb i k) (line (2 + i)) 32
 
 -- the four bytes of such an id: 'An id is 1 to 4 characters as in a record'
-unfoldable pub idAt : (ℕ → ℕ) → ℕ → List ℕ
-idAt line k = idByteAt line k 0 ∷ idByteAt line k 1 ∷ idByteAt line k 2 ∷ idByteAt line k 3 ∷ []
+unfoldable pub idInLine : (ℕ → ℕ) → ℕ → List ℕ
+idInLine line k = idByteAt line k 0 ∷ idByteAt line k 1 ∷ idByteAt line k 2 ∷ idByteAt line k 3 ∷ []
 
 -- '`O id date`': with an id of k characters there are 13 more: the letter, a space, then after the id a space and a date
 unfoldable pub openForm : (ℕ → ℕ) → ℕ → Bool
@@ -81,7 +81,7 @@ openForm line k = leb 1 k && (leb k 4 && (eqb (line 1) 32 && (idForm line k && e
 unfoldable pub openCommand : (ℕ → ℕ) → ℕ → Command
 openCommand line n =
     cond (openForm line (n - 13) && dateAt line (3 + (n - 13)) .there)
-    (record { letter = 79; id = idAt line (n - 13); day = dateAt line (3 + (n - 13)) .day }) otherLine
+    (record { letter = 79; id = idInLine line (n - 13); day = dateAt line (3 + (n - 13)) .day }) otherLine
 
 -- a line that begins with O, 79, is an open or another line
 unfoldable pub commandAt : (ℕ → ℕ) → ℕ → Command
@@ -92,8 +92,8 @@ unfoldable pub commandOf : List ℕ → Command
 commandOf line = commandAt (λ i. getD line i 0) (length line)
 
 -- the command of a line as the program holds it: its first 18 bytes and its length, at most 18
-unfoldable pub heldCommand : Line → Command
-heldCommand l = commandAt (λ i. getD (l .bytes) i 0) (l .length)
+unfoldable pub lineCommand : Line → Command
+lineCommand l = commandAt (λ i. getD (l .bytes) i 0) (l .length)
 
 -- a line with no bytes
 unfoldable pub emptyLine : Line

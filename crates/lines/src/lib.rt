@@ -3,7 +3,7 @@ use days::DayAnswer;
 ghost use mathlib.Core.Path.{_≡_};
 ghost use Prim.Native.Nat.{_+_, _≤_, _<_};
 ghost use lib.ListN.{getD};
-ghost use Rattle.lines.specs.Lines.{digitValue, twoDigits, twoValue, dateForm, dateAt, otherLine, moveCommand, idForm, idByteAt, idAt, openForm, openCommand, heldCommand, emptyLine, extended};
+ghost use Rattle.lines.specs.Lines.{digitValue, twoDigits, twoValue, dateForm, dateAt, otherLine, moveCommand, idForm, idByteAt, idInLine, openForm, openCommand, lineCommand, emptyLine, extended};
 
 // A line: its first bytes and their number. The longest command has 17.
 pub struct Line {
@@ -168,8 +168,8 @@ fn id_byte_at(bytes: [u8; 18], k: usize, i: usize) -> u8
 }
 
 // The id of k characters as a record has it.
-fn id_at(bytes: [u8; 18], k: usize) -> [u8; 4]
-    ensures { λ r. ⌜ r ≡ idAt (λ i. getD bytes i 0) k ⌝ }
+fn id_in_line(bytes: [u8; 18], k: usize) -> [u8; 4]
+    ensures { λ r. ⌜ r ≡ idInLine (λ i. getD bytes i 0) k ⌝ }
 {
     [
         id_byte_at(bytes, k, 0),
@@ -207,7 +207,7 @@ fn open_command(bytes: [u8; 18], length: usize) -> Command
     if !date.there {
         return other_line();
     }
-    let id = id_at(bytes, k);
+    let id = id_in_line(bytes, k);
     Command {
         letter: b'O',
         id,
@@ -217,7 +217,7 @@ fn open_command(bytes: [u8; 18], length: usize) -> Command
 
 // The command of a line.
 pub fn command_of(line: Line) -> Command
-    ensures { λ r. ⌜ r ≡ heldCommand line ⌝ }
+    ensures { λ r. ⌜ r ≡ lineCommand line ⌝ }
 {
     let bytes = line.bytes;
     if bytes[0] == b'O' {

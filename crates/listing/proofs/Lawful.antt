@@ -13,7 +13,7 @@ use Rattle.questions.proofs.Bools.{clash, both, and-both, lt-or-ge}
 use Rattle.questions.proofs.Search.{latest-le, latest-ge, latest-passes}
 use Rattle.calendar.specs.declared.Calendar.{Calendar}
 use Rattle.calendar.specs.Trading.{tradingDay}
-use Rattle.listing.specs.Rules.{Rule, dayOf, alive, widest, front, freshKeys, complete}
+use Rattle.listing.specs.Rules.{Rule, lastDayOf, alive, widest, front, freshKeys, complete}
 use Rattle.expiry.proofs.Fridays.{last-is}
 use Rattle.listing.proofs.Walks.{sift, sift-at, sift-rises}
 use Rattle.listing.proofs.Places.{Nested, lists, taken-sift, Within, within, widely, stays}
@@ -76,7 +76,7 @@ inListing r front k = lists (r .beyond) (r .places) front k
 
 module _ (r : Rule) (w : Lawful r) where
   -- days do not fall as keys rise, nor where a calendar has more trading days
-  pub days-rise : (cal cal′ : Calendar) → ((d : ℕ) → tradingDay cal d ≡ true → tradingDay cal′ d ≡ true) → (j k : ℕ) → j ≤ k → dayOf r cal j ≤ dayOf r cal′ k
+  pub days-rise : (cal cal′ : Calendar) → ((d : ℕ) → tradingDay cal d ≡ true → tradingDay cal′ d ≡ true) → (j k : ℕ) → j ≤ k → lastDayOf r cal j ≤ lastDayOf r cal′ k
   days-rise cal cal′ more j k h =
       omega (
         arith,
@@ -85,7 +85,7 @@ module _ (r : Rule) (w : Lawful r) where
         latest-rises (tradingDay cal) (tradingDay cal′) (r .anchor j) (r .anchor k) more (risen (r .anchor) (w .rising) j k h),
       )
 
-  pub day-anchor : (cal : Calendar) (k : ℕ) → dayOf r cal k ≤ r .anchor k
+  pub day-anchor : (cal : Calendar) (k : ℕ) → lastDayOf r cal k ≤ r .anchor k
   day-anchor cal k = omega (arith, last-is cal (r .anchor k), latest-le (tradingDay cal) (r .anchor k))
 
   module _ (cal : Calendar) (date : ℕ) where
@@ -129,20 +129,20 @@ module _ (r : Rule) (w : Lawful r) where
       where
         go : (k < r .start date) ⊎ (r .start date ≤ k)
             → firstFrom (λ j. widest (r .places) j && alive r cal date j) (r .beyond) (r .beyond - r .start date) (r .start date) ≤ k
-        go (inl l) = absurd (omega (arith, w .own k date l, leb-true date (dayOf r cal k) b, day-anchor cal k))
+        go (inl l) = absurd (omega (arith, w .own k date l, leb-true date (lastDayOf r cal k) b, day-anchor cal k))
         go (inr l) = first-least test (r .beyond) (r .beyond - r .start date) (r .start date) k l (omega arith) (and-both a b)
 
     -- the day of a key before the front is past, and that of a key from the front on is not
-    pub day-past : (k : ℕ) → k < r .beyond → widest (r .places) k ≡ true → k < front r cal date → dayOf r cal k < date
+    pub day-past : (k : ℕ) → k < r .beyond → widest (r .places) k ≡ true → k < front r cal date → lastDayOf r cal k < date
     day-past k h a l = go (alive r cal date k) refl
       where
-        go : (b : Bool) → alive r cal date k ≡ b → dayOf r cal k < date
+        go : (b : Bool) → alive r cal date k ≡ b → lastDayOf r cal k < date
         go true e = absurd (omega (arith, front-least k h a e))
-        go false e = leb-false date (dayOf r cal k) e
+        go false e = leb-false date (lastDayOf r cal k) e
 
-    pub day-ahead : (k : ℕ) → k < r .beyond → front r cal date ≤ k → date ≤ dayOf r cal k
+    pub day-ahead : (k : ℕ) → k < r .beyond → front r cal date ≤ k → date ≤ lastDayOf r cal k
     day-ahead k h l =
-        omega (arith, leb-true date (dayOf r cal (front r cal date)) (front-passes (omega arith) .1), days-rise cal cal (λ d t. t) (front r cal date) k l)
+        omega (arith, leb-true date (lastDayOf r cal (front r cal date)) (front-passes (omega arith) .1), days-rise cal cal (λ d t. t) (front r cal date) k l)
 
     -- the fresh listing holds the keys that pass a test of the key alone
     pub fresh-is : freshKeys r cal date ≡ sift (inListing r (front r cal date)) (r .beyond) 0
@@ -159,7 +159,7 @@ module _ (r : Rule) (w : Lawful r) where
       pub from : front r cal date ≤ k
       pub below : k < r .beyond
       pub wide : widest (r .places) k ≡ true
-      pub day : date ≤ dayOf r cal k
+      pub day : date ≤ lastDayOf r cal k
 
     pub key-of : (k : ℕ) → inListing r (front r cal date) k ≡ true → Key k
     key-of k e =

@@ -1,4 +1,5 @@
 pub mod Taking
+pub mod Front
 pub mod Fresh
 pub mod Walks
 pub mod Places

@@ -22,9 +22,8 @@ use Rattle.product.specs.declared.Kind.{Kind}
 use Rattle.product.specs.Settlement.{italian}
 use Rattle.listing.specs.Rules.{front, freshKeys}
 use Rattle.expiry.specs.LastDays.{thirdFriday, anchorOf, lastTradingDay}
-use Rattle.listing.specs.Months.{monthSets, inSet, placesOf, rowOf, monthly, ruleOf}
+use Rattle.listing.specs.Months.{monthSets, inSet, placesOf, rowOf, placesOfKind, monthly, ruleOf}
 use Rattle.expiry.proofs.Fridays.{third-is, last-is}
-use Rattle.listing.proofs.Taking.{rest, rest-room}
 use Rattle.listing.proofs.Places.{Nested, nested-wider, nested-first}
 use Rattle.listing.proofs.Lawful.{Lawful, risen, front-from, key-at, keys-rise}
 
@@ -185,10 +184,10 @@ module _ (c : Cover) (kind : Kind) (group : List ℕ) where
     counts = λ k e. refl;
   }
 
-  -- no kind has more than fifteen places
-  pub monthly-room : length (monthly c kind group .places) ≤ 15
-  unfolding monthly rest
-  monthly-room = rest-room kind
+  -- the places of the rule are those of its kind
+  pub monthly-places : length (monthly c kind group .places) ≡ placesOfKind kind
+  unfolding monthly
+  monthly-places = refl
 
   -- the cover has at most 192 months, and the front on a date of the cover is not before the first of them
   pub monthly-most : validCover c ≡ true → monthly c kind group .beyond ≤ monthly c kind group .first + 192

@@ -3,7 +3,7 @@
 use Prim.Native.Nat.{ℕ}
 use mathlib.Core.Bool.{Bool, true}
 use mathlib.Core.List.{List, [], _∷_, _++_, map}
-use lib.ListN.{getD, replicate}
+use lib.ListN.{length, getD, replicate}
 use Rattle.questions.specs.Search.{oneOf}
 use Rattle.days.specs.Gregorian.{monthName}
 use Rattle.days.specs.Dates.{monthOf}
@@ -13,6 +13,7 @@ use Rattle.calendar.specs.Trading.{coverStart, coverEnd}
 use Rattle.product.specs.declared.Kind.{Kind}
 use Rattle.product.specs.Fields.{kindNumber}
 use Rattle.listing.specs.declared.Listing.{Listing}
+use Rattle.listing.specs.declared.Maturity.{Maturity}
 use Rattle.expiry.specs.LastDays.{anchorOf}
 use Rattle.listing.specs.Rules.{Rule, freshKeys, complete, maturity, places15}
 
@@ -43,6 +44,10 @@ placesOf (count ∷ counts) (names ∷ sets) = replicate count (inSet names) ++ 
 abbrev pub rowOf : Kind → List ℕ
 rowOf kind = getD counts (kindNumber kind) []
 
+-- how many months a complete listing of a kind has, and so how many places of a table are used: as many as its row of counts sums to
+abbrev pub placesOfKind : Kind → ℕ
+placesOfKind kind = length (placesOf (rowOf kind) monthSets)
+
 -- the rule of a product with monthly maturities: the months of its cover, every one of them counted
 unfoldable pub monthly : Cover → Kind → List ℕ → Rule
 monthly cover kind group =
@@ -59,10 +64,14 @@ monthly cover kind group =
 abbrev pub ruleOf : Calendar → Kind → List ℕ → Rule
 ruleOf cal kind group = monthly (cal .cover) kind group
 
--- the fresh listing of a product on a date: whether it is complete (16), and its maturities, not yet numbered
+-- the fresh listing of a product's kind and group, under a calendar, on a date
+abbrev pub freshOf : Calendar → Kind → List ℕ → ℕ → List Maturity
+freshOf cal kind group date = map (maturity (ruleOf cal kind group) cal (λ k. 0)) (freshKeys (ruleOf cal kind group) cal date)
+
+-- 16: 'Are all months of the fresh listing in the cover?'
+abbrev pub allInCover : Calendar → Kind → List ℕ → ℕ → Bool
+allInCover cal kind group date = complete (ruleOf cal kind group) cal date
+
+-- the fresh listing in 15 places, and whether it is complete (16)
 unfoldable pub listingOf : Calendar → Kind → List ℕ → ℕ → Listing
-listingOf cal kind group date =
-    record {
-      complete = complete (ruleOf cal kind group) cal date;
-      maturities = places15 (map (maturity (ruleOf cal kind group) cal (λ k. 0)) (freshKeys (ruleOf cal kind group) cal date));
-    }
+listingOf cal kind group date = record { complete = allInCover cal kind group date; maturities = places15 (freshOf cal kind group date) }

@@ -1,6 +1,6 @@
 -- Listings by rule, whatever the maturities are (01, Last trading day; Listed months). A maturity is named by a key; in the base a month number.
 -- Assumes nothing.
-use Prim.Native.Nat.{ℕ, suc, _-_}
+use Prim.Native.Nat.{ℕ, zero, suc, _+_, _-_}
 use mathlib.Core.Bool.{Bool, true, _&&_, cond}
 use mathlib.Core.List.{List, [], _∷_, _++_}
 use lib.Dec.{leb, ltb, eqb}
@@ -25,12 +25,12 @@ pub record Rule : Type 0 where
   pub counted : ℕ → Bool
 
 -- the last trading day of a key
-abbrev pub dayOf : Rule → Calendar → ℕ → ℕ
-dayOf r cal k = lastDay cal (r .anchor k)
+abbrev pub lastDayOf : Rule → Calendar → ℕ → ℕ
+lastDayOf r cal k = lastDay cal (r .anchor k)
 
 -- 'whose last trading day is not before the date'
 abbrev pub alive : Rule → Calendar → ℕ → ℕ → Bool
-alive r cal date k = leb date (dayOf r cal k)
+alive r cal date k = leb date (lastDayOf r cal k)
 
 -- the set of the first place, which holds every other place's
 abbrev pub widest : List (ℕ → Bool) → ℕ → Bool
@@ -41,6 +41,15 @@ widest (set ∷ rest) k = set k
 unfoldable pub front : Rule → Calendar → ℕ → ℕ
 front r cal date =
     firstFrom (λ k. widest (r .places) k && alive r cal date k) (r .beyond) (r .beyond - r .start date) (r .start date)
+
+-- how many of the n keys from k on are counted
+unfoldable pub countFrom : (ℕ → Bool) → ℕ → ℕ → ℕ
+countFrom counted zero k = 0
+countFrom counted (suc n) k = cond (counted k) 1 0 + countFrom counted n (suc k)
+
+-- 'the number of cover months before the front month' (01, The table)
+unfoldable pub monthsBefore : Rule → Calendar → ℕ → ℕ
+monthsBefore r cal date = countFrom (r .counted) (front r cal date - r .first) (r .first)
 
 -- the first key of a set from k on; the first key beyond the cover where the cover has none
 abbrev pub nextOf : ℕ → (ℕ → Bool) → ℕ → ℕ
@@ -64,7 +73,7 @@ complete r cal date = eqb (length (freshKeys r cal date)) (length (r .places))
 
 -- a maturity: 'month, last trading day, listing number'
 abbrev pub maturity : Rule → Calendar → (ℕ → ℕ) → ℕ → Maturity
-maturity r cal number k = record { month = k; day = dayOf r cal k; number = number k }
+maturity r cal number k = record { month = k; day = lastDayOf r cal k; number = number k }
 
 -- an unused place
 abbrev pub unused : Maturity

@@ -1,12 +1,13 @@
-// The listed months of a product on a date.
+// The front month and the listed months of a product on a date.
 use calendar::Calendar;
 use product::Kind;
 ghost use mathlib.Core.Path.{_≡_};
 ghost use mathlib.Core.List.{[]};
 ghost use lib.ListN.{getD, length};
 ghost use Prim.Native.Nat.{_≤_, _<_};
-ghost use Rattle.listing.specs.Rules.{nextOf};
-ghost use Rattle.listing.specs.Months.{monthSets, inSet, placesOf, rowOf, listingOf};
+ghost use Rattle.listing.specs.Rules.{front, monthsBefore, nextOf};
+ghost use Rattle.product.specs.declared.Kind.{Kind};
+ghost use Rattle.listing.specs.Months.{monthSets, inSet, placesOfKind, ruleOf, listingOf};
 
 // A listed maturity. A listing that is not yet numbered has number 0.
 pub struct Maturity {
@@ -55,7 +56,7 @@ fn next_in_set(step: usize, from: u16, end: u16) -> u16
 
 // How many months a complete listing of a kind has: the sum of its row of counts.
 pub fn months_listed(kind: Kind) -> u16
-    ensures { λ r. ⌜ (r ≡ length (placesOf (rowOf kind) monthSets)) × (r ≤ 15) ⌝ }
+    ensures { λ r. ⌜ (r ≡ placesOfKind kind) × (r ≤ 15) ⌝ }
 {
     let row = product::kind_number(kind) as usize;
     let mut sum: u16 = 0;
@@ -64,6 +65,33 @@ pub fn months_listed(kind: Kind) -> u16
         sum += count as u16;
     }
     sum
+}
+
+// The front month on a date, which is the same for every kind; the first month beyond the cover where the cover has none.
+pub fn front_month(cal: Calendar, group: [u8; 4], date: u16) -> u16
+    ensures { λ r. ⌜ ((kind : Kind) → r ≡ front (ruleOf cal kind group) cal date) × (r ≤ 1200) ⌝ }
+{
+    let end = expiry::end_month(cal.cover);
+    let mut month = days::month_of(date);
+    while month < end {
+        if date <= expiry::last_trading_day(cal, group, month) {
+            return month;
+        }
+        month += 1;
+    }
+    end
+}
+
+// The number of cover months before the front month.
+pub fn months_before(cal: Calendar, group: [u8; 4], date: u16) -> u16
+    ensures { λ r. ⌜ ((kind : Kind) → r ≡ monthsBefore (ruleOf cal kind group) cal date) × (r ≤ 1200) ⌝ }
+{
+    let front = front_month(cal, group, date);
+    let first = days::month_of(calendar::cover_start(cal.cover));
+    if front < first {
+        return 0;
+    }
+    front - first
 }
 
 // The fresh listing of a product on a date.
@@ -79,7 +107,7 @@ pub fn list(cal: Calendar, kind: Kind, group: [u8; 4], date: u16) -> Listing
     };
     let mut maturities = [unused; 15];
     let mut listed: usize = 0;
-    let mut from = expiry::front_month(cal, group, date);
+    let mut from = front_month(cal, group, date);
     let mut complete = true;
     'steps: for step in 0..4 {
         let count = COUNTS[row][step];

@@ -12,7 +12,7 @@ use Rattle.product.specs.declared.KindAnswer.{KindAnswer}
 use Rattle.product.specs.declared.KindAnswer.the-variants.{Is, NotAKind}
 use Rattle.product.specs.declared.Product.{Product}
 use Rattle.blocks.specs.Blocks.{blockOf, numberAt}
-use Rattle.records.specs.Records.{recordOf, three, four}
+use Rattle.records.specs.Records.{recordOf, threeBytes, fourBytes}
 
 -- two ids are the same
 unfoldable pub sameId : List ℕ → List ℕ → Bool
@@ -27,13 +27,13 @@ kindOr NotAKind = Future
 unfoldable pub productFrom : List ℕ → Product
 productFrom r =
     record {
-      id = four r 0;
-      group = four r 4;
-      market = four r 8;
+      id = fourBytes r 0;
+      group = fourBytes r 4;
+      market = fourBytes r 8;
       kind = kindOr (kindOf (getD r 12 0));
       size = numberAt r 13;
       tick = numberAt r 15;
-      currency = three r 17;
+      currency = threeBytes r 17;
     }
 
 -- the product of record k of block n; all zeros where the file has no such place

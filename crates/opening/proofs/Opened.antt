@@ -6,7 +6,7 @@ use mathlib.Core.List.{List, [], _∷_, _++_}
 use Prim.Native.Nat.{ℕ, zero, suc, _/_, _%_}
 use native.Mathlib.Omega.{arith}
 use lib.Dec.{ltb}
-use lib.ListN.{length, take}
+use lib.ListN.{take}
 use borrow.Author.Tests.{ltb-true}
 use Rattle.questions.specs.Questions.{Ask, ask, firstNo, Answer, answer}
 use Rattle.questions.proofs.Bools.{and-fst, and-snd}
@@ -14,7 +14,7 @@ use Rattle.questions.proofs.Asks.{none-no, no-asks, first-yes, accepted}
 use Rattle.calendar.specs.declared.Calendar.{Calendar}
 use Rattle.calendar.specs.Trading.{inCover}
 use Rattle.listing.specs.declared.Listing.{Listing}
-use Rattle.listing.specs.Months.{listingOf, placesOf, rowOf, monthSets}
+use Rattle.listing.specs.Months.{placesOfKind, listingOf, freshOf, allInCover}
 use Rattle.years.specs.Calendars.{calendarOf}
 use Rattle.master.specs.Products.{productAt}
 use Rattle.master.specs.Load.{loadAsks, loadCall, loadAnswer, found, placeFrom, placeOf, findAsks, findCall, findAnswer, productOf}
@@ -26,9 +26,9 @@ use Rattle.master.specs.declared.Counts.{Counts}
 use Rattle.product.specs.declared.Product.{Product}
 use Rattle.table.specs.declared.Table.{Table}
 use Rattle.table.specs.declared.Outcome.{Outcome}
-use Rattle.table.specs.Table.{freshOf, allInCover, refusedWith, answered, openedTable}
+use Rattle.table.specs.Table.{refusedWith, answered, openedTable}
 use Rattle.opening.specs.Opening.{zeroTable, openAsks, openedWith, openCall}
-use Rattle.table.proofs.Calls.{answered-no, answered-yes, complete-is, places-is, fresh-held}
+use Rattle.table.proofs.Calls.{answered-no, answered-yes, complete-is, places-is, fresh-listed}
 
 -- of two lists of questions, one after the other
 append-no : (qs rs : List Ask) (n : ℕ) → firstNo qs ≡ suc n → firstNo (qs ++ rs) ≡ suc n
@@ -119,9 +119,9 @@ module _ (f id : List ℕ) (date : ℕ) where
 
 -- the code's listing fills the places that are used
 pub opened-is : (p : Product) (cal : Calendar) (date : ℕ) (l : Listing) → l ≡ listingOf cal (p .kind) (p .group) date → l .complete ≡ true
-    → openedWith p cal date (take (length (placesOf (rowOf (p .kind)) monthSets)) (l .maturities)) ≡ openedWith p cal date (freshOf cal (p .kind) (p .group) date)
+    → openedWith p cal date (take (placesOfKind (p .kind)) (l .maturities)) ≡ openedWith p cal date (freshOf cal (p .kind) (p .group) date)
 opened-is p cal date l e w =
-    rw (places-is cal (p .kind) (p .group) date l e, fresh-held cal (p .kind) (p .group) date _ refl (sym (complete-is cal (p .kind) (p .group) date l e) ∙ w))
+    rw (places-is cal (p .kind) (p .group) date l e, fresh-listed cal (p .kind) (p .group) date _ refl (sym (complete-is cal (p .kind) (p .group) date l e) ∙ w))
 
 -- what the questions of an accepted open leave
 pub record OpenedFrom (f id : List ℕ) (date : ℕ) : Type 0 where

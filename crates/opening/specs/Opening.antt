@@ -9,13 +9,13 @@ use Rattle.calendar.specs.declared.Calendar.{Calendar}
 use Rattle.product.specs.declared.Product.{Product}
 use Rattle.product.specs.declared.Kind.the-variants.{Future}
 use Rattle.listing.specs.declared.Maturity.{Maturity}
-use Rattle.listing.specs.Rules.{unused, places15}
+use Rattle.listing.specs.Rules.{unused}
 use Rattle.years.specs.Calendars.{calendarOf}
 use Rattle.master.specs.Load.{loadAsks, found, productOf}
 use Rattle.table.specs.declared.Table.{Table}
 use Rattle.table.specs.declared.Outcome.{Outcome}
-use Rattle.places.specs.Numbering.{numberedFresh}
-use Rattle.table.specs.Table.{freshOf, allInCover, answered}
+use Rattle.listing.specs.Months.{freshOf, allInCover}
+use Rattle.table.specs.Table.{openedOn, answered}
 
 -- 'a table of zeros'; kind 0 is a future
 unfoldable pub zeroTable : Table
@@ -47,19 +47,7 @@ openAsks f id date =
 
 -- 'Open numbers the listed months 1, 2, .. by rising month; entered is the months listed and left is 0', for a fresh listing
 abbrev pub openedWith : Product → Calendar → ℕ → List Maturity → Outcome
-openedWith p cal date fresh =
-    record {
-      refusal = 0;
-      table = record {
-        product = p;
-        calendar = cal;
-        date = date;
-        maturities = places15 (numberedFresh fresh);
-        given = length fresh;
-      };
-      entered = length fresh;
-      left = 0;
-    }
+openedWith p cal date fresh = record { refusal = 0; table = openedOn p cal date fresh; entered = length fresh; left = 0 }
 
 -- the call; refused, 'open: a table of zeros'
 unfoldable pub openCall : List ℕ → List ℕ → ℕ → Outcome

@@ -10,9 +10,9 @@ use table::Table;
 use table::refused;
 ghost use mathlib.Core.Path.{_≡_};
 ghost use Prim.Native.Nat.{_≤_};
-ghost use lib.ListN.{length, take};
+ghost use lib.ListN.{take};
 ghost use Rattle.listing.specs.Rules.{places15};
-ghost use Rattle.listing.specs.Months.{placesOf, rowOf, monthSets};
+ghost use Rattle.listing.specs.Months.{placesOfKind};
 ghost use Rattle.places.specs.Numbering.{numberedFresh};
 ghost use Rattle.opening.specs.Opening.{zeroTable, openedWith, openCall};
 
@@ -78,7 +78,7 @@ fn number_from_one(fresh: [Maturity; 15], n: usize) -> [Maturity; 15]
 
 // The table of a product with a fresh listing, numbered 1, 2, ..
 fn opened_with(product: Product, calendar: Calendar, date: u16, fresh: [Maturity; 15]) -> Outcome
-    ensures { λ r. ⌜ r ≡ openedWith product calendar date (take (length (placesOf (rowOf (product .kind)) monthSets)) fresh) ⌝ }
+    ensures { λ r. ⌜ r ≡ openedWith product calendar date (take (placesOfKind (product .kind)) fresh) ⌝ }
 {
     let kind = product.kind;
     let n = listing::months_listed(kind);

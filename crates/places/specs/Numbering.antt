@@ -4,16 +4,10 @@ use Prim.Native.Nat.{ℕ, suc}
 use mathlib.Core.Bool.{Bool, false, not, _&&_, _||_, cond}
 use mathlib.Core.List.{List, [], _∷_}
 use lib.Dec.{leb, ltb, eqb}
-use lib.ListN.{length, getD}
+use lib.ListN.{getD}
 use Rattle.questions.specs.Search.{every}
-use Rattle.product.specs.declared.Kind.{Kind}
 use Rattle.listing.specs.declared.Maturity.{Maturity}
 use Rattle.listing.specs.Rules.{unused}
-use Rattle.listing.specs.Months.{placesOf, rowOf, monthSets}
-
--- how many months a complete listing of a kind has, and so the places that are used: as many as its row of counts sums to
-abbrev pub placesOfKind : Kind → ℕ
-placesOfKind kind = length (placesOf (rowOf kind) monthSets)
 
 -- the month is among the maturities
 unfoldable pub isListed : List Maturity → ℕ → Bool

@@ -8,7 +8,8 @@ ghost use lib.Dec.{leb};
 ghost use lib.ListN.{length, take};
 ghost use Rattle.questions.specs.Search.{every};
 ghost use Rattle.listing.specs.Rules.{places15};
-ghost use Rattle.places.specs.Numbering.{placesOfKind, placeRight, isListed, numberOf, missing, renumbered, numbersRight, unlikeBefore, numberRight, withNumber};
+ghost use Rattle.listing.specs.Months.{placesOfKind};
+ghost use Rattle.places.specs.Numbering.{placeRight, isListed, numberOf, missing, renumbered, numbersRight, unlikeBefore, numberRight, withNumber};
 
 // The places of a table.
 pub type Places = [Maturity; 15];

@@ -11,10 +11,10 @@ use Rattle.questions.specs.Questions.{Answer}
 use Rattle.days.specs.declared.Date.{Date}
 use Rattle.days.specs.declared.DateAnswer.{DateAnswer}
 use Rattle.days.specs.declared.DateAnswer.the-variants.{Is, NotADay}
-use Rattle.days.specs.Dates.{dateCall, dateAnswer, noDate}
+use Rattle.days.specs.Dates.{dateCall, dateAnswer, zeroDate}
 use Rattle.listing.specs.declared.Maturity.{Maturity}
 use Rattle.listing.specs.Rules.{unused}
-use Rattle.printing.specs.Text.{lastDigit, two, four, decimal, maturityText, maturitiesText}
+use Rattle.printing.specs.Text.{lastDigit, inTwoDigits, inFourDigits, decimal, maturityText, maturitiesText}
 use Rattle.printing.specs.Buffer.{Written}
 
 -- a number by how many digits it has
@@ -24,21 +24,21 @@ module _ (n : ℕ) where
   decimal-1 a = rw (lt-ltb n 10 a) refl
 
   module _ (a : 10 ≤ n) where
-    pub decimal-2 : n < 100 → decimal n ≡ two n
+    pub decimal-2 : n < 100 → decimal n ≡ inTwoDigits n
     unfolding decimal
     decimal-2 b = rw (le-ltb n 10 a, lt-ltb n 100 b) refl
 
     module _ (b : 100 ≤ n) where
-      pub decimal-3 : n < 1000 → decimal n ≡ lastDigit (n / 100) ∷ two (n % 100)
+      pub decimal-3 : n < 1000 → decimal n ≡ lastDigit (n / 100) ∷ inTwoDigits (n % 100)
       unfolding decimal
       decimal-3 d = rw (le-ltb n 10 a, le-ltb n 100 b, lt-ltb n 1000 d) refl
 
       module _ (d : 1000 ≤ n) where
-        pub decimal-4 : n < 10000 → decimal n ≡ four n
+        pub decimal-4 : n < 10000 → decimal n ≡ inFourDigits n
         unfolding decimal
         decimal-4 e = rw (le-ltb n 10 a, le-ltb n 100 b, le-ltb n 1000 d, lt-ltb n 10000 e) refl
 
-        pub decimal-5 : 10000 ≤ n → decimal n ≡ lastDigit (n / 10000) ∷ four (n % 10000)
+        pub decimal-5 : 10000 ≤ n → decimal n ≡ lastDigit (n / 10000) ∷ inFourDigits (n % 10000)
         unfolding decimal
         decimal-5 e = rw (le-ltb n 10 a, le-ltb n 100 b, le-ltb n 1000 d, le-ltb n 10000 e) refl
 
@@ -46,7 +46,7 @@ module _ (n : ℕ) where
 pub is-date : (a : DateAnswer) (d : ℕ) (x : Date) → dateAnswer a ≡ dateCall d → a ≡ Is x → x ≡ dateCall d .value
 is-date a d x e q = ap (λ (r : Answer Date). r .value) (sym (ap dateAnswer q) ∙ e)
 
-pub no-date : (a : DateAnswer) (d : ℕ) → dateAnswer a ≡ dateCall d → a ≡ NotADay → noDate ≡ dateCall d .value
+pub no-date : (a : DateAnswer) (d : ℕ) → dateAnswer a ≡ dateCall d → a ≡ NotADay → zeroDate ≡ dateCall d .value
 no-date a d e q = ap (λ (r : Answer Date). r .value) (sym (ap dateAnswer q) ∙ e)
 
 -- no maturity, and one more

@@ -10,7 +10,7 @@ use Rattle.days.specs.Gregorian.{monthYear, monthName}
 use Rattle.days.specs.Dates.{dateCall}
 use Rattle.listing.specs.declared.Maturity.{Maturity}
 use Rattle.listing.specs.Rules.{unused}
-use Rattle.places.specs.Numbering.{placesOfKind}
+use Rattle.listing.specs.Months.{placesOfKind}
 use Rattle.table.specs.declared.Outcome.{Outcome}
 
 -- the last decimal digit of a number, in ASCII
@@ -18,24 +18,24 @@ abbrev pub lastDigit : ℕ → ℕ
 lastDigit n = 48 + n % 10
 
 -- a number in two digits
-unfoldable pub two : ℕ → List ℕ
-two n = lastDigit (n / 10) ∷ lastDigit n ∷ []
+unfoldable pub inTwoDigits : ℕ → List ℕ
+inTwoDigits n = lastDigit (n / 10) ∷ lastDigit n ∷ []
 
 -- a number in four digits
-unfoldable pub four : ℕ → List ℕ
-four n = two (n / 100) ++ two (n % 100)
+unfoldable pub inFourDigits : ℕ → List ℕ
+inFourDigits n = inTwoDigits (n / 100) ++ inTwoDigits (n % 100)
 
 -- a number below 100,000 in decimal, with no zeros before it
 unfoldable pub decimal : ℕ → List ℕ
 decimal n =
     cond (ltb n 10) (lastDigit n ∷ [])
-    (cond (ltb n 100) (two n)
-    (cond (ltb n 1000) (lastDigit (n / 100) ∷ two (n % 100))
-    (cond (ltb n 10000) (four n) (lastDigit (n / 10000) ∷ four (n % 10000)))))
+    (cond (ltb n 100) (inTwoDigits n)
+    (cond (ltb n 1000) (lastDigit (n / 100) ∷ inTwoDigits (n % 100))
+    (cond (ltb n 10000) (inFourDigits n) (lastDigit (n / 10000) ∷ inFourDigits (n % 10000)))))
 
 -- a year and a month in 4 and 2 digits joined by a hyphen, 45
 unfoldable pub yearMonth : ℕ → ℕ → List ℕ
-yearMonth y m = four y ++ (45 ∷ two m)
+yearMonth y m = inFourDigits y ++ (45 ∷ inTwoDigits m)
 
 -- a month
 unfoldable pub monthText : ℕ → List ℕ
@@ -43,7 +43,7 @@ monthText k = yearMonth (monthYear k) (monthName k)
 
 -- 'a date is year, month, day in 4, 2 and 2 digits joined by hyphens'
 unfoldable pub dateText : Date → List ℕ
-dateText d = yearMonth (d .year) (d .month) ++ (45 ∷ two (d .day))
+dateText d = yearMonth (d .year) (d .month) ++ (45 ∷ inTwoDigits (d .day))
 
 -- a day, by its date; zeros for a number that 23 refuses
 unfoldable pub dayText : ℕ → List ℕ

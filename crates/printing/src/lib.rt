@@ -8,7 +8,7 @@ ghost use mathlib.Core.List.{[], _∷_};
 ghost use Prim.Native.Nat.{_+_, _≤_, _<_};
 ghost use lib.ListN.{length};
 ghost use Rattle.days.specs.Dates.{dateCall};
-ghost use Rattle.printing.specs.Text.{lastDigit, two, four, decimal, yearMonth, monthText, dayText, spaced, maturityText, maturitiesText, headingText, outcomeText, refusalText, badText};
+ghost use Rattle.printing.specs.Text.{lastDigit, inTwoDigits, inFourDigits, decimal, yearMonth, monthText, dayText, spaced, maturityText, maturitiesText, headingText, outcomeText, refusalText, badText};
 ghost use Rattle.printing.specs.Buffer.{Written, Printed, roomy};
 
 // One byte.
@@ -31,7 +31,7 @@ fn put_digit(out: &mut [u8], at: usize, n: u16) -> usize
 // A number in two digits.
 fn put_two(out: &mut [u8], at: usize, n: u16) -> usize
     requires { ⌜ at + 2 ≤ length (now out) ⌝ }
-    ensures { λ r. ⌜ Written (now (out .entry)) (now (out .exit)) at r (two n) × (r ≤ at + 2) ⌝ }
+    ensures { λ r. ⌜ Written (now (out .entry)) (now (out .exit)) at r (inTwoDigits n) × (r ≤ at + 2) ⌝ }
 {
     let next = put_digit(out, at, n / 10);
     put_digit(out, next, n)
@@ -40,7 +40,7 @@ fn put_two(out: &mut [u8], at: usize, n: u16) -> usize
 // A number in four digits.
 fn put_four(out: &mut [u8], at: usize, n: u16) -> usize
     requires { ⌜ at + 4 ≤ length (now out) ⌝ }
-    ensures { λ r. ⌜ Written (now (out .entry)) (now (out .exit)) at r (four n) × (r ≤ at + 4) ⌝ }
+    ensures { λ r. ⌜ Written (now (out .entry)) (now (out .exit)) at r (inFourDigits n) × (r ≤ at + 4) ⌝ }
 {
     let next = put_two(out, at, n / 100);
     put_two(out, next, n % 100)

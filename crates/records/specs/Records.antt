@@ -14,26 +14,26 @@ unfoldable pub recordOf : List ℕ → ℕ → List ℕ
 recordOf b k = cond (ltb k 15) (take 32 (drop (16 + 32 * k) b)) []
 
 -- three bytes from byte `at` on; a byte past the end counts as 0
-unfoldable pub three : List ℕ → ℕ → List ℕ
-three r at = getD r at 0 ∷ getD r (at + 1) 0 ∷ getD r (at + 2) 0 ∷ []
+unfoldable pub threeBytes : List ℕ → ℕ → List ℕ
+threeBytes r at = getD r at 0 ∷ getD r (at + 1) 0 ∷ getD r (at + 2) 0 ∷ []
 
 -- four bytes from byte `at` on
-unfoldable pub four : List ℕ → ℕ → List ℕ
-four r at = getD r at 0 ∷ getD r (at + 1) 0 ∷ getD r (at + 2) 0 ∷ getD r (at + 3) 0 ∷ []
+unfoldable pub fourBytes : List ℕ → ℕ → List ℕ
+fourBytes r at = getD r at 0 ∷ getD r (at + 1) 0 ∷ getD r (at + 2) 0 ∷ getD r (at + 3) 0 ∷ []
 
 -- 'Record bytes: 0–3 product id .. 4–7 group .. 8–11 cash market .. 12 kind .. 13–14 contract size .. 15–16 tick .. 17–19 EUR, CHF, USD, GBP or GBX; 20–31 zero'
 unfoldable pub recordRight : List ℕ → Bool
 recordRight r =
-    fieldsRight (four r 0) (four r 4) (four r 8) (getD r 12 0) (numberAt r 13) (numberAt r 15) (three r 17)
+    fieldsRight (fourBytes r 0) (fourBytes r 4) (fourBytes r 8) (getD r 12 0) (numberAt r 13) (numberAt r 15) (threeBytes r 17)
     && zeros r 20 12
 
 -- of record k of a block: as stated, or 'Unused records .. are zero'
-unfoldable pub placeRight : List ℕ → ℕ → Bool
-placeRight b k = cond (ltb k (recordsOfBlock b)) (recordRight (recordOf b k)) (zeros (recordOf b k) 0 32)
+unfoldable pub recordPlaceRight : List ℕ → ℕ → Bool
+recordPlaceRight b k = cond (ltb k (recordsOfBlock b)) (recordRight (recordOf b k)) (zeros (recordOf b k) 0 32)
 
 -- 'every record, and all that must be zero in its block': 'Unused records and bytes 496–509 are zero'
 unfoldable pub recordsRight : List ℕ → Bool
-recordsRight b = every 15 (placeRight b) && zeros b 496 14
+recordsRight b = every 15 (recordPlaceRight b) && zeros b 496 14
 
 -- 7 'Is every record, and all that must be zero in its block, as stated?'
 unfoldable pub productsRight : List ℕ → Bool

@@ -3,7 +3,7 @@ ghost use mathlib.Core.Path.{_≡_};
 ghost use mathlib.Core.Bool.{not, _||_};
 ghost use Rattle.questions.specs.Search.{every};
 ghost use Rattle.blocks.specs.Blocks.{blockOf, isProducts, numberAt};
-ghost use Rattle.records.specs.Records.{recordOf, three, four, recordRight, placeRight, recordsRight, productsRight};
+ghost use Rattle.records.specs.Records.{recordOf, threeBytes, fourBytes, recordRight, recordPlaceRight, recordsRight, productsRight};
 
 // A record of a block; no bytes where the file has no such place.
 pub fn record_at(file: &[u8], n: usize, k: usize) -> &[u8]
@@ -28,7 +28,7 @@ pub type ThreeBytes = [u8; 3];
 pub type FourBytes = [u8; 4];
 
 pub fn three_at(bytes: &[u8], at: u16) -> ThreeBytes
-    ensures { λ r. ⌜ r ≡ three (now (bytes .entry)) at ⌝ }
+    ensures { λ r. ⌜ r ≡ threeBytes (now (bytes .entry)) at ⌝ }
 {
     let i = at as usize;
     [
@@ -39,7 +39,7 @@ pub fn three_at(bytes: &[u8], at: u16) -> ThreeBytes
 }
 
 pub fn four_at(bytes: &[u8], at: u16) -> FourBytes
-    ensures { λ r. ⌜ r ≡ four (now (bytes .entry)) at ⌝ }
+    ensures { λ r. ⌜ r ≡ fourBytes (now (bytes .entry)) at ⌝ }
 {
     let i = at as usize;
     [
@@ -74,8 +74,8 @@ fn record_right(r: &[u8]) -> bool
 }
 
 // Whether a place of a block holds a record as stated, or is unused and zero.
-fn place_right(file: &[u8], n: usize, k: usize) -> bool
-    ensures { λ r. ⌜ r ≡ placeRight (blockOf (now (file .entry)) n) k ⌝ }
+fn record_place_right(file: &[u8], n: usize, k: usize) -> bool
+    ensures { λ r. ⌜ r ≡ recordPlaceRight (blockOf (now (file .entry)) n) k ⌝ }
 {
     let count = blocks::number_at(blocks::block_at(file, n), 2);
     let r = record_at(file, n, k);
@@ -86,12 +86,12 @@ fn place_right(file: &[u8], n: usize, k: usize) -> bool
 }
 
 // The same of all places of a block.
-fn places_right(file: &[u8], n: usize) -> bool
-    ensures { λ r. ⌜ r ≡ every 15 (placeRight (blockOf (now (file .entry)) n)) ⌝ }
+fn record_places_right(file: &[u8], n: usize) -> bool
+    ensures { λ r. ⌜ r ≡ every 15 (recordPlaceRight (blockOf (now (file .entry)) n)) ⌝ }
 {
     let mut k: usize = 0;
     while k < 15 {
-        if !place_right(file, n, k) {
+        if !record_place_right(file, n, k) {
             return false;
         }
         k += 1;
@@ -107,7 +107,7 @@ fn block_right(file: &[u8], n: usize) -> bool
     if blocks::byte_at(b, 0) != 2 {
         return true;
     }
-    places_right(file, n) & blocks::are_zero(b, 496, 14)
+    record_places_right(file, n) & blocks::are_zero(b, 496, 14)
 }
 
 // Question 7.

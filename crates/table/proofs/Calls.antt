@@ -3,60 +3,34 @@
 use mathlib.Core.Path.{_≡_, refl, _∙_, sym, ap}
 use mathlib.Core.Bool.{Bool, true, false, _&&_, cond}
 use mathlib.Core.List.{List}
-use Prim.Native.Nat.{ℕ, zero, suc, _-_, _≤_, _<_}
+use Prim.Native.Nat.{ℕ, suc, _-_, _≤_, _<_}
 use native.Mathlib.Omega.{arith}
 use lib.Dec.{leb, ltb, eqb·suc-zero}
-use lib.ListN.{length, take, length-map}
+use lib.ListN.{take, length-map}
 use lib.Seq.{take-at}
 use borrow.Author.Tests.{eqb-true, leb-true, le-leb, lt-leb}
 use Rattle.questions.specs.Questions.{Ask, firstNo}
 use Rattle.questions.specs.Search.{every}
 use Rattle.questions.proofs.Bools.{both}
-use Rattle.days.specs.Dates.{monthOf}
 use Rattle.calendar.specs.declared.Calendar.{Calendar}
-use Rattle.calendar.specs.Trading.{coverStart, validCover, clean, everyWeek, inCover, tradingDay, closeDay}
+use Rattle.calendar.specs.Trading.{validCover, clean, everyWeek, inCover, tradingDay, closeDay}
 use Rattle.product.specs.declared.Kind.{Kind}
 use Rattle.product.specs.Fields.{productRight}
-use Rattle.listing.specs.Rules.{freshKeys, complete, places15}
+use Rattle.listing.specs.Rules.{freshKeys, complete, monthsBefore, places15}
 use Rattle.listing.specs.declared.Listing.{Listing}
-use Rattle.expiry.specs.LastDays.{frontMonth}
-use Rattle.expiry.proofs.Front.{front-most}
-use Rattle.listing.specs.Months.{ruleOf, monthly, placesOf, rowOf, monthSets, listingOf}
-use Rattle.listing.proofs.Taking.{rest, rest-room}
-use Rattle.listing.proofs.Fresh.{front-is}
+use Rattle.listing.specs.Months.{placesOfKind, ruleOf, monthly, listingOf, freshOf, allInCover}
+use Rattle.listing.proofs.Front.{before-most}
+use Rattle.listing.proofs.Fresh.{places-most}
 use Rattle.table.specs.declared.Table.{Table}
 use Rattle.table.specs.declared.Outcome.{Outcome}
-use Rattle.places.specs.Numbering.{placesOfKind, isListed, placeRight, numbersRight}
-use Rattle.table.specs.Table.{freshOf, allInCover, placesUsed, held, listsFresh, countFrom, monthsBefore, listingSound, sound, movedTo, moved, refusedWith, answered, rollAsks, rollCall, closeAsks, closeCall}
-
--- every month is counted
-count-all : (n k : ℕ) → countFrom (λ m. true) n k ≡ n
-unfolding countFrom
-count-all zero k = refl
-count-all (suc n) k = omega (arith, count-all n (suc k))
-
-pub months-before : (cal : Calendar) (kind : Kind) (group : List ℕ) (date : ℕ) → monthsBefore (ruleOf cal kind group) cal date ≡ frontMonth cal group date - monthOf (coverStart (cal .cover))
-unfolding monthsBefore monthly
-months-before cal kind group date = rw (front-is cal kind group date) (count-all _ (monthOf (coverStart (cal .cover))))
-
--- the places of a rule are those of its kind's row
-pub used-is : (t : Table) → placesUsed t ≡ length (placesOf (rowOf (t .product .kind)) monthSets)
-unfolding monthly
-used-is t = refl
-
-pub used-most : (t : Table) → placesUsed t ≤ 15
-unfolding rest
-used-most t = rw (used-is t) (rest-room (t .product .kind))
-
--- the code's search for the month is in the places that are used
-pub listed-is : (t : Table) (month : ℕ) (b : Bool) → b ≡ isListed (take (placesOfKind (t .product .kind)) (t .maturities)) month → b ≡ isListed (held t) month
-listed-is t month b r = r ∙ ap (λ (k : ℕ). isListed (take k (t .maturities)) month) (sym (used-is t))
+use Rattle.places.specs.Numbering.{placeRight, numbersRight}
+use Rattle.table.specs.Table.{listsFresh, listingSound, sound, movedTo, moved, refusedWith, answered, rollAsks, rollCall, closeAsks, closeCall}
 
 -- a complete fresh listing fills the places that are used
-pub fresh-held : (cal : Calendar) (kind : Kind) (group : List ℕ) (date n : ℕ) → n ≡ length (placesOf (rowOf kind) monthSets) → allInCover cal kind group date ≡ true
+pub fresh-listed : (cal : Calendar) (kind : Kind) (group : List ℕ) (date n : ℕ) → n ≡ placesOfKind kind → allInCover cal kind group date ≡ true
     → take n (places15 (freshOf cal kind group date)) ≡ freshOf cal kind group date
 unfolding places15 complete monthly
-fresh-held cal kind group date n q e =
+fresh-listed cal kind group date n q e =
     take-at (freshOf cal kind group date) _ n
     (length-map (freshKeys (ruleOf cal kind group) cal date) _ ∙ eqb-true _ _ e ∙ sym q)
 
@@ -83,9 +57,9 @@ pub record Sound (t : Table) : Type 0 where
   pub dated : inCover (t .calendar .cover) (t .date) ≡ true
   pub whole : allInCover (t .calendar) (t .product .kind) (t .product .group) (t .date) ≡ true
   pub listed : listsFresh t ≡ true
-  pub numbers : numbersRight (t .maturities) (placesUsed t) (t .given) ≡ true
-  pub least : placesUsed t ≤ t .given
-  pub most : t .given - placesUsed t ≤ monthsBefore (ruleOf (t .calendar) (t .product .kind) (t .product .group)) (t .calendar) (t .date)
+  pub numbers : numbersRight (t .maturities) (placesOfKind (t .product .kind)) (t .given) ≡ true
+  pub least : placesOfKind (t .product .kind) ≤ t .given
+  pub most : t .given - placesOfKind (t .product .kind) ≤ monthsBefore (ruleOf (t .calendar) (t .product .kind) (t .product .group)) (t .calendar) (t .date)
 
 pub sound-parts : (t : Table) → sound t ≡ true → Sound t
 unfolding sound
@@ -97,8 +71,8 @@ sound-parts t e =
     let e5 = both (inCover (t .calendar .cover) (t .date)) (listingSound t) (e4 .1) in
     let e6 = both (allInCover (t .calendar) (t .product .kind) (t .product .group) (t .date)) after6 (e5 .1) in
     let e7 = both (listsFresh t) after7 (e6 .1) in
-    let e8 = both (numbersRight (t .maturities) (placesUsed t) (t .given)) after8 (e7 .1) in
-    let e9 = both (leb (placesUsed t) (t .given)) within (e8 .1) in
+    let e8 = both (numbersRight (t .maturities) (placesOfKind (t .product .kind)) (t .given)) after8 (e7 .1) in
+    let e9 = both (leb (placesOfKind (t .product .kind)) (t .given)) within (e8 .1) in
     record {
       fields = e1 .0;
       cover = e2 .0;
@@ -113,13 +87,13 @@ sound-parts t e =
     }
   where
     within : Bool
-    within = leb (t .given - placesUsed t) (monthsBefore (ruleOf (t .calendar) (t .product .kind) (t .product .group)) (t .calendar) (t .date))
+    within = leb (t .given - placesOfKind (t .product .kind)) (monthsBefore (ruleOf (t .calendar) (t .product .kind) (t .product .group)) (t .calendar) (t .date))
 
     after8 : Bool
-    after8 = leb (placesUsed t) (t .given) && within
+    after8 = leb (placesOfKind (t .product .kind)) (t .given) && within
 
     after7 : Bool
-    after7 = numbersRight (t .maturities) (placesUsed t) (t .given) && after8
+    after7 = numbersRight (t .maturities) (placesOfKind (t .product .kind)) (t .given) && after8
 
     after6 : Bool
     after6 = listsFresh t && after7
@@ -140,7 +114,7 @@ sound-parts t e =
 pub given-most : (t : Table) → sound t ≡ true → t .given ≤ 60000
 given-most t e =
     let s = sound-parts t e in
-    omega (arith, s .most, months-before (t .calendar) (t .product .kind) (t .product .group) (t .date), front-most (t .calendar) (t .product .group) (t .date), used-most t)
+    omega (arith, s .most, before-most (t .calendar) (t .product .group) (t .date) (t .product .kind), places-most (t .product .kind))
 
 -- roll, by its first question answered no
 module _ (t : Table) (date : ℕ) where
@@ -205,22 +179,19 @@ places-is cal kind group date l e = ap (λ (x : Listing). x .maturities) e
 
 -- the move with the code's listing
 pub moved-is : (t : Table) (cal : Calendar) (date : ℕ) (l : Listing) → l ≡ listingOf cal (t .product .kind) (t .product .group) date → l .complete ≡ true
-    → movedTo t cal date (take (placesUsed t) (l .maturities)) ≡ moved t cal date
+    → movedTo t cal date (take (placesOfKind (t .product .kind)) (l .maturities)) ≡ moved t cal date
 unfolding moved
 moved-is t cal date l e w =
     let k = t .product .kind in
     let g = t .product .group in
-    rw (places-is cal k g date l e, fresh-held cal k g date (placesUsed t) (used-is t) (sym (complete-is cal k g date l e) ∙ w))
+    rw (places-is cal k g date l e, fresh-listed cal k g date (placesOfKind (t .product .kind)) refl (sym (complete-is cal k g date l e) ∙ w))
 
 -- the code's test of the places is the definition's
 pub lists-is : (t : Table) (l : Listing) (b : Bool) → l ≡ listingOf (t .calendar) (t .product .kind) (t .product .group) (t .date)
     → b ≡ every 15 (placeRight (t .maturities) (l .maturities) (placesOfKind (t .product .kind))) → b ≡ listsFresh t
 unfolding listsFresh
 lists-is t l b e r =
-    r ∙ rw (sym (used-is t), places-is (t .calendar) (t .product .kind) (t .product .group) (t .date) l e)
-
-pub numbers-is : (t : Table) (b : Bool) → b ≡ numbersRight (t .maturities) (placesOfKind (t .product .kind)) (t .given) → b ≡ numbersRight (t .maturities) (placesUsed t) (t .given)
-numbers-is t b r = r ∙ ap (λ (k : ℕ). numbersRight (t .maturities) k (t .given)) (sym (used-is t))
+    r ∙ rw (places-is (t .calendar) (t .product .kind) (t .product .group) (t .date) l e)
 
 no-both : (a b c : Bool) → (a && b) ≡ false → (a && (b && c)) ≡ false
 no-both true b c e = rw e
@@ -238,16 +209,13 @@ module _ (t : Table) where
     a : listsFresh t ≡ true
     a = both (allInCover (t .calendar) (t .product .kind) (t .product .group) (t .date)) (listsFresh t) e .1
 
-    pub listing-numbers : numbersRight (t .maturities) (placesUsed t) (t .given) ≡ false → listingSound t ≡ false
+    pub listing-numbers : numbersRight (t .maturities) (placesOfKind (t .product .kind)) (t .given) ≡ false → listingSound t ≡ false
     listing-numbers b = rw (w, a, b)
 
-    module _ (b : numbersRight (t .maturities) (placesUsed t) (t .given) ≡ true) (n : ℕ) (q : n ≡ length (placesOf (rowOf (t .product .kind)) monthSets)) where
+    module _ (b : numbersRight (t .maturities) (placesOfKind (t .product .kind)) (t .given) ≡ true) (n : ℕ) (q : n ≡ placesOfKind (t .product .kind)) where
       pub listing-few : t .given < n → listingSound t ≡ false
-      listing-few l = rw (w, a, b, lt-leb (placesUsed t) (t .given) (omega (arith, q, used-is t)))
+      listing-few l = rw (w, a, b, lt-leb (placesOfKind (t .product .kind)) (t .given) (omega (arith, q)))
 
-      pub listing-rest : (m : ℕ) → n ≤ t .given → m ≡ frontMonth (t .calendar) (t .product .group) (t .date) - monthOf (coverStart (t .calendar .cover)) → leb (t .given - n) m ≡ listingSound t
+      pub listing-rest : (m : ℕ) → n ≤ t .given → m ≡ monthsBefore (ruleOf (t .calendar) (t .product .kind) (t .product .group)) (t .calendar) (t .date) → leb (t .given - n) m ≡ listingSound t
       listing-rest m l k =
-          let u : n ≡ placesUsed t = q ∙ sym (used-is t) in
-          sym
-          (rw (w, a, b, le-leb (placesUsed t) (t .given) (omega arith), months-before (t .calendar) (t .product .kind) (t .product .group) (t .date))
-          (rw (← k, ← u)))
+          sym (rw (w, a, b, le-leb (placesOfKind (t .product .kind)) (t .given) (omega (arith, q))) (rw (← k, ← q)))

@@ -1,54 +1,32 @@
 -- The table, its soundness, and the calls that roll it and close a day (01, The table; Questions, in order).
 -- Assumes nothing.
-use Prim.Native.Nat.{ℕ, zero, suc, _+_, _-_}
+use Prim.Native.Nat.{ℕ, zero, _+_, _-_}
 use mathlib.Core.Bool.{Bool, _&&_, cond}
-use mathlib.Core.List.{List, [], _∷_, map}
+use mathlib.Core.List.{List, [], _∷_}
 use lib.Dec.{leb, ltb, eqb}
 use lib.ListN.{length, take}
 use Rattle.questions.specs.Questions.{Ask, ask, firstNo}
 use Rattle.questions.specs.Search.{every}
 use Rattle.calendar.specs.declared.Calendar.{Calendar}
 use Rattle.calendar.specs.Trading.{validCover, inCover, tradingDay, clean, everyWeek, closeDay}
-use Rattle.product.specs.declared.Kind.{Kind}
 use Rattle.product.specs.declared.Product.{Product}
 use Rattle.product.specs.Fields.{productRight}
 use Rattle.listing.specs.declared.Maturity.{Maturity}
-use Rattle.listing.specs.Rules.{Rule, front, freshKeys, complete, maturity, places15}
-use Rattle.listing.specs.Months.{ruleOf}
+use Rattle.listing.specs.Rules.{monthsBefore, places15}
+use Rattle.listing.specs.Months.{placesOfKind, ruleOf, freshOf, allInCover}
 use Rattle.table.specs.declared.Table.{Table}
 use Rattle.table.specs.declared.Outcome.{Outcome}
 use Rattle.places.specs.Numbering.{missing, renumbered, numberedFresh, placeRight, numbersRight}
 
--- the fresh listing of a product's kind and group, under a calendar, on a date
-abbrev pub freshOf : Calendar → Kind → List ℕ → ℕ → List Maturity
-freshOf cal kind group date = map (maturity (ruleOf cal kind group) cal (λ k. 0)) (freshKeys (ruleOf cal kind group) cal date)
-
--- 16: 'Are all months of the fresh listing in the cover?'
-abbrev pub allInCover : Calendar → Kind → List ℕ → ℕ → Bool
-allInCover cal kind group date = complete (ruleOf cal kind group) cal date
-
--- how many months a sound table lists: as many as its kind's row of counts sums to
-abbrev pub placesUsed : Table → ℕ
-placesUsed t = length (ruleOf (t .calendar) (t .product .kind) (t .product .group) .places)
-
 -- the maturities in the places that are used
-abbrev pub held : Table → List Maturity
-held t = take (placesUsed t) (t .maturities)
+abbrev pub listedIn : Table → List Maturity
+listedIn t = take (placesOfKind (t .product .kind)) (t .maturities)
 
--- the same of all fifteen places
+-- 'its months and days are the fresh listing .., and unused places are zero', of all fifteen places
 unfoldable pub listsFresh : Table → Bool
 listsFresh t =
     every 15
-    (placeRight (t .maturities) (places15 (freshOf (t .calendar) (t .product .kind) (t .product .group) (t .date))) (placesUsed t))
-
--- how many of the n keys from k on are counted
-unfoldable pub countFrom : (ℕ → Bool) → ℕ → ℕ → ℕ
-countFrom counted zero k = 0
-countFrom counted (suc n) k = cond (counted k) 1 0 + countFrom counted n (suc k)
-
--- 'the number of cover months before the front month'
-unfoldable pub monthsBefore : Rule → Calendar → ℕ → ℕ
-monthsBefore r cal date = countFrom (r .counted) (front r cal date - r .first) (r .first)
+    (placeRight (t .maturities) (places15 (freshOf (t .calendar) (t .product .kind) (t .product .group) (t .date))) (placesOfKind (t .product .kind)))
 
 -- of 10, what is said of the maturities
 abbrev pub listingSound : Table → Bool
@@ -57,10 +35,10 @@ listingSound t =
     allInCover (t .calendar) (t .product .kind) (t .product .group) (t .date)
     && (listsFresh t
     -- 'its numbers are distinct, from 1 to the count given'
-    && (numbersRight (t .maturities) (placesUsed t) (t .given)
+    && (numbersRight (t .maturities) (placesOfKind (t .product .kind)) (t .given)
     -- 'given − listed is at least 0 and at most the number of cover months before the front month'
-    && (leb (placesUsed t) (t .given)
-    && leb (t .given - placesUsed t) (monthsBefore (ruleOf (t .calendar) (t .product .kind) (t .product .group)) (t .calendar) (t .date)))))
+    && (leb (placesOfKind (t .product .kind)) (t .given)
+    && leb (t .given - placesOfKind (t .product .kind)) (monthsBefore (ruleOf (t .calendar) (t .product .kind) (t .product .group)) (t .calendar) (t .date)))))
 
 -- 10: 'Is the table sound?'
 unfoldable pub sound : Table → Bool
@@ -82,11 +60,11 @@ movedTo t cal date fresh =
         product = t .product;
         calendar = cal;
         date = date;
-        maturities = places15 (renumbered (held t) (t .given) fresh);
-        given = t .given + length (missing fresh (held t));
+        maturities = places15 (renumbered (listedIn t) (t .given) fresh);
+        given = t .given + length (missing fresh (listedIn t));
       };
-      entered = length (missing fresh (held t));
-      left = length (missing (held t) fresh);
+      entered = length (missing fresh (listedIn t));
+      left = length (missing (listedIn t) fresh);
     }
 
 -- the same with the fresh listing of the calendar and date that the call leaves
@@ -129,14 +107,11 @@ closeAsks t day =
 unfoldable pub closeCall : Table → ℕ → Outcome
 closeCall t day = answered t (closeAsks t day) (moved t (closeDay (t .calendar) day) (t .date))
 
--- the table that an accepted open gives back: 'Open numbers the listed months 1, 2, .. by rising month'
+-- 'Open numbers the listed months 1, 2, .. by rising month', for a fresh listing
+abbrev pub openedOn : Product → Calendar → ℕ → List Maturity → Table
+openedOn p cal date fresh =
+    record { product = p; calendar = cal; date = date; maturities = places15 (numberedFresh fresh); given = length fresh }
+
+-- the table that an accepted open gives back
 unfoldable pub openedTable : Product → Calendar → ℕ → Table
-openedTable p cal date =
-    let fresh = freshOf cal (p .kind) (p .group) date in
-    record {
-      product = p;
-      calendar = cal;
-      date = date;
-      maturities = places15 (numberedFresh fresh);
-      given = length fresh;
-    }
+openedTable p cal date = openedOn p cal date (freshOf cal (p .kind) (p .group) date)

@@ -7,7 +7,8 @@ ghost use mathlib.Core.Bool.{_&&_, cond};
 ghost use Prim.Native.Nat.{_≤_};
 ghost use lib.ListN.{take};
 ghost use Rattle.places.specs.Numbering.{isListed};
-ghost use Rattle.table.specs.Table.{allInCover, placesUsed, held, listsFresh, listingSound, sound, movedTo, moved, refusedWith, rollCall, closeCall};
+ghost use Rattle.listing.specs.Months.{placesOfKind, allInCover};
+ghost use Rattle.table.specs.Table.{listedIn, listsFresh, listingSound, sound, movedTo, moved, refusedWith, rollCall, closeCall};
 
 // A product, its calendar, a date, up to 15 maturities by rising month, and the count of numbers given.
 pub struct Table {
@@ -60,7 +61,7 @@ fn is_listing_sound(t: Table) -> bool
     if t.given < n {
         return false;
     }
-    t.given - n <= expiry::months_before(t.calendar, group, t.date)
+    t.given - n <= listing::months_before(t.calendar, group, t.date)
 }
 
 // Question 10.
@@ -87,7 +88,7 @@ pub fn is_sound(t: Table) -> bool
 
 // Whether a month is listed in the places that are used.
 pub fn is_month_listed(t: Table, month: u16) -> bool
-    ensures { λ r. ⌜ r ≡ isListed (held t) month ⌝ }
+    ensures { λ r. ⌜ r ≡ isListed (listedIn t) month ⌝ }
 {
     let p = t.product;
     let kind = p.kind;
@@ -110,7 +111,7 @@ pub fn refused(t: Table, number: u8) -> Outcome
 // The table with a calendar, a date and a fresh listing; a month that was there keeps its number.
 fn moved_to(t: Table, cal: Calendar, date: u16, fresh: [Maturity; 15]) -> Outcome
     requires { ⌜ t .given ≤ 60000 ⌝ }
-    ensures { λ r. ⌜ r ≡ movedTo t cal date (take (placesUsed t) fresh) ⌝ }
+    ensures { λ r. ⌜ r ≡ movedTo t cal date (take (placesOfKind (t .product .kind)) fresh) ⌝ }
 {
     let p = t.product;
     let kind = p.kind;

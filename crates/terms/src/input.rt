@@ -10,7 +10,7 @@ pub(crate) fn read_part(part: &mut [u8]) -> usize
     io::count(got, part)
 }
 
-// The bytes of master.bin at the start of file, and how many there are. A file that cannot be read counts as empty: a read after the last that fails says so. One that fills all 65,537 bytes is too long, and question 1 refuses it.
+// The bytes of master.bin at the start of file, and how many there are. A file that cannot be read counts as empty: a read after the last that does not find the end says so. So does one of more than 65,537 bytes; question 1 refuses both.
 pub(crate) fn read_master(file: &mut [u8]) -> usize
     ensures { λ r. ⌜ Counts r (now (file .exit)) ⌝ }
 {
@@ -22,7 +22,7 @@ pub(crate) fn read_master(file: &mut [u8]) -> usize
     let mut rest = [0u8; 1];
     let after = libc::read(fd, &mut rest);
     libc::close(fd);
-    if after < 0 {
+    if after != 0 {
         return 0;
     }
     n

@@ -2,95 +2,66 @@
 mod input;
 mod output;
 
-use command::Held;
+use command::Kept;
 use lines::Line;
+ghost use mathlib.Core.Path.{_≡_};
+ghost use mathlib.Core.Bool.{true};
+ghost use mathlib.Core.List.{[]};
 ghost use Prim.Native.Nat.{_≤_};
 ghost use lib.ListN.{length};
+ghost use Rattle.sessions.specs.Parts.{Handed};
 
 // What is kept from one part of the input to the next: the table, the line so far, and whether the output takes more.
-pub struct Progress {
-    pub held: Held,
+pub struct Carried {
+    pub kept: Kept,
     pub line: Line,
     pub open: bool,
 }
 
-// The place of the first line feed from a place on, or the end.
-fn line_end(part: &[u8], from: usize) -> usize
-    requires { ⌜ from ≤ length (now part) ⌝ }
-    ensures { λ r. ⌜ (from ≤ r) × (r ≤ length (now (part .entry))) ⌝ }
+// Writes the answers to all lines that end in a part of the input. A write that fails ends the run.
+fn write_part(file: &[u8], k: Carried, part: &[u8], out: &mut [u8]) -> Carried
+    requires { ⌜ 512 ≤ length (now out) ⌝ }
+    ensures { λ r. ⌜ (r .open ≡ true → Handed (now (file .entry)) (k .kept) (k .line) (now (part .entry)) (r .kept) (r .line) []) ⌝ }
 {
-    let mut i = from;
-    while i < part.len() {
-        if part[i] == b'\n' {
-            return i;
-        }
-        i += 1;
-    }
-    i
-}
-
-// A line with the bytes of a part from a place up to another more.
-fn extend_all(line: Line, part: &[u8], from: usize, to: usize) -> Line
-    requires { ⌜ to ≤ length (now part) ⌝ }
-{
-    let mut whole = line;
-    let mut i = from;
-    while i < to {
-        whole = lines::extend(whole, part[i]);
-        i += 1;
-    }
-    whole
-}
-
-// The answers to all lines that end in a part of the input. A write that fails ends the run.
-fn answer_part(file: &[u8], p: Progress, part: &[u8], out: &mut [u8]) -> Progress {
-    let mut held = p.held;
-    let mut line = p.line;
+    let mut kept = k.kept;
+    let mut line = k.line;
     let mut at: usize = 0;
-    let mut from: usize = 0;
-    while from < part.len() {
-        let end = line_end(part, from);
-        line = extend_all(line, part, from, end);
-        if end == part.len() {
-            break;
-        }
-        let a = command::answer(file, held, line, out, at);
-        held = a.held;
-        line = lines::empty_line();
-        let room = output::make_room(out, a.at);
-        if !room.open {
-            return Progress {
-                held,
+    while at < part.len() {
+        let p = sessions::answer_part(file, kept, line, part, at, out);
+        kept = p.kept;
+        line = p.line;
+        at = p.at;
+        if !output::write_out(out, p.length) {
+            return Carried {
+                kept,
                 line,
                 open: false,
             };
         }
-        at = room.at;
-        from = end + 1;
     }
-    let open = output::write_out(out, at);
-    Progress { held, line, open }
+    Carried {
+        kept,
+        line,
+        open: true,
+    }
 }
 
-// The answer to a last line that no line feed ends.
-fn answer_rest(file: &[u8], p: Progress, out: &mut [u8]) {
-    let line = p.line;
-    let held = p.held;
-    if line.length == 0 {
-        return;
-    }
-    let a = command::answer(file, held, line, out, 0);
-    output::write_out(out, a.at);
+// Writes the answer to a last line that no line feed ends.
+fn write_last(file: &[u8], k: Carried, out: &mut [u8]) {
+    let kept = k.kept;
+    let line = k.line;
+    let n = sessions::answer_last(file, kept, line, out);
+    output::write_out(out, n);
 }
 
 // Reads the input part by part. What is answered is written before the next read.
 fn run(file: &[u8]) {
     let mut part = io::large_buffer();
     let mut out = io::large_buffer();
-    let held = command::nothing_held();
+    let kept = command::nothing_kept();
     let line = lines::empty_line();
-    let mut p = Progress {
-        held,
+    let mut k = Carried {
+        kept,
         line,
         open: true,
     };
@@ -100,13 +71,13 @@ fn run(file: &[u8]) {
         if n == 0 {
             break;
         }
-        p = answer_part(file, p, &part[..n], &mut out);
-        if !p.open {
+        k = write_part(file, k, &part[..n], &mut out);
+        if !k.open {
             return;
         }
         turns -= 1;
     }
-    answer_rest(file, p, &mut out);
+    write_last(file, k, &mut out);
 }
 
 fn main() {

@@ -10,7 +10,7 @@ use Rattle.product.specs.Settlement.{settlementDays}
 use Rattle.expiry.specs.LastDays.{lastTradingDay}
 use Rattle.table.specs.declared.Table.{Table}
 use Rattle.places.specs.Numbering.{isListed}
-use Rattle.table.specs.Table.{held, sound}
+use Rattle.table.specs.Table.{listedIn, sound}
 use Rattle.values.specs.Values.{noDay, lastDayAsks, lastDayCall, dueDay, dueAsks, dueCall}
 
 -- the last trading day of a listed month, by its first question answered no
@@ -20,11 +20,11 @@ module _ (t : Table) (month : ℕ) where
   last-day-10 a = refused (lastDayAsks t month) _ _ 9 (rw a)
 
   module _ (a : sound t ≡ true) where
-    pub last-day-18 : isListed (held t) month ≡ false → lastDayCall t month ≡ noDay 18
+    pub last-day-18 : isListed (listedIn t) month ≡ false → lastDayCall t month ≡ noDay 18
     unfolding lastDayCall firstNo
     last-day-18 b = refused (lastDayAsks t month) _ _ 17 (rw (a, b))
 
-    pub last-day-yes : isListed (held t) month ≡ true → (day : ℕ) → day ≡ lastTradingDay (t .calendar) (t .product .group) month → lastDayCall t month ≡ record { refusal = 0; value = day }
+    pub last-day-yes : isListed (listedIn t) month ≡ true → (day : ℕ) → day ≡ lastTradingDay (t .calendar) (t .product .group) month → lastDayCall t month ≡ record { refusal = 0; value = day }
     unfolding lastDayCall firstNo
     last-day-yes b day q = rw q (accepted (lastDayAsks t month) _ _ (rw (a, b)))
 

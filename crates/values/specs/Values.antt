@@ -9,7 +9,7 @@ use Rattle.expiry.specs.LastDays.{lastTradingDay}
 use Rattle.table.specs.declared.Table.{Table}
 use Rattle.values.specs.declared.DayReply.{DayReply}
 use Rattle.places.specs.Numbering.{isListed}
-use Rattle.table.specs.Table.{held, sound}
+use Rattle.table.specs.Table.{listedIn, sound}
 
 -- 'returns the number of the first answered no', and the value, of a reply with a day
 abbrev pub dayReply : DayReply → Answer ℕ
@@ -21,7 +21,7 @@ noDay number = record { refusal = number; value = 0 }
 
 -- 'Last trading day of a listed month: 10, 18'
 abbrev pub lastDayAsks : Table → ℕ → List Ask
-lastDayAsks t month = ask 10 (sound t) ∷ ask 18 (isListed (held t) month) ∷ []
+lastDayAsks t month = ask 10 (sound t) ∷ ask 18 (isListed (listedIn t) month) ∷ []
 
 -- 'Last trading day of a listed month'; 'With it: .. other calls return zero values'
 unfoldable pub lastDayCall : Table → ℕ → Answer ℕ

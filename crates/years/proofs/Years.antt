@@ -14,7 +14,10 @@ use Rattle.questions.specs.Search.{every}
 use Rattle.questions.proofs.Bools.{both, and-snd, and-both, or-right, same-test, lt-or-ge}
 use Rattle.questions.proofs.Search.{every-at, every-all}
 use Rattle.calendar.specs.Bits.{bitAt}
-use Rattle.calendar.specs.Trading.{mayBeClosed, cleanSlot, clean}
+use Rattle.calendar.specs.Trading.{inCover, slotOf, closedOn, mayBeClosed, cleanSlot, clean}
+use Rattle.calendar.proofs.Covered.{Covered, covered}
+use Rattle.days.specs.Dates.{yearOf, dayInYear}
+use Rattle.days.proofs.Years.{in-year-below}
 use Rattle.blocks.specs.Blocks.{blockCount, blockOf, zeros, isCalendar, isProducts, yearOfBlock}
 use Rattle.years.specs.Calendars.{yearCount, yearInOrder, inOrder, orderRight, dayClosed, dayClean, blockClean, calendarsClean, upTo, mapByte, closedMaps, calendarBlocks, noCalendar, calendarOf}
 use Rattle.years.proofs.Filling.{listed-at, up-in, up-out}
@@ -89,6 +92,15 @@ module _ (f : List ℕ) (o : Ordered f) where
       let a : (368 * k + n) / 8 ≡ 46 * k + n / 8 = omega arith in
       let b : (368 * k + n) % 8 ≡ n % 8 = omega arith in
       simp (a, b, map-in k (n / 8) h (omega arith))
+
+  -- a day of the cover is closed where its bit in its year's block is 1
+  pub closed-is : (d : ℕ) → inCover (calendarBlocks f .cover) d ≡ true
+      → closedOn (calendarBlocks f) d ≡ dayClosed (blockOf f (yearOf d - yearOfBlock (blockOf f 0))) (dayInYear d)
+  unfolding closedOn slotOf
+  closed-is d e =
+      let v : Covered (calendarBlocks f .cover) d = covered (calendarBlocks f .cover) d e in
+      rw e
+      (bit-in (yearOf d - yearOfBlock (blockOf f 0)) (dayInYear d) (omega (arith, v .year-low, v .year-high)) (omega (arith, in-year-below d (v .day))))
 
   bit-out : (k n : ℕ) → yearCount f ≤ k → k < 16 → n < 368 → bitAt maps (368 * k + n) ≡ false
   unfolding bitAt

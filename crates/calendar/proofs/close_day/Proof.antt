@@ -1,6 +1,5 @@
-use lib.ListN.{length-map}
+use lib.ListN.{length-map, length}
 use Rattle.calendar.proofs.Closing.{close-out, close-past, close-store}
-use lib.ListN.{length}
 use Rattle.questions.proofs.Bools.{said-no, said-yes}
 use Prim.Native.Nat.{_-_}
 use native.Mathlib.Omega.{arith}

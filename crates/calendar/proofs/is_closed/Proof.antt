@@ -1,6 +1,5 @@
-use lib.ListN.{length-map}
+use lib.ListN.{length-map, length}
 use Rattle.calendar.proofs.Bits.{bit-past}
-use lib.ListN.{length}
 use Rattle.questions.proofs.Bools.{said-no, said-yes}
 use Rattle.calendar.specs.Bits.{bitAt}
 use Rattle.calendar.specs.Trading.{closedOn}

@@ -1,4 +1,4 @@
-use Rattle.calendar.proofs.Weeks.{Held, held-start, held-step, held-less, held-fails, held-ends, slot-trades, idle-first, not-idle-first}
+use Rattle.calendar.proofs.Weeks.{Passed, passed-start, passed-step, passed-less, passed-fails, passed-ends, slot-trades, idle-first, not-idle-first}
 use Rattle.calendar.proofs.Covered.{start-end}
 use Rattle.calendar.specs.Trading.{coverStart, coverEnd, inCover, tradingDay, everyWeek}
 use Rattle.questions.proofs.Bools.{and-both}
@@ -12,7 +12,7 @@ use Rattle.calendar_questions.proofs.every_week_trades.Statement.{state
 use Rattle.calendar_questions.proofs.every_week_trades.Tie as tie
 
 abbrev Inv-loop : tie.InvT-loop
-Inv-loop cal cover end first₀ day₀ first day = Held (tradingDay cal) first₀ end first day
+Inv-loop cal cover end first₀ day₀ first day = Passed (tradingDay cal) first₀ end first day
 
 abbrev μ-loop : tie.MeasureT-loop
 μ-loop cal cover end first₀ day₀ first day = 8 * (end - first) + (day - first)
@@ -27,7 +27,7 @@ add-day : tie.Need-add-day Inv-loop μ-loop
 add-day c = omega (arith, c .cover-start .ensures .1)
 
 loop-holds : tie.Need-loop-holds Inv-loop μ-loop
-loop-holds c = held-start _ _ _ (omega (arith, c .before .cover-end .ensures .0, c .cover-start .ensures .0, start-end (c .before .before .before .args .t1 .cover)))
+loop-holds c = passed-start _ _ _ (omega (arith, c .before .cover-end .ensures .0, c .cover-start .ensures .0, start-end (c .before .before .before .args .t1 .cover)))
 
 add-loop : tie.Need-add-loop Inv-loop μ-loop
 add-loop c = omega (arith, c .loop .inv .to, c .before .before .cover-end .ensures .1)
@@ -75,7 +75,7 @@ returns c =
     let w = idle-first _ _ _ (c .if1 .taken) in
     sym
     (rw (← at-cover-end .cover-end .ensures .0, ← at-cover-start .cover-start .ensures .0)
-    (held-fails _ _ _ _ _ (at-loop .loop .inv) (at-loop-test .loop-test .taken) (sym (trading (c .before)) ∙ w .0) (w .1)))
+    (passed-fails _ _ _ _ _ (at-loop .loop .inv) (at-loop-test .loop-test .taken) (sym (trading (c .before)) ∙ w .0) (w .1)))
 
 next-first-requires : tie.Need-next-first-requires Inv-loop μ-loop
 next-first-requires c κs =
@@ -97,21 +97,21 @@ loop-less c =
     let at-loop-test = at-trades-on .before .before .before .before in
     let at-loop = at-loop-test .before in
     rw (c .before .next-first .ensures, c .next-day .ensures)
-    (held-less _ _ _ _ _ (at-loop .loop .inv) (at-loop-test .loop-test .taken) (at-trades-on .trades-on .result) (not-idle-first _ _ _ (c .before .before .if1 .left)))
+    (passed-less _ _ _ _ _ (at-loop .loop .inv) (at-loop-test .loop-test .taken) (at-trades-on .trades-on .result) (not-idle-first _ _ _ (c .before .before .if1 .left)))
 
 loop-again : tie.Need-loop-again Inv-loop μ-loop
 loop-again c =
     let at-loop-test = c .before .before .before .before .before .before .before in
     let at-loop = at-loop-test .before in
     rw (c .before .next-first .ensures, c .next-day .ensures)
-    (held-step _ _ _ _ _ (at-loop .loop .inv) (at-loop-test .loop-test .taken) _ (trading (c .before .before .before)) (not-idle-first _ _ _ (c .before .before .if1 .left)))
+    (passed-step _ _ _ _ _ (at-loop .loop .inv) (at-loop-test .loop-test .taken) _ (trading (c .before .before .before)) (not-idle-first _ _ _ (c .before .before .if1 .left)))
 
 returns-2 : tie.Need-returns-2 Inv-loop μ-loop
 unfolding everyWeek
 returns-2 c =
     sym
     (rw (← c .before .before .before .cover-end .ensures .0, ← c .before .before .cover-start .ensures .0)
-    (held-ends _ _ _ _ _ (c .before .loop .inv) (omega arith)))
+    (passed-ends _ _ _ _ _ (c .before .loop .inv) (omega arith)))
 
 pub every-week-trades-spec : {M : Type 1} → statement M
 every-week-trades-spec =

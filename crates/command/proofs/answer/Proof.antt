@@ -1,4 +1,4 @@
-use Rattle.command.proofs.Answers.{bad-held, bad-text, no-held, no-text, yes-held, yes-text}
+use Rattle.command.proofs.Answers.{bad-kept, bad-text, no-kept, no-text, yes-kept, yes-text}
 use mathlib.Core.Path.{sym, _∙_}
 use Rattle.command.proofs.answer.Statement.{statement}
 use Rattle.command.proofs.answer.Tie as tie
@@ -21,7 +21,7 @@ returns c =
     let at-is-bad = at-if1 .before in
     let at-command-of = at-is-bad .before .before in
     let b = sym (at-is-bad .is-bad .ensures) ∙ at-if1 .if1 .taken in
-    rw (← at-command-of .command-of .ensures) (bad-held _ _ _ b, rw (← bad-text _ _ _ b) (c .before .before .print-bad .ensures))
+    rw (← at-command-of .command-of .ensures) (bad-kept _ _ _ b, rw (← bad-text _ _ _ b) (c .before .before .print-bad .ensures))
 
 outcome-of-requires : tie.Need-outcome-of-requires
 outcome-of-requires c κs = tt
@@ -41,11 +41,11 @@ returns-2 c =
     let at-command-of = at-is-bad .before .before in
     let start = at-command-of .before .before .before in
     let b = sym (at-is-bad .is-bad .ensures) ∙ at-if1 .if1 .left in
-    let h = start .args .held in
+    let h = start .args .kept in
     let k = at-command-of .command-of .result in
     let o = at-outcome-of .outcome-of .ensures in
     let n = at-if2 .if2 .taken in
-    rw (← at-command-of .command-of .ensures) (no-held _ h k b _ o n, rw (← no-text _ h k b _ o n) (c .before .before .print-refusal .ensures))
+    rw (← at-command-of .command-of .ensures) (no-kept _ h k b _ o n, rw (← no-text _ h k b _ o n) (c .before .before .print-refusal .ensures))
 
 print-outcome-requires : tie.Need-print-outcome-requires
 print-outcome-requires c κs = tt
@@ -63,11 +63,11 @@ returns-3 c =
     let at-command-of = at-is-bad .before .before in
     let start = at-command-of .before .before .before in
     let b = sym (at-is-bad .is-bad .ensures) ∙ at-if1 .if1 .left in
-    let h = start .args .held in
+    let h = start .args .kept in
     let k = at-command-of .command-of .result in
     let o = at-outcome-of .outcome-of .ensures in
     let n = at-if2 .if2 .left in
-    rw (← at-command-of .command-of .ensures) (yes-held _ h k b _ o n, rw (← yes-text _ h k b _ o n) (at-print-outcome .print-outcome .ensures))
+    rw (← at-command-of .command-of .ensures) (yes-kept _ h k b _ o n, rw (← yes-text _ h k b _ o n) (at-print-outcome .print-outcome .ensures))
 
 pub answer-spec : {M : Type 1} → statement M
 answer-spec =

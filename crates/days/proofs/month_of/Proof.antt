@@ -1,5 +1,4 @@
-use Rattle.days.proofs.Years.{year-month}
-use Rattle.days.proofs.Years.{in-year}
+use Rattle.days.proofs.Years.{year-month, in-year}
 use Rattle.days.proofs.Months.{month-past, month-next, month-here}
 use Rattle.days.specs.Gregorian.{firstDay}
 use Prim.Native.Nat.{_-_, _≤_, _<_}

@@ -38,8 +38,8 @@ returns-3 c =
     let yes-is-open-form = said-yes (at-is-open-form .is-open-form .ensures) (at-if2 .if2 .left) in
     c .other-line3 .ensures ∙ open-dateless _ _ yes-is-open-form _ (at-date-at .date-at .ensures) (not-true _ (c .before .if3 .taken))
 
-id-at-requires : tie.Need-id-at-requires
-id-at-requires c κs = tt
+id-in-line-requires : tie.Need-id-in-line-requires
+id-in-line-requires c κs = tt
 
 returns-4 : tie.Need-returns-4
 returns-4 c =
@@ -47,7 +47,7 @@ returns-4 c =
     let at-if2 = at-date-at .before in
     let at-is-open-form = at-if2 .before in
     let yes-is-open-form = said-yes (at-is-open-form .is-open-form .ensures) (at-if2 .if2 .left) in
-    open-is _ _ yes-is-open-form _ (at-date-at .date-at .ensures) _ (c .id-at .ensures) (not-false _ (c .before .if3 .left))
+    open-is _ _ yes-is-open-form _ (at-date-at .date-at .ensures) _ (c .id-in-line .ensures) (not-false _ (c .before .if3 .left))
 
 pub open-command-spec : {M : Type 1} → statement M
 open-command-spec =
@@ -62,5 +62,5 @@ open-command-spec =
     date-at-requires
     other-line-requires-3
     returns-3
-    id-at-requires
+    id-in-line-requires
     returns-4)

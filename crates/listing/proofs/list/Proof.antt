@@ -1,25 +1,25 @@
+use Rattle.listing.proofs.Front.{found, front-is}
 use Rattle.listing.proofs.Fresh.{matOf, listing-is}
 use Rattle.listing.proofs.Taking.{rest, setOf, Walking, starts, enters, finishes, leaves, has-room, takes, stops, kind-below}
-use Rattle.expiry.specs.LastDays.{frontMonth}
 use Rattle.listing.specs.Rules.{taken, complete}
 use lib.ListN.{replicate}
 use mathlib.Core.List.{_++_}
 use Prim.Native.Nat.{_+_, _-_, _≤_}
 use native.Mathlib.Omega.{arith}
-use mathlib.Core.Path.{_∙_}
+use mathlib.Core.Path.{_∙_, sym}
 use Rattle.listing.proofs.list.Statement.{statement}
 use Rattle.listing.proofs.list.Tie as tie
 
 abbrev Inv-loop : tie.InvT-loop
 Inv-loop cal group date row end maturities₀ listed₀ from₀ complete₀ step count j₀ maturities listed from complete j =
-    Walking (matOf cal group) end row (frontMonth cal group date) maturities listed from complete (replicate (count - j) (setOf step) ++ rest row (step + 1)) × (count ≤ 255)
+    Walking (matOf cal group) end row (found cal group date) maturities listed from complete (replicate (count - j) (setOf step) ++ rest row (step + 1)) × (count ≤ 255)
 
 abbrev μ-loop : tie.MeasureT-loop
 μ-loop cal group date row end maturities₀ listed₀ from₀ complete₀ step count j₀ maturities listed from complete j = count - j
 
 abbrev Inv-steps : tie.InvT-steps
 Inv-steps cal group date row end maturities₀ listed₀ from₀ complete₀ step₀ maturities listed from complete step =
-    Walking (matOf cal group) end row (frontMonth cal group date) maturities listed from complete (rest row step)
+    Walking (matOf cal group) end row (found cal group date) maturities listed from complete (rest row step)
 
 abbrev μ-steps : tie.MeasureT-steps
 μ-steps cal group date row end maturities₀ listed₀ from₀ complete₀ step₀ maturities listed from complete step = 4 - step
@@ -38,8 +38,9 @@ front-month-requires c κs = tt
 
 steps-holds : tie.Need-steps-holds Inv-loop μ-loop Inv-steps μ-steps
 steps-holds c =
-    rw (c .front-month .ensures)
-    (starts _ _ (c .before .before .before .args .kind) _ _ (c .before .before .kind-number .ensures) (c .before .end-month .ensures .1))
+    let start = c .before .before .before in
+    rw (c .front-month .ensures .0 (start .args .kind) ∙ front-is _ _ _ (start .args .kind))
+    (starts _ _ (start .args .kind) _ _ (c .before .before .kind-number .ensures) (c .before .end-month .ensures .1))
 
 mul-count : tie.Need-mul-count Inv-loop μ-loop Inv-steps μ-steps
 mul-count c = omega arith
@@ -97,7 +98,7 @@ returns c =
     let at-kind-number = at-end-month .before in
     let start = at-kind-number .before in
     finishes (c .before .steps .step) (c .steps-test .left) (c .before .steps .inv) ∙
-    listing-is _ (start .args .kind) _ (start .args .date) _ _ (at-kind-number .kind-number .ensures) (at-end-month .end-month .ensures .0)
+    listing-is _ (start .args .kind) _ (start .args .date) _ _ _ (at-kind-number .kind-number .ensures) (at-end-month .end-month .ensures .0) (sym (front-is _ _ _ (start .args .kind)))
 
 returns-2 : tie.Need-returns-2 Inv-loop μ-loop Inv-steps μ-steps
 returns-2 c =
@@ -106,7 +107,7 @@ returns-2 c =
     let at-kind-number = at-end-month .before in
     let start = at-kind-number .before in
     stops _ _ _ _ (at-loop .loop .inv .0) (c .before .next-in-set .result) (c .before .before .loop-test .taken) (c .before .next-in-set .ensures) (c .if1 .taken) ∙
-    listing-is _ (start .args .kind) _ (start .args .date) _ _ (at-kind-number .kind-number .ensures) (at-end-month .end-month .ensures .0)
+    listing-is _ (start .args .kind) _ (start .args .date) _ _ _ (at-kind-number .kind-number .ensures) (at-end-month .end-month .ensures .0) (sym (front-is _ _ _ (start .args .kind)))
 
 pub list-spec : {M : Type 1} → statement M
 list-spec =

@@ -1,5 +1,4 @@
-use Rattle.listing.proofs.Taking.{rest-count, rest-zero}
-use Rattle.listing.proofs.Taking.{rest, rest-room, kind-below}
+use Rattle.listing.proofs.Taking.{rest-count, rest-zero, rest, rest-room, kind-below}
 use Rattle.listing.specs.Months.{monthSets, placesOf, rowOf}
 use lib.ListN.{length}
 use Prim.Native.Nat.{ℕ, _+_, _-_, _≤_, _<_}

@@ -1,6 +1,6 @@
 use native.Mathlib.Omega.{arith}
 use Rattle.printing.proofs.Writing.{then}
-use Rattle.printing.specs.Text.{four}
+use Rattle.printing.specs.Text.{inFourDigits}
 use borrow.Author.Needs.{needs}
 use Rattle.printing.proofs.put_four.Statement.{statement}
 use Rattle.printing.proofs.put_four.Tie as tie
@@ -15,7 +15,7 @@ same-length : tie.Need-same-length
 same-length c = search needs
 
 returns : tie.Need-returns
-unfolding four
+unfolding inFourDigits
 returns c =
     let at-put-two = c .before .before .before .before .before .before in
     (then (at-put-two .put-two .ensures .0) (c .before .before .put-two2 .ensures .0), omega (arith, at-put-two .put-two .ensures .1, c .before .before .put-two2 .ensures .1))

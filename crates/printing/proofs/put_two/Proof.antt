@@ -1,6 +1,6 @@
 use native.Mathlib.Omega.{arith}
 use Rattle.printing.proofs.Writing.{then}
-use Rattle.printing.specs.Text.{two}
+use Rattle.printing.specs.Text.{inTwoDigits}
 use borrow.Author.Needs.{needs}
 use Rattle.printing.proofs.put_two.Statement.{statement}
 use Rattle.printing.proofs.put_two.Tie as tie
@@ -15,7 +15,7 @@ same-length : tie.Need-same-length
 same-length c = search needs
 
 returns : tie.Need-returns
-unfolding two
+unfolding inTwoDigits
 returns c =
     let at-put-digit = c .before .before .before .before .before .before in
     (then (at-put-digit .put-digit .ensures .0) (c .before .before .put-digit2 .ensures .0), omega (arith, at-put-digit .put-digit .ensures .1, c .before .before .put-digit2 .ensures .1))

@@ -14,8 +14,8 @@ byte-at-requires c κs = tt
 returns : tie.Need-returns
 returns c = simp (← c .before .before .block-at .ensures .0, ne-eqb _ _ (λ h. c .if1 .taken (c .before .byte-at .ensures ∙ h)))
 
-places-right-requires : tie.Need-places-right-requires
-places-right-requires c κs = tt
+record-places-right-requires : tie.Need-record-places-right-requires
+record-places-right-requires c κs = tt
 
 are-zero-requires : tie.Need-are-zero-requires
 are-zero-requires c κs = tt
@@ -24,7 +24,7 @@ returns-2 : tie.Need-returns-2
 unfolding recordsRight
 returns-2 c =
     let d = c .before .before in
-    simp (← d .before .before .block-at .ensures .0, eq-eqb _ _ (sym (d .before .byte-at .ensures) ∙ d .if1 .left), c .are-zero .ensures, c .before .places-right .ensures)
+    simp (← d .before .before .block-at .ensures .0, eq-eqb _ _ (sym (d .before .byte-at .ensures) ∙ d .if1 .left), c .are-zero .ensures, c .before .record-places-right .ensures)
 
 pub block-right-spec : {M : Type 1} → statement M
 block-right-spec =
@@ -33,6 +33,6 @@ block-right-spec =
     block-at-requires
     byte-at-requires
     returns
-    places-right-requires
+    record-places-right-requires
     are-zero-requires
     returns-2)

@@ -1,5 +1,5 @@
 use Prim.Native.Nat.{_-_}
-use Rattle.records.specs.Records.{four}
+use Rattle.records.specs.Records.{fourBytes}
 use borrow.Author.Needs.{needs}
 use Rattle.records.proofs.four_at.Statement.{statement}
 use Rattle.records.proofs.four_at.Tie as tie
@@ -26,7 +26,7 @@ byte-at-requires-4 : tie.Need-byte-at-requires-4
 byte-at-requires-4 c κs = tt
 
 returns : tie.Need-returns
-unfolding four
+unfolding fourBytes
 returns c = simp (c .byte-at4 .ensures, c .before .byte-at3 .ensures, c .before .before .byte-at2 .ensures, c .before .before .before .byte-at .ensures)
 
 pub four-at-spec : {M : Type 1} → statement M

@@ -1,5 +1,5 @@
 use Prim.Native.Nat.{_-_}
-use Rattle.records.specs.Records.{three}
+use Rattle.records.specs.Records.{threeBytes}
 use borrow.Author.Needs.{needs}
 use Rattle.records.proofs.three_at.Statement.{statement}
 use Rattle.records.proofs.three_at.Tie as tie
@@ -20,7 +20,7 @@ byte-at-requires-3 : tie.Need-byte-at-requires-3
 byte-at-requires-3 c κs = tt
 
 returns : tie.Need-returns
-unfolding three
+unfolding threeBytes
 returns c = simp (c .byte-at3 .ensures, c .before .byte-at2 .ensures, c .before .before .byte-at .ensures)
 
 pub three-at-spec : {M : Type 1} → statement M

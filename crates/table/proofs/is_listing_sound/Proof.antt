@@ -1,4 +1,4 @@
-use Rattle.table.proofs.Calls.{numbers-is, listing-unlike, listing-numbers, listing-few, listing-rest}
+use Rattle.table.proofs.Calls.{listing-unlike, listing-numbers, listing-few, listing-rest}
 use Rattle.questions.proofs.Bools.{said-no, said-yes}
 use mathlib.Core.Path.{sym}
 use Rattle.table.proofs.is_listing_sound.Statement.{statement}
@@ -20,7 +20,7 @@ returns-2 c =
     let start = at-is-fresh .before in
     let yes-is-fresh = said-yes (at-is-fresh .is-fresh .ensures) (at-if1 .if1 .left) in
     let t = start .args .t in
-    sym (listing-numbers t yes-is-fresh (said-no (numbers-is t _ (c .before .are-numbers-right .ensures)) (c .if2 .taken)))
+    sym (listing-numbers t yes-is-fresh (said-no (c .before .are-numbers-right .ensures) (c .if2 .taken)))
 
 months-listed-requires : tie.Need-months-listed-requires
 months-listed-requires c κs = tt
@@ -34,7 +34,7 @@ returns-3 c =
     let start = at-is-fresh .before in
     let yes-is-fresh = said-yes (at-is-fresh .is-fresh .ensures) (at-if1 .if1 .left) in
     let t = start .args .t in
-    sym (listing-few t yes-is-fresh (said-yes (numbers-is t _ (at-are-numbers-right .are-numbers-right .ensures)) (at-if2 .if2 .left)) _ (c .before .before .months-listed .ensures .0) (c .if3 .taken))
+    sym (listing-few t yes-is-fresh (said-yes (at-are-numbers-right .are-numbers-right .ensures) (at-if2 .if2 .left)) _ (c .before .before .months-listed .ensures .0) (c .if3 .taken))
 
 months-before-requires : tie.Need-months-before-requires
 months-before-requires c κs = tt
@@ -49,7 +49,7 @@ returns-4 c =
     let start = at-is-fresh .before in
     let yes-is-fresh = said-yes (at-is-fresh .is-fresh .ensures) (at-if1 .if1 .left) in
     let t = start .args .t in
-    listing-rest t yes-is-fresh (said-yes (numbers-is t _ (at-are-numbers-right .are-numbers-right .ensures)) (at-if2 .if2 .left)) _ (at-months-listed .months-listed .ensures .0) _ (c .before .before .if3 .left) (c .months-before .ensures .0)
+    listing-rest t yes-is-fresh (said-yes (at-are-numbers-right .are-numbers-right .ensures) (at-if2 .if2 .left)) _ (at-months-listed .months-listed .ensures .0) _ (c .before .before .if3 .left) (c .months-before .ensures .0 (t .product .kind))
 
 pub is-listing-sound-spec : {M : Type 1} → statement M
 is-listing-sound-spec =

@@ -1,3 +1,4 @@
+use native.Mathlib.Omega.{arith}
 use mathlib.Core.Path.{_≡_, sym}
 use Prim.Native.Nat.{_-_}
 use lib.ListN.{length}
@@ -6,10 +7,10 @@ use Rattle.terms.proofs.run.Statement.{statement}
 use Rattle.terms.proofs.run.Tie as tie
 
 abbrev Inv-loop : tie.InvT-loop
-Inv-loop file part₀ out₀ p₀ turns₀ part out p turns = (length part ≡ 65536) × (length out ≡ 65536)
+Inv-loop file part₀ out₀ k₀ turns₀ part out k turns = (length part ≡ 65536) × (length out ≡ 65536)
 
 abbrev μ-loop : tie.MeasureT-loop
-μ-loop file part₀ out₀ p₀ turns₀ part out p turns = turns
+μ-loop file part₀ out₀ k₀ turns₀ part out k turns = turns
 
 large-buffer-requires : tie.Need-large-buffer-requires Inv-loop μ-loop
 large-buffer-requires c κs = tt
@@ -17,8 +18,8 @@ large-buffer-requires c κs = tt
 large-buffer-requires-2 : tie.Need-large-buffer-requires-2 Inv-loop μ-loop
 large-buffer-requires-2 c κs = tt
 
-nothing-held-requires : tie.Need-nothing-held-requires Inv-loop μ-loop
-nothing-held-requires c κs = tt
+nothing-kept-requires : tie.Need-nothing-kept-requires Inv-loop μ-loop
+nothing-kept-requires c κs = tt
 
 empty-line-requires : tie.Need-empty-line-requires Inv-loop μ-loop
 empty-line-requires c κs = tt
@@ -35,14 +36,16 @@ read-part-requires c κs = tt
 array-share-prefix-part : tie.Need-array-share-prefix-part Inv-loop μ-loop
 array-share-prefix-part c = search needs
 
-slice-aggregate-answer-part : tie.Need-slice-aggregate-answer-part Inv-loop μ-loop
-slice-aggregate-answer-part c = search needs
+slice-aggregate-write-part : tie.Need-slice-aggregate-write-part Inv-loop μ-loop
+slice-aggregate-write-part c = search needs
 
-slice-aggregate-answer-part-2 : tie.Need-slice-aggregate-answer-part-2 Inv-loop μ-loop
-slice-aggregate-answer-part-2 c = search needs
+slice-aggregate-write-part-2 : tie.Need-slice-aggregate-write-part-2 Inv-loop μ-loop
+slice-aggregate-write-part-2 c = search needs
 
-answer-part-requires : tie.Need-answer-part-requires Inv-loop μ-loop
-answer-part-requires c κs = tt
+write-part-requires : tie.Need-write-part-requires Inv-loop μ-loop
+write-part-requires c κs =
+    let at-loop = c .before .before .before .before .before .before .before in
+    omega (arith, at-loop .loop .inv .1)
 
 returns : tie.Need-returns Inv-loop μ-loop
 returns c = search needs
@@ -58,11 +61,11 @@ loop-again c =
     let at-part2 = c .before .before .before .before .before .before .before in
     (at-part2 .part2 .given, c .before .before .out2 .given)
 
-slice-aggregate-answer-rest : tie.Need-slice-aggregate-answer-rest Inv-loop μ-loop
-slice-aggregate-answer-rest c = search needs
+slice-aggregate-write-last : tie.Need-slice-aggregate-write-last Inv-loop μ-loop
+slice-aggregate-write-last c = search needs
 
-answer-rest-requires : tie.Need-answer-rest-requires Inv-loop μ-loop
-answer-rest-requires c κs = tt
+write-last-requires : tie.Need-write-last-requires Inv-loop μ-loop
+write-last-requires c κs = tt
 
 returns-2 : tie.Need-returns-2 Inv-loop μ-loop
 returns-2 c = search needs
@@ -75,19 +78,19 @@ run-spec =
     μ-loop
     large-buffer-requires
     large-buffer-requires-2
-    nothing-held-requires
+    nothing-kept-requires
     empty-line-requires
     loop-holds
     slice-aggregate-read-part
     read-part-requires
     array-share-prefix-part
-    slice-aggregate-answer-part
-    slice-aggregate-answer-part-2
-    answer-part-requires
+    slice-aggregate-write-part
+    slice-aggregate-write-part-2
+    write-part-requires
     returns
     sub-turns
     loop-less
     loop-again
-    slice-aggregate-answer-rest
-    answer-rest-requires
+    slice-aggregate-write-last
+    write-last-requires
     returns-2)

@@ -1,0 +1,322 @@
+-- The text part by part: a line's end, its bytes, one line after the other.
+-- Assumes nothing.
+use mathlib.Core.Path.{_≡_, refl, sym, ap, _∙_}
+use mathlib.Core.Bool.{Bool, true, false, cond, _&&_, and-false}
+use mathlib.Core.List.{List, [], _∷_, _++_, append-nil, append-assoc}
+use mathlib.Core.Logic.{_⊎_, inl, inr}
+use Prim.Native.Nat.{ℕ, suc, _+_, _-_, _≤_, _<_}
+use native.Mathlib.Nat.{eq-or-lt-of-le}
+use native.Mathlib.Numerals.{add-one}
+use native.Mathlib.Omega.{arith}
+use lib.Dec.{eqb, leb, ltb}
+use lib.ListN.{length, getD, take, drop, length-append, length-take, length-drop, take-append-drop}
+use lib.Seq.{slice, slice-cons, slice-empty, length-slice, length-take-le, drop-append-le, drop-cons, drop-drop, take-at, drop-at, getD-take, getD-drop}
+use borrow.Author.Tests.{lt-ltb, le-ltb, ltb-true, le-leb, eq-eqb, ne-eqb}
+use Rattle.questions.proofs.Bools.{clash, both, and-both, lt-or-ge}
+use Rattle.lines.specs.declared.Line.{Line}
+use Rattle.lines.specs.Lines.{lineCommand, emptyLine, extended, fed}
+use Rattle.printing.specs.Buffer.{roomy, Printed}
+use Rattle.printing.proofs.Writing.{no-room, room-is, room-long}
+use Rattle.command.specs.declared.Kept.{Kept}
+use Rattle.command.specs.declared.Answered.{Answered}
+use Rattle.command.specs.Sessions.{answerText, keptAfter, restText, restKept}
+use Rattle.command.proofs.Session.{passed-bytes, text-byte, kept-byte, text-line, kept-line, text-end}
+use Rattle.sessions.specs.declared.Progress.{Progress}
+use Rattle.sessions.specs.Parts.{LineEnd, another, Next, Answers, LastAnswer}
+
+-- ---- a line's end
+
+-- no line feed from one place up to another, and none at the next
+pub none-more : (part : List ℕ) (from i : ℕ) → ((j : ℕ) → from ≤ j → j < i → getD part j 0 ≡ 10 → ⊥) → (getD part i 0 ≡ 10 → ⊥)
+    → (j : ℕ) → from ≤ j → j < i + 1 → getD part j 0 ≡ 10 → ⊥
+none-more part from i none n j h l e = go (lt-or-ge j i)
+  where
+    go : (j < i) ⊎ (i ≤ j) → ⊥
+    go (inl s) = none j h s e
+    go (inr s) =
+        let q : i ≡ j = omega arith in
+        n (rw q e)
+
+-- ---- a line's bytes
+
+module _ (part : List ℕ) (to : ℕ) (fits : to ≤ length part) (l : Line) where
+  pub fed-next : (i : ℕ) → i < to → fed l (slice i to part) ≡ fed (extended l (getD part i 0)) (slice (i + 1) to part)
+  unfolding fed
+  fed-next i h = rw (slice-cons i to part 0 h fits, add-one i) refl
+
+  pub fed-all : (i : ℕ) → to ≤ i → i ≤ to → fed l (slice i to part) ≡ l
+  unfolding fed
+  fed-all i h g =
+      let e : i ≡ to = omega arith in
+      rw (e, slice-empty to part) refl
+
+-- ---- whether there is a next
+
+roomed : (out : List ℕ) (n : ℕ) → n + 512 ≤ length out → roomy out n ≡ true
+unfolding roomy
+roomed out n h = le-leb (n + 512) (length out) h
+
+module _ (part : List ℕ) (at : ℕ) (out : List ℕ) (n : ℕ) where
+  pub used-up : length part ≤ at → false ≡ another part at out n
+  unfolding another
+  used-up h = rw (le-ltb at (length part) h) refl
+
+  pub too-short : length out < 512 → false ≡ another part at out n
+  unfolding another
+  too-short h = rw (no-room out n h) (sym (and-false (ltb at (length part))))
+
+  pub next-is : at < length part → 512 ≤ length out → leb n (length out - 512) ≡ another part at out n
+  unfolding another
+  next-is h g = rw (lt-ltb at (length part) h) (room-is out n g)
+
+  pub has-next : {r : Bool} → r ≡ another part at out n → r ≡ true → (at < length part) × (roomy out n ≡ true)
+  unfolding another
+  has-next e t =
+      let b : (ltb at (length part) ≡ true) × (roomy out n ≡ true) = both (ltb at (length part)) (roomy out n) (sym e ∙ t) in
+      (ltb-true at (length part) (b .0), b .1)
+
+  no-next : {r : Bool} → r ≡ another part at out n → r ≡ false → at < length part → length out < n + 512
+  unfolding another
+  no-next e t h = go (lt-or-ge (length out) (n + 512))
+    where
+      go : (length out < n + 512) ⊎ (n + 512 ≤ length out) → length out < n + 512
+      go (inl k) = k
+      go (inr k) = clash (and-both (lt-ltb at (length part) h) (roomed out n k)) (sym e ∙ t)
+
+-- ---- an answer in a buffer
+
+-- what a printed text leaves of a buffer with room
+record Put (before after : List ℕ) (at next : ℕ) (text : List ℕ) : Type 0 where
+  head : take next after ≡ take at before ++ text
+  tail : drop next after ≡ drop next before
+  to : next ≡ at + length text
+  fits : next ≤ length after
+
+put : (before after : List ℕ) (at next : ℕ) (text : List ℕ) → roomy before at ≡ true → Printed before after at next text → Put before after at next text
+put before after at next text r p =
+    record {
+      head = ap (take next) is ∙ take-at (take at before ++ text) (drop (at + length text) before) next size;
+      tail = ap (drop next) is ∙ drop-at (take at before ++ text) (drop (at + length text) before) next size ∙ ap (λ (k : ℕ). drop k before) (sym to);
+      to = to;
+      fits = omega (arith, sizes, p .long, to, length-drop (at + length text) before);
+    }
+  where
+    to : next ≡ at + length text
+    to = rw r at (p .to)
+
+    is : after ≡ (take at before ++ text) ++ drop (at + length text) before
+    is = (rw r at (p .is)) ∙ sym (append-assoc (take at before) text (drop (at + length text) before))
+
+    size : length (take at before ++ text) ≡ next
+    size = length-append (take at before) text ∙ ap (λ (k : ℕ). k + length text) (length-take-le at before (omega (arith, room-long before at r))) ∙ sym to
+
+    sizes : length after ≡ next + length (drop (at + length text) before)
+    sizes = ap length is ∙ length-append (take at before ++ text) (drop (at + length text) before) ∙ ap (λ (k : ℕ). k + length (drop (at + length text) before)) size
+
+-- ---- one line
+
+-- up to a line's end the line grows
+module _ (part : List ℕ) (at end : ℕ) (e : LineEnd part at end) where
+  parted : drop at part ≡ slice at end part ++ drop end part
+  parted =
+      ap (drop at) (sym (take-append-drop end part))
+      ∙ drop-append-le at (take end part) (drop end part) (omega (arith, e .on, length-take-le end part (e .within)))
+
+  none-in : (i : ℕ) → i < length (slice at end part) → getD (slice at end part) i 0 ≡ 10 → ⊥
+  none-in i h d =
+      let n : length (slice at end part) ≡ end - at = length-slice at end part (e .within) in
+      let q : getD (slice at end part) i 0 ≡ getD part (at + i) 0 = getD-drop at (take end part) i 0 ∙ getD-take end part (at + i) 0 (omega arith) in
+      e .none (at + i) (omega arith) (omega arith) (sym q ∙ d)
+
+  to-end : {X : Type 0} (g : Line → List ℕ → X) → ((l : Line) (byte : ℕ) (rest : List ℕ) → (byte ≡ 10 → ⊥) → g l (byte ∷ rest) ≡ g (extended l byte) rest)
+      → (l : Line) (rest : List ℕ) → g l (drop at part ++ rest) ≡ g (fed l (slice at end part)) (drop end part ++ rest)
+  to-end g step l rest =
+      ap (λ (t : List ℕ). g l (t ++ rest)) parted
+      ∙ ap (g l) (append-assoc (slice at end part) (drop end part) rest)
+      ∙ passed-bytes g step l (slice at end part) (drop end part ++ rest) none-in
+
+module _ (file part before : List ℕ) (s : Progress) (inside : s .at < length part) (room : roomy before (s .length) ≡ true)
+    (end : ℕ) (e : LineEnd part (s .at) end) (l : Line) (f : l ≡ fed (s .line) (slice (s .at) end part)) where
+  -- the text and what is kept, from the line's end on
+  text-on : (rest : List ℕ) → restText file (s .kept) (s .line) (drop (s .at) part ++ rest) ≡ restText file (s .kept) l (drop end part ++ rest)
+  text-on rest = to-end part (s .at) end e (restText file (s .kept)) (text-byte file (s .kept)) (s .line) rest ∙ ap (λ (k : Line). restText file (s .kept) k (drop end part ++ rest)) (sym f)
+
+  kept-on : (rest : List ℕ) → restKept file (s .kept) (s .line) (drop (s .at) part ++ rest) ≡ restKept file (s .kept) l (drop end part ++ rest)
+  kept-on rest = to-end part (s .at) end e (restKept file (s .kept)) (kept-byte file (s .kept)) (s .line) rest ∙ ap (λ (k : Line). restKept file (s .kept) k (drop end part ++ rest)) (sym f)
+
+  -- the line does not end in the part
+  pub goes-past : length part ≤ end → Next file part before before s (record { kept = s .kept; line = l; at = end; length = s .length })
+  goes-past h =
+      record {
+        piece = [];
+        text = text-on;
+        state = kept-on;
+        is = sym (append-nil (take (s .length) before));
+        unchanged = refl;
+        long = refl;
+        fits = (omega arith, omega (arith, room-long before (s .length) room));
+        on = (omega arith, e .within);
+      }
+
+  -- a line feed ends it
+  pub is-answered : (after : List ℕ) (a : Answered) (empty : Line) → end < length part → empty ≡ emptyLine
+      → a .kept ≡ keptAfter file (s .kept) (lineCommand l)
+      → Printed before after (s .length) (a .at) (answerText file (s .kept) (lineCommand l))
+      → Next file part before after s (record { kept = a .kept; line = empty; at = end + 1; length = a .at })
+  is-answered after a empty h n k p =
+      record {
+        piece = answer;
+        text = λ rest. text-on rest ∙ text-ends rest;
+        state = λ rest. kept-on rest ∙ kept-ends rest;
+        is = w .head;
+        unchanged = w .tail;
+        long = p .long;
+        fits = (omega (arith, w .to), w .fits);
+        on = (omega (arith, e .on), omega arith);
+      }
+    where
+      answer : List ℕ
+      answer = answerText file (s .kept) (lineCommand l)
+
+      w : Put before after (s .length) (a .at) answer
+      w = put before after (s .length) (a .at) answer room p
+
+      cut : drop end part ≡ getD part end 0 ∷ drop (end + 1) part
+      cut = drop-cons part end 0 h ∙ ap (λ (k : ℕ). getD part end 0 ∷ drop k part) (sym (add-one end))
+
+      text-ends : (rest : List ℕ) → restText file (s .kept) l (drop end part ++ rest) ≡ answer ++ restText file (a .kept) empty (drop (end + 1) part ++ rest)
+      text-ends rest = rw (cut, k, n) (text-line file (s .kept) l (getD part end 0) (drop (end + 1) part ++ rest) (e .feed h))
+
+      kept-ends : (rest : List ℕ) → restKept file (s .kept) l (drop end part ++ rest) ≡ restKept file (a .kept) empty (drop (end + 1) part ++ rest)
+      kept-ends rest = rw (cut, k, n) (kept-line file (s .kept) l (getD part end 0) (drop (end + 1) part ++ rest) (e .feed h))
+
+-- ---- all lines of a part
+
+-- on the way: nothing has been done yet, or the place has moved on
+pub record Going (file : List ℕ) (h : Kept) (l : Line) (part : List ℕ) (from : ℕ) (before after : List ℕ) (r : Progress) : Type 0 where
+  pub text : (rest : List ℕ) → restText file h l (drop from part ++ rest) ≡ take (r .length) after ++ restText file (r .kept) (r .line) (drop (r .at) part ++ rest)
+  pub state : (rest : List ℕ) → restKept file h l (drop from part ++ rest) ≡ restKept file (r .kept) (r .line) (drop (r .at) part ++ rest)
+  pub fits : r .length ≤ length after
+  pub unchanged : drop (r .length) after ≡ drop (r .length) before
+  pub long : length after ≡ length before
+  pub within : from ≤ length part → r .at ≤ length part
+  pub on : ((r ≡ record { kept = h; line = l; at = from; length = 0 }) × (after ≡ before)) ⊎ ((512 ≤ length before) × (from < length part) × (from < r .at))
+
+module _ (file : List ℕ) (h : Kept) (l : Line) (part : List ℕ) (from : ℕ) (before : List ℕ) where
+  pub begins : Going file h l part from before before (record { kept = h; line = l; at = from; length = 0 })
+  begins = record { text = λ rest. refl; state = λ rest. refl; fits = omega arith; unchanged = refl; long = refl; within = λ k. k; on = inl (refl, refl) }
+
+  module _ (out : List ℕ) (s : Progress) (g : Going file h l part from before out s) where
+    pub goes : (after : List ℕ) (r : Progress) {b : Bool} → b ≡ another part (s .at) out (s .length) → b ≡ true → Next file part out after s r → Going file h l part from before after r
+    goes after r e t n =
+        record {
+          text = λ rest. g .text rest ∙ joined rest;
+          state = λ rest. g .state rest ∙ n .state rest;
+          fits = n .fits .1;
+          unchanged = n .unchanged ∙ cut;
+          long = n .long ∙ g .long;
+          within = λ k. n .on .1;
+          on = inr (omega (arith, room-long out (s .length) (room .1), g .long), came (g .on), later (g .on));
+        }
+      where
+        room : (s .at < length part) × (roomy out (s .length) ≡ true)
+        room = has-next part (s .at) out (s .length) e t
+
+        in-part : s .at < length part
+        in-part = room .0
+
+        joined : (rest : List ℕ) → take (s .length) out ++ restText file (s .kept) (s .line) (drop (s .at) part ++ rest)
+            ≡ take (r .length) after ++ restText file (r .kept) (r .line) (drop (r .at) part ++ rest)
+        joined rest =
+            rw (n .text rest, n .is)
+            (sym (append-assoc (take (s .length) out) (n .piece) (restText file (r .kept) (r .line) (drop (r .at) part ++ rest))))
+
+        further : s .length + (r .length - s .length) ≡ r .length
+        further = omega (arith, n .fits .0)
+
+        far : (a : List ℕ) → drop (r .length) a ≡ drop (r .length - s .length) (drop (s .length) a)
+        far a = sym (drop-drop (r .length - s .length) (s .length) a ∙ ap (λ (k : ℕ). drop k a) further)
+
+        cut : drop (r .length) out ≡ drop (r .length) before
+        cut = far out ∙ ap (drop (r .length - s .length)) (g .unchanged) ∙ sym (far before)
+
+        same-place : s ≡ record { kept = h; line = l; at = from; length = 0 } → s .at ≡ from
+        same-place e = ap (λ (q : Progress). q .at) e
+
+        came : ((s ≡ record { kept = h; line = l; at = from; length = 0 }) × (out ≡ before)) ⊎ ((512 ≤ length before) × (from < length part) × (from < s .at)) → from < length part
+        came (inl e) = omega (arith, same-place (e .0), in-part)
+        came (inr e) = e .1
+
+        later : ((s ≡ record { kept = h; line = l; at = from; length = 0 }) × (out ≡ before)) ⊎ ((512 ≤ length before) × (from < length part) × (from < s .at)) → from < r .at
+        later (inl e) = omega (arith, same-place (e .0), n .on .0)
+        later (inr e) = omega (arith, e .2, n .on .0)
+
+    pub finishes : {b : Bool} → b ≡ another part (s .at) out (s .length) → b ≡ false → Answers file h l part from before out s
+    finishes e t =
+        record {
+          text = g .text;
+          state = g .state;
+          fits = g .fits;
+          unchanged = g .unchanged;
+          long = g .long;
+          moves = λ m i. moved m i (g .on);
+          within = g .within;
+          full = λ i. omega (arith, no-more i, g .long);
+          idle = λ e. stays e (g .on);
+        }
+      where
+        no-more : s .at < length part → length out < s .length + 512
+        no-more = no-next part (s .at) out (s .length) e t
+
+        Start : Type 0
+        Start = (s ≡ record { kept = h; line = l; at = from; length = 0 }) × (out ≡ before)
+
+        Moved : Type 0
+        Moved = (512 ≤ length before) × (from < length part) × (from < s .at)
+
+        moved : 512 ≤ length before → from < length part → Start ⊎ Moved → from < s .at
+        moved m i (inl e) =
+            let a : s .at ≡ from = ap (λ (q : Progress). q .at) (e .0) in
+            let n : s .length ≡ 0 = ap (λ (q : Progress). q .length) (e .0) in
+            let k : length out < s .length + 512 = no-more (omega arith) in
+            omega (arith, g .long)
+        moved m i (inr e) = e .2
+
+        stays : (length before < 512) ⊎ (length part ≤ from) → Start ⊎ Moved → Start
+        stays e (inl d) = d
+        stays (inl e) (inr d) = absurd (omega (arith, d .0))
+        stays (inr e) (inr d) = absurd (omega (arith, d .1))
+
+-- ---- the last line
+
+module _ (file : List ℕ) (h : Kept) (l : Line) (before : List ℕ) where
+  pub no-last : l .length ≡ 0 → LastAnswer file h l before before 0
+  no-last e =
+      record {
+        text = λ r. text-end file h l ∙ rw (eq-eqb (l .length) 0 e) refl;
+        fits = omega arith;
+        unchanged = refl;
+        long = refl;
+        idle = λ r. (refl, refl);
+      }
+
+  pub last : (after : List ℕ) (next : ℕ) → (l .length ≡ 0 → ⊥) → Printed before after 0 next (answerText file h (lineCommand l)) → LastAnswer file h l before after next
+  last after next e p = go (lt-or-ge (length before) 512)
+    where
+      answer : List ℕ
+      answer = answerText file h (lineCommand l)
+
+      go : (length before < 512) ⊎ (512 ≤ length before) → LastAnswer file h l before after next
+      go (inl k) =
+          let n : next ≡ 0 = rw (no-room before 0 k) at (p .to) in
+          let a : after ≡ before = rw (no-room before 0 k) at (p .is) in
+          record { text = λ r. absurd (omega arith); fits = omega arith; unchanged = ap (drop next) a; long = p .long; idle = λ r. (n, a) }
+      go (inr k) =
+          let w : Put before after 0 next answer = put before after 0 next answer (roomed before 0 k) p in
+          record {
+            text = λ r. text-end file h l ∙ rw (ne-eqb (l .length) 0 e) (sym (w .head));
+            fits = w .fits;
+            unchanged = w .tail;
+            long = p .long;
+            idle = λ r. absurd (omega arith);
+          }

@@ -1,0 +1,55 @@
+use borrow.Author.Needs.{needs}
+use native.Mathlib.Omega.{arith}
+use Rattle.sessions.proofs.Passing.{goes-past, is-answered}
+use Rattle.sessions.proofs.answer_next.Statement.{statement}
+use Rattle.sessions.proofs.answer_next.Tie as tie
+
+line-end-requires : tie.Need-line-end-requires
+line-end-requires c κs = search needs
+
+feed-requires : tie.Need-feed-requires
+feed-requires c κs = search needs
+
+returns : tie.Need-returns
+returns c =
+    let at-feed = c .before in
+    let at-line-end = at-feed .before in
+    let start = at-line-end .before .before .before .before .before .before in
+    goes-past _ _ _ _ (start .pre .0) (start .pre .1) _ (at-line-end .line-end .ensures) _ (at-feed .feed .ensures) (c .if1 .taken)
+
+answer-requires : tie.Need-answer-requires
+answer-requires c κs = tt
+
+empty-line-requires : tie.Need-empty-line-requires
+empty-line-requires c κs = tt
+
+add-t13 : tie.Need-add-t13
+add-t13 c =
+    let at-if1 = c .before .before .before .before .before .before in
+    let start = at-if1 .before .before .before .before .before .before .before .before in
+    omega (arith, at-if1 .if1 .left, start .good .1 .1 .0 .0)
+
+same-length : tie.Need-same-length
+same-length c = search needs
+
+returns-2 : tie.Need-returns-2
+returns-2 c =
+    let at-answer = c .before .before .before .before in
+    let at-if1 = at-answer .before .before in
+    let at-feed = at-if1 .before in
+    let at-line-end = at-feed .before in
+    let start = at-line-end .before .before .before .before .before .before in
+    is-answered _ _ _ _ (start .pre .0) (start .pre .1) _ (at-line-end .line-end .ensures) _ (at-feed .feed .ensures) _ (at-answer .answer .result) _ (at-if1 .if1 .left) (c .empty-line .ensures) (at-answer .answer .ensures .0) (at-answer .answer .ensures .1)
+
+pub answer-next-spec : {M : Type 1} → statement M
+answer-next-spec =
+    tie.close
+    (tie.spec
+    line-end-requires
+    feed-requires
+    returns
+    answer-requires
+    empty-line-requires
+    add-t13
+    same-length
+    returns-2)

@@ -1,0 +1,81 @@
+-- The text of the program `terms`, part by part of its input (01, March 2008 and its neighbours, 'The program `terms`').
+-- Assumes nothing.
+use Prim.Native.Nat.{ℕ, _+_, _≤_, _<_}
+use mathlib.Core.Path.{_≡_}
+use mathlib.Core.Bool.{Bool, _&&_}
+use mathlib.Core.List.{List, [], _∷_, _++_}
+use mathlib.Core.Logic.{_⊎_}
+use lib.Dec.{ltb}
+use lib.ListN.{length, getD, take, drop}
+use Rattle.lines.specs.declared.Line.{Line}
+use Rattle.printing.specs.Buffer.{roomy}
+use Rattle.command.specs.declared.Kept.{Kept}
+use Rattle.command.specs.Sessions.{restText, restKept}
+use Rattle.sessions.specs.declared.Progress.{Progress}
+
+-- where the line that goes on at `from` ends: at the first line feed, 10, or where the part does
+pub record LineEnd (part : List ℕ) (from r : ℕ) : Type 0 where
+  pub on : from ≤ r
+  pub within : r ≤ length part
+  pub none : (i : ℕ) → from ≤ i → i < r → getD part i 0 ≡ 10 → ⊥
+  pub feed : r < length part → getD part r 0 ≡ 10
+
+-- the part goes on at a place, and the buffer has room for another answer
+unfoldable pub another : List ℕ → ℕ → List ℕ → ℕ → Bool
+another part at out n = ltb at (length part) && roomy out n
+
+-- one line, or the rest of the part: a piece of text stands after what stood in the buffer, and for every rest of the input it is what comes next
+pub record Next (file part before after : List ℕ) (s r : Progress) : Type 0 where
+  pub piece : List ℕ
+  pub text : (rest : List ℕ) → restText file (s .kept) (s .line) (drop (s .at) part ++ rest) ≡ piece ++ restText file (r .kept) (r .line) (drop (r .at) part ++ rest)
+  pub state : (rest : List ℕ) → restKept file (s .kept) (s .line) (drop (s .at) part ++ rest) ≡ restKept file (r .kept) (r .line) (drop (r .at) part ++ rest)
+  pub is : take (r .length) after ≡ take (s .length) before ++ piece
+  pub unchanged : drop (r .length) after ≡ drop (r .length) before
+  pub long : length after ≡ length before
+  pub fits : (s .length ≤ r .length) × (r .length ≤ length after)
+  pub on : (s .at < r .at) × (r .at ≤ length part)
+
+-- the answers to the lines that end in a part from a place on
+pub record Answers (file : List ℕ) (h : Kept) (l : Line) (part : List ℕ) (from : ℕ) (before after : List ℕ) (r : Progress) : Type 0 where
+  -- for every rest of the input, what was written followed by the text of what remains is the text of the whole
+  pub text : (rest : List ℕ) → restText file h l (drop from part ++ rest) ≡ take (r .length) after ++ restText file (r .kept) (r .line) (drop (r .at) part ++ rest)
+  -- and what is kept after the whole is what is kept after what remains
+  pub state : (rest : List ℕ) → restKept file h l (drop from part ++ rest) ≡ restKept file (r .kept) (r .line) (drop (r .at) part ++ rest)
+  -- it stands at the buffer's start, and nothing else is changed
+  pub fits : r .length ≤ length after
+  pub unchanged : drop (r .length) after ≡ drop (r .length) before
+  pub long : length after ≡ length before
+  -- with room for an answer and a place inside the part the place moves on, and stays in the part
+  pub moves : 512 ≤ length before → from < length part → from < r .at
+  pub within : from ≤ length part → r .at ≤ length part
+  -- where the part is not used up, the buffer has no room for another answer
+  pub full : r .at < length part → length before < r .length + 512
+  -- without room for an answer, or at a place past the part, all stays as it is
+  pub idle : (length before < 512) ⊎ (length part ≤ from) → (r ≡ record { kept = h; line = l; at = from; length = 0 }) × (after ≡ before)
+
+-- the answer to a last line that no line feed ends: where there is room, what is printed for an input that has ended
+pub record LastAnswer (file : List ℕ) (h : Kept) (l : Line) (before after : List ℕ) (r : ℕ) : Type 0 where
+  pub text : 512 ≤ length before → restText file h l [] ≡ take r after
+  pub fits : r ≤ length after
+  pub unchanged : drop r after ≡ drop r before
+  pub long : length after ≡ length before
+  pub idle : length before < 512 → (r ≡ 0) × (after ≡ before)
+
+-- a part of the input is used up but for what is left of it: a text was handed out, and for every rest of the input it is what comes next
+pub record Handed (file : List ℕ) (h : Kept) (l : Line) (part : List ℕ) (h′ : Kept) (l′ : Line) (left : List ℕ) : Type 0 where
+  pub text : List ℕ
+  pub is : (rest : List ℕ) → restText file h l (part ++ rest) ≡ text ++ restText file h′ l′ (left ++ rest)
+  pub state : (rest : List ℕ) → restKept file h l (part ++ rest) ≡ restKept file h′ l′ (left ++ rest)
+
+-- an input that arrives in parts
+unfoldable pub inOne : List (List ℕ) → List ℕ
+inOne [] = []
+inOne (part ∷ parts) = part ++ inOne parts
+
+-- a run of the program: one part of the input after the other, then the last line; and all that it hands out
+pub data Run : List ℕ → Kept → Line → List (List ℕ) → List ℕ → Type 0 where
+  ended : {file : List ℕ} {h : Kept} {l : Line} → Run file h l [] (restText file h l [])
+  goes-on : {file : List ℕ} {h h′ : Kept} {l l′ : Line} {part : List ℕ} {parts : List (List ℕ)} {text : List ℕ}
+      → (d : Handed file h l part h′ l′ [])
+      → Run file h′ l′ parts text
+      → Run file h l (part ∷ parts) (d .text ++ text)

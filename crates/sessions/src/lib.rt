@@ -1,0 +1,124 @@
+// The answers to all lines that end in a part of the input, and to a last line that no line feed ends.
+use command::Kept;
+use lines::Line;
+ghost use mathlib.Core.Path.{_≡_};
+ghost use mathlib.Core.Bool.{true};
+ghost use Prim.Native.Nat.{_≤_, _<_};
+ghost use lib.ListN.{length};
+ghost use lib.Seq.{slice};
+ghost use Rattle.lines.specs.Lines.{fed};
+ghost use Rattle.printing.specs.Buffer.{roomy};
+ghost use Rattle.sessions.specs.Parts.{LineEnd, another, Next, Answers, LastAnswer};
+
+// What is kept, the line so far, the place in the part of the input, and how many bytes of answers stand in the buffer.
+pub struct Progress {
+    pub kept: Kept,
+    pub line: Line,
+    pub at: usize,
+    pub length: usize,
+}
+
+// The place of the first line feed from a place on, or the part's end.
+fn line_end(part: &[u8], from: usize) -> usize
+    requires { ⌜ from ≤ length (now part) ⌝ }
+    ensures { λ r. ⌜ LineEnd (now (part .entry)) from r ⌝ }
+{
+    let mut i = from;
+    while i < part.len() {
+        if part[i] == b'\n' {
+            return i;
+        }
+        i += 1;
+    }
+    i
+}
+
+// A line with the bytes of a part from a place up to another more.
+fn feed(line: Line, part: &[u8], from: usize, to: usize) -> Line
+    requires { ⌜ (from ≤ to) × (to ≤ length (now part)) ⌝ }
+    ensures { λ r. ⌜ r ≡ fed line (slice from to (now (part .entry))) ⌝ }
+{
+    let mut whole = line;
+    let mut i = from;
+    while i < to {
+        whole = lines::extend(whole, part[i]);
+        i += 1;
+    }
+    whole
+}
+
+// The answer to the line that goes on at a place, if it ends in the part; else the line with all the rest of the part.
+fn answer_next(file: &[u8], s: Progress, part: &[u8], out: &mut [u8]) -> Progress
+    requires { ⌜ (s .at < length (now part)) × (roomy (now out) (s .length) ≡ true) ⌝ }
+    ensures { λ r. ⌜ Next (now (file .entry)) (now (part .entry)) (now (out .entry)) (now (out .exit)) s r ⌝ }
+{
+    let kept = s.kept;
+    let begun = s.line;
+    let at = s.at;
+    let end = line_end(part, at);
+    let line = feed(begun, part, at, end);
+    if part.len() <= end {
+        return Progress {
+            kept,
+            line,
+            at: end,
+            length: s.length,
+        };
+    }
+    let a = command::answer(file, kept, line, out, s.length);
+    let kept = a.kept;
+    let empty = lines::empty_line();
+    Progress {
+        kept: kept,
+        line: empty,
+        at: end + 1,
+        length: a.at,
+    }
+}
+
+// Whether the part goes on at a place, and the buffer has room for another answer.
+fn goes_on(part: &[u8], at: usize, out: &[u8], n: usize) -> bool
+    ensures { λ r. ⌜ r ≡ another (now (part .entry)) at (now (out .entry)) n ⌝ }
+{
+    if part.len() <= at {
+        return false;
+    }
+    if out.len() < 512 {
+        return false;
+    }
+    n <= out.len() - 512
+}
+
+// The answers to the lines that end in a part of the input from a place on, in a lent buffer from its start, as long as it has room for another answer of 512 bytes. A buffer of fewer bytes, and a place past the part, leave all as it is.
+pub fn answer_part(
+    file: &[u8],
+    kept: Kept,
+    line: Line,
+    part: &[u8],
+    from: usize,
+    out: &mut [u8],
+) -> Progress
+    ensures { λ r. ⌜ Answers (now (file .entry)) kept line (now (part .entry)) from (now (out .entry)) (now (out .exit)) r ⌝ }
+{
+    let mut s = Progress {
+        kept,
+        line,
+        at: from,
+        length: 0,
+    };
+    while goes_on(part, s.at, out, s.length) {
+        s = answer_next(file, s, part, out);
+    }
+    s
+}
+
+// The answer to a last line that no line feed ends, in a lent buffer from its start, and its length. A line with no bytes has none, and a buffer of fewer than 512 bytes stays as it is.
+pub fn answer_last(file: &[u8], kept: Kept, line: Line, out: &mut [u8]) -> usize
+    ensures { λ r. ⌜ LastAnswer (now (file .entry)) kept line (now (out .entry)) (now (out .exit)) r ⌝ }
+{
+    if line.length == 0 {
+        return 0;
+    }
+    let a = command::answer(file, kept, line, out, 0);
+    a.at
+}
