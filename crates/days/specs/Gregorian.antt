@@ -2,8 +2,9 @@
 -- Assumes nothing.
 use Prim.Native.Nat.{ℕ, zero, suc, _+_, _-_, _*_, _/_, _%_}
 use mathlib.Core.Bool.{Bool, not, _&&_, _||_, cond}
-use mathlib.Core.List.{[], _∷_}
+use mathlib.Core.List.{List, [], _∷_}
 use lib.Dec.{eqb}
+use lib.ListN.{length}
 use Rattle.questions.specs.Search.{oneOf}
 
 -- 'Gregorian': every fourth year is a leap year, of the hundredth years only every fourth
@@ -45,3 +46,12 @@ firstDay (suc k) = firstDay k + lengthOf k
 -- 'Weekday = (day + 5) mod 7, Monday 0'
 abbrev pub weekdayOf : ℕ → ℕ
 weekdayOf d = (d + 5) % 7
+
+-- the entries of a table from month i on are the running sums of the month lengths, the first of them s, and the sum after the last is e
+unfoldable pub followsFrom : ℕ → ℕ → ℕ → List ℕ → Bool
+followsFrom e i s [] = eqb s e
+followsFrom e i s (x ∷ xs) = eqb x s && followsFrom e (suc i) (s + lengthOf i) xs
+
+-- 'The first day of each of the 1,200 months stands in a constant table, and that table is shown to follow the Gregorian month lengths', from day 0 to the day after 2099
+abbrev pub followsMonths : List ℕ → Bool
+followsMonths xs = followsFrom 36525 0 0 xs && eqb (length xs) 1200

@@ -1,7 +1,8 @@
 // Day numbers of 2000 to 2099, their dates, months, years and weekdays.
 ghost use mathlib.Core.Path.{_≡_};
+ghost use mathlib.Core.Bool.{true};
 ghost use Prim.Native.Nat.{_≤_};
-ghost use Rattle.days.specs.Gregorian.{leapYear, monthLength, weekdayOf};
+ghost use Rattle.days.specs.Gregorian.{leapYear, monthLength, weekdayOf, followsMonths};
 ghost use Rattle.days.specs.Dates.{validDate, monthOf, dayCall, dateCall, dayAnswer, dateAnswer, firstOf, yearOf, yearStart, dayInYear};
 
 pub struct Date {
@@ -1226,6 +1227,13 @@ const FIRST: [u16; 1200] = [
     36494,
 ];
 
+// The constant table.
+fn first_days() -> [u16; 1200]
+    ensures { λ r. ⌜ followsMonths r ≡ true ⌝ }
+{
+    FIRST
+}
+
 // The first day of a month; 36,525 for a month after 2099.
 pub fn first_day(month: u16) -> u16
     ensures { λ r. ⌜ r ≡ firstOf month ⌝ }
@@ -1233,7 +1241,8 @@ pub fn first_day(month: u16) -> u16
     if 1200 <= month {
         return 36525;
     }
-    FIRST[month as usize]
+    let first = first_days();
+    first[month as usize]
 }
 
 // Monday is 0.

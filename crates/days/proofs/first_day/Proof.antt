@@ -8,6 +8,9 @@ use Rattle.days.proofs.first_day.Tie as tie
 returns : tie.Need-returns
 returns c = sym (first-out _ (c .if1 .taken))
 
+first-days-requires : tie.Need-first-days-requires
+first-days-requires c κs = tt
+
 mul-result : tie.Need-mul-result
 mul-result c = search needs
 
@@ -15,7 +18,7 @@ array-read-result : tie.Need-array-read-result
 array-read-result c = search needs
 
 returns-2 : tie.Need-returns-2
-returns-2 c = first-at _ (c .if1 .left) ∙ sym (first-in _ (c .if1 .left))
+returns-2 c = first-at (c .first-days .result) (c .first-days .ensures) _ (c .before .if1 .left) ∙ sym (first-in _ (c .before .if1 .left))
 
 pub first-day-spec : {M : Type 1} → statement M
-first-day-spec = tie.close (tie.spec returns mul-result array-read-result returns-2)
+first-day-spec = tie.close (tie.spec returns first-days-requires mul-result array-read-result returns-2)
