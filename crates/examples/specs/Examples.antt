@@ -7,22 +7,21 @@ use lib.Dec.{eqb}
 use lib.IntN.{ℤ, pos, negsuc}
 use lib.ListN.{replicate}
 use Rattle.questions.specs.Questions.{Answer}
-use Rattle.days.specs.Gregorian.{weekdayOf}
+use Rattle.days.specs.Gregorian.{weekdayOf, monthNumber}
 use Rattle.days.specs.Dates.{dayCall, dayOf}
 use Rattle.calendar.specs.declared.Calendar.{Calendar}
 use Rattle.calendar.specs.Trading.{closeDay}
-use Rattle.product.specs.declared.Kind.the-variants.{Option}
+use Rattle.product.specs.declared.Kind.the-variants.{Future, Option}
 use Rattle.product.specs.declared.Term.the-variants.{Months12}
 use Rattle.product.specs.declared.Product.{Product}
 use Rattle.product.specs.Fields.{EUR}
 use Rattle.product.specs.Settlement.{IT, groupCode}
-use Rattle.product.specs.Prices.{cashOf}
 use Rattle.listing.specs.Rules.{freshKeys}
 use Rattle.expiry.specs.LastDays.{thirdFriday, lastTradingDay}
 use Rattle.listing.specs.Months.{ruleOf}
 use Rattle.table.specs.declared.Table.{Table}
 use Rattle.table.specs.Table.{openedTable}
-use Rattle.prices.specs.Prices.{tickCall}
+use Rattle.prices.specs.Prices.{tickCall, cashCall}
 
 -- a call's refusal and value
 abbrev pub answers : Answer ℕ → ℕ → ℕ → Bool
@@ -40,6 +39,10 @@ abbrev pub isAmount : ℤ → ℕ → Bool
 isAmount (pos n) amount = eqb n amount
 isAmount (negsuc n) amount = false
 
+-- a call that is accepted, with an amount
+abbrev pub pays : Answer ℤ → ℕ → Bool
+pays a amount = eqb (a .refusal) 0 && isAmount (a .value) amount
+
 -- the group FR11
 abbrev pub FR11 : List ℕ
 FR11 = groupCode (70 ∷ 82 ∷ []) 11
@@ -54,32 +57,32 @@ open2008 = record { cover = record { «first_year» = 2008; years = 3 }; closed 
 
 -- 'With only 21 March 2008 closed'
 unfoldable pub only21 : Calendar
-only21 = closeDay open2008 3002
+only21 = closeDay open2008 (dayOf 2008 3 21)
 
 -- 'With 20 March closed too'
 unfoldable pub also20 : Calendar
-also20 = closeDay only21 3001
+also20 = closeDay only21 (dayOf 2008 3 20)
 
 -- 'kind 1 of FR11', on a date
 unfoldable pub monthsOn : ℕ → List ℕ
 monthsOn date = freshKeys (ruleOf only21 (Option Months12) FR11) only21 date
 
--- the product of the paper's session, with tick 5
-unfoldable pub axa : Product
-axa =
+-- a future of 100 shares with tick 5
+unfoldable pub axaFuture : Product
+axaFuture =
     record {
-      id = 65 ∷ 88 ∷ 65 ∷ 32 ∷ [];
-      group = FR11;
+      id = 65 ∷ 88 ∷ 65 ∷ 70 ∷ [];
+      group = groupCode (70 ∷ 82 ∷ []) 1;
       market = 88 ∷ 80 ∷ 65 ∷ 82 ∷ [];
-      kind = Option Months12;
+      kind = Future;
       size = 100;
       tick = 5;
       currency = EUR;
     }
 
--- its table, opened on 2 January 2008 in a cover of that year
-unfoldable pub axaTable : Table
-axaTable = openedTable axa (record { cover = record { «first_year» = 2008; years = 1 }; closed = replicate 736 0 }) 2923
+-- its table, opened on 2 January 2008
+unfoldable pub futureTable : Table
+futureTable = openedTable axaFuture open2008 (dayOf 2008 1 2)
 
 -- the rows, each under its sentence
 unfoldable pub rows : List Bool
@@ -91,18 +94,24 @@ rows =
     -- '29 February 2000 is 59; 29 February 2001: 23'
     answers (dayCall 2000 2 29) 0 59 ∷ answers (dayCall 2001 2 29) 23 0 ∷
     -- 'With only 21 March 2008 closed, March 2008 ends on 20 March for FR11 and for IT11'
-    eqb (lastTradingDay only21 FR11 98) (dayOf 2008 3 20) ∷ eqb (lastTradingDay only21 IT11 98) (dayOf 2008 3 20) ∷
+    eqb (lastTradingDay only21 FR11 (monthNumber 2008 3)) (dayOf 2008 3 20) ∷
+    eqb (lastTradingDay only21 IT11 (monthNumber 2008 3)) (dayOf 2008 3 20) ∷
     -- 'With 20 March closed too: 19 March for both'
-    eqb (lastTradingDay also20 FR11 98) (dayOf 2008 3 19) ∷ eqb (lastTradingDay also20 IT11 98) (dayOf 2008 3 19) ∷
+    eqb (lastTradingDay also20 FR11 (monthNumber 2008 3)) (dayOf 2008 3 19) ∷
+    eqb (lastTradingDay also20 IT11 (monthNumber 2008 3)) (dayOf 2008 3 19) ∷
     -- 'A third Friday on the 15th (August 2008) and on the 21st (March 2008)'
-    eqb (thirdFriday 103) (dayOf 2008 8 15) ∷ eqb (thirdFriday 98) (dayOf 2008 3 21) ∷
-    -- 'With only 21 March closed, kind 1 of FR11 on 20 March 2008: Mar, Apr, May, Jun, Sep, Dec; on 21 March: Apr, May, Jun, Sep, Dec, Mar 2009'
-    sameList (monthsOn 3001) (98 ∷ 99 ∷ 100 ∷ 101 ∷ 104 ∷ 107 ∷ []) ∷
-    sameList (monthsOn 3002) (99 ∷ 100 ∷ 101 ∷ 104 ∷ 107 ∷ 110 ∷ []) ∷
+    eqb (thirdFriday (monthNumber 2008 8)) (dayOf 2008 8 15) ∷
+    eqb (thirdFriday (monthNumber 2008 3)) (dayOf 2008 3 21) ∷
+    -- 'With only 21 March closed, kind 1 of FR11 on 20 March 2008: Mar, Apr, May, Jun, Sep, Dec'
+    sameList (monthsOn (dayOf 2008 3 20))
+    (monthNumber 2008 3 ∷ monthNumber 2008 4 ∷ monthNumber 2008 5 ∷ monthNumber 2008 6 ∷ monthNumber 2008 9 ∷ monthNumber 2008 12 ∷ []) ∷
+    -- 'on 21 March: Apr, May, Jun, Sep, Dec, Mar 2009'
+    sameList (monthsOn (dayOf 2008 3 21))
+    (monthNumber 2008 4 ∷ monthNumber 2008 5 ∷ monthNumber 2008 6 ∷ monthNumber 2008 9 ∷ monthNumber 2008 12 ∷ monthNumber 2009 3 ∷ []) ∷
     -- '3 contracts of 100, agreed 12.3400, final 12.5000: +480,000'
-    isAmount (cashOf 3 100 123400 125000) 480000 ∷
+    pays (cashCall futureTable 3 123400 125000) 480000 ∷
     -- 'Price 5 with tick 5 passes, 6 gets 20'
-    eqb (tickCall axaTable 5) 0 ∷ eqb (tickCall axaTable 6) 20 ∷
+    eqb (tickCall futureTable 5) 0 ∷ eqb (tickCall futureTable 6) 20 ∷
     []
 
 -- every row of a table holds

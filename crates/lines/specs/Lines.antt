@@ -13,7 +13,7 @@ use Rattle.lines.specs.declared.Line.{Line}
 use Rattle.lines.specs.declared.Command.{Command}
 use Rattle.lines.specs.declared.DateRead.{DateRead}
 
--- the value of a digit, 0 to 9; the digit 0 is byte 48
+-- the value of a digit, 0 to 9; the digit 0 is byte 48. It is taken mod 10 so that a byte that is no digit has a value below 10 too, and the numbers of a line stay small
 abbrev pub digitValue : ℕ → ℕ
 digitValue byte = (byte - 48) % 10
 
