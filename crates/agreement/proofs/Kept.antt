@@ -12,9 +12,8 @@ use Rattle.questions.specs.Questions.{Ask, firstNo}
 use Rattle.questions.proofs.Bools.{both, and-fst, and-snd, or-either}
 use Rattle.table.specs.declared.Table.{Table}
 use Rattle.table.specs.declared.Outcome.{Outcome}
-use Rattle.table.specs.Table.{moved, answered, rollAsks, rollCall, closeAsks, closeCall}
+use Rattle.table.specs.Table.{moved, answered, rollAsks, rollCall, closeAsks, closeCall, openCall}
 use Rattle.calendar.specs.Trading.{closeDay}
-use Rattle.opening.specs.Opening.{openCall}
 use Rattle.lines.specs.declared.Command.{Command}
 use Rattle.lines.specs.Lines.{dateAt, moveForm, moveCommand, idInLine, openForm, openCommand, otherLine, commandAt, commandOf, emptyLine}
 use Rattle.command.specs.declared.Kept.{Kept}

@@ -7,8 +7,7 @@ use mathlib.Core.List.{List, [], _∷_}
 use lib.Dec.{eqb}
 use Rattle.years.specs.Calendars.{calendarOf}
 use Rattle.master.specs.Load.{productOf}
-use Rattle.table.specs.Table.{openedTable}
-use Rattle.opening.specs.Opening.{openCall}
+use Rattle.table.specs.Table.{openedTable, openCall}
 use Rattle.lines.specs.declared.Command.{Command}
 use Rattle.lines.specs.Lines.{commandOf}
 use Rattle.command.specs.declared.Kept.{Kept}

@@ -7,8 +7,7 @@ use Prim.Native.Nat.{ℕ}
 use borrow.Author.Tests.{eq-eqb, ne-eqb}
 use Rattle.table.specs.declared.Table.{Table}
 use Rattle.table.specs.declared.Outcome.{Outcome}
-use Rattle.table.specs.Table.{rollCall, closeCall}
-use Rattle.opening.specs.Opening.{openCall}
+use Rattle.table.specs.Table.{rollCall, closeCall, openCall}
 use Rattle.printing.specs.Text.{outcomeText, refusalText, badText}
 use Rattle.lines.specs.declared.Command.{Command}
 use Rattle.command.specs.declared.Kept.{Kept}

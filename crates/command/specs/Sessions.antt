@@ -7,8 +7,7 @@ use lib.Dec.{eqb}
 use lib.ListN.{length}
 use Rattle.table.specs.declared.Table.{Table}
 use Rattle.table.specs.declared.Outcome.{Outcome}
-use Rattle.table.specs.Table.{rollCall, closeCall}
-use Rattle.opening.specs.Opening.{zeroTable, openCall}
+use Rattle.table.specs.Table.{rollCall, closeCall, zeroTable, openCall}
 use Rattle.printing.specs.Text.{outcomeText, refusalText, badText}
 use Rattle.lines.specs.declared.Command.{Command}
 use Rattle.lines.specs.declared.Line.{Line}

@@ -24,7 +24,7 @@ pub struct Answered {
 pub fn nothing_kept() -> Kept
     ensures { λ r. ⌜ r ≡ nothingKept ⌝ }
 {
-    let table = opening::zero_table();
+    let table = table::zero_table();
     Kept {
         opened: false,
         table,
@@ -46,7 +46,7 @@ fn outcome_of(file: &[u8], t: Table, c: Command) -> Outcome
     let id = c.id;
     let day = c.day;
     if letter == b'O' {
-        return opening::open(file, id, day);
+        return t.open(file, id, day);
     }
     if letter == b'R' {
         return t.roll(day);

@@ -7,8 +7,8 @@ use Rattle.questions.proofs.Bools.{and-both}
 use Rattle.years.specs.Calendars.{calendarOf}
 use Rattle.master.specs.Load.{productOf}
 use Rattle.master.proofs.Accepting.{accepted-file}
-use Rattle.opening.specs.Opening.{openCall}
-use Rattle.opening.proofs.Opened.{opened-from, opened-table}
+use Rattle.table.specs.Table.{openCall}
+use Rattle.table.proofs.Opens.{accepted-from, opened-table}
 use Rattle.history.specs.Book.{Call}
 use Rattle.history.specs.History.{opens}
 use Rattle.history.specs.Replay.{FromFile}
@@ -17,7 +17,7 @@ use Rattle.history.proofs.Demand.{demand3}
 pub from-file : (f id : List ℕ) (date : ℕ) → openCall f id date .refusal ≡ 0 → (cs ds : List Call) → FromFile f id date cs ds
 unfolding opens
 from-file f id date e cs ds =
-    let o = opened-from f id date e in
+    let o = accepted-from f id date e in
     let a = accepted-file f (o .loaded) in
     record {
       opened = opened-table f id date e;

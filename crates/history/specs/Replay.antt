@@ -8,8 +8,7 @@ use lib.Dec.{eqb, leb}
 use lib.ListN.{length, drop}
 use Rattle.years.specs.Calendars.{calendarOf}
 use Rattle.master.specs.Load.{productOf}
-use Rattle.table.specs.Table.{openedTable}
-use Rattle.opening.specs.Opening.{openCall}
+use Rattle.table.specs.Table.{openedTable, openCall}
 use Rattle.history.specs.declared.Replay.{Replay}
 use Rattle.history.specs.Book.{Call, roll, close, Reply}
 use Rattle.history.specs.History.{tableRun, tableReplies, Demand3}

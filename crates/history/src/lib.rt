@@ -4,6 +4,7 @@ use table::Table;
 ghost use mathlib.Core.Path.{_≡_};
 ghost use Prim.Native.Nat.{_+_, _*_, _≤_, _<_};
 ghost use lib.ListN.{length, set};
+ghost use Rattle.table.specs.Table.{openCall};
 ghost use Rattle.history.specs.History.{tableCall};
 ghost use Rattle.history.specs.Replay.{callOf, Replayed};
 
@@ -35,6 +36,13 @@ fn write_reply(buffer: &mut [u16], i: usize, refusal: u8, entered: u16, left: u1
     buffer[at + 2] = left;
 }
 
+// A table opened from a file.
+fn open_table(file: &[u8], id: [u8; 4], date: u16) -> Outcome
+    ensures { λ r. ⌜ r ≡ openCall (now (file .entry)) id date ⌝ }
+{
+    table::zero_table().open(file, id, date)
+}
+
 // Opens a table and runs the calls of two lent lists on it, kinds and dates or days, and writes each call's number and counts to a lent buffer.
 pub fn run(
     file: &[u8],
@@ -46,7 +54,7 @@ pub fn run(
 ) -> Replay
     ensures { λ r. ⌜ Replayed (now (file .entry)) id date (now (kinds .entry)) (now (days .entry)) (now (buffer .entry)) (now (buffer .exit)) r ⌝ }
 {
-    let opened = opening::open(file, id, date);
+    let opened = open_table(file, id, date);
     let refusal = opened.refusal;
     let mut t = opened.table;
     let n = kinds.len();

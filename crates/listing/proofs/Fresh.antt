@@ -1,18 +1,22 @@
 -- The monthly rule's front and fresh listing as the code makes them.
 -- Assumes nothing.
-use mathlib.Core.Path.{_≡_}
+use mathlib.Core.Path.{_≡_, _∙_, sym, ap}
+use mathlib.Core.Bool.{true}
 use mathlib.Core.List.{List}
 use Prim.Native.Nat.{ℕ, _-_, _≤_}
-use lib.ListN.{length, replicate}
+use lib.ListN.{length, take, replicate, length-map}
+use lib.Seq.{take-at}
+use borrow.Author.Tests.{eqb-true}
 use Rattle.days.specs.Dates.{monthOf}
 use Rattle.calendar.specs.declared.Calendar.{Calendar}
 use Rattle.calendar.specs.Trading.{coverEnd}
 use Rattle.product.specs.declared.Kind.{Kind}
 use Rattle.product.specs.Fields.{kindNumber}
 use Rattle.listing.specs.declared.Maturity.{Maturity}
-use Rattle.listing.specs.Rules.{front, freshKeys, complete, unused}
+use Rattle.listing.specs.declared.Listing.{Listing}
+use Rattle.listing.specs.Rules.{front, freshKeys, complete, unused, places15}
 use Rattle.expiry.specs.LastDays.{lastTradingDay}
-use Rattle.listing.specs.Months.{placesOfKind, monthly, ruleOf, listingOf}
+use Rattle.listing.specs.Months.{placesOfKind, monthly, ruleOf, freshOf, allInCover, listingOf}
 use Rattle.listing.proofs.Taking.{rest, grown, whole-is, rest-room}
 
 -- no kind has more than fifteen places
@@ -31,3 +35,20 @@ module _ (cal : Calendar) (kind : Kind) (group : List ℕ) (date : ℕ) where
   unfolding listingOf complete freshKeys monthly rest lastTradingDay
   listing-is k e from q p s =
       rw (q, p, s) (whole-is (matOf cal group) (monthOf (coverEnd (cal .cover))) (kindNumber kind) (front (ruleOf cal kind group) cal date) (rest-room kind))
+
+-- what the code's listing says: complete or not, and the fresh maturities in the places that are used
+pub complete-is : (cal : Calendar) (kind : Kind) (group : List ℕ) (date : ℕ) (l : Listing) → l ≡ listingOf cal kind group date → l .complete ≡ allInCover cal kind group date
+unfolding listingOf
+complete-is cal kind group date l e = ap (λ (x : Listing). x .complete) e
+
+pub places-is : (cal : Calendar) (kind : Kind) (group : List ℕ) (date : ℕ) (l : Listing) → l ≡ listingOf cal kind group date → l .maturities ≡ places15 (freshOf cal kind group date)
+unfolding listingOf
+places-is cal kind group date l e = ap (λ (x : Listing). x .maturities) e
+
+-- a complete fresh listing fills the places that are used
+pub fresh-listed : (cal : Calendar) (kind : Kind) (group : List ℕ) (date n : ℕ) → n ≡ placesOfKind kind → allInCover cal kind group date ≡ true
+    → take n (places15 (freshOf cal kind group date)) ≡ freshOf cal kind group date
+unfolding places15 complete monthly
+fresh-listed cal kind group date n q e =
+    take-at (freshOf cal kind group date) _ n
+    (length-map (freshKeys (ruleOf cal kind group) cal date) _ ∙ eqb-true _ _ e ∙ sym q)

@@ -1,4 +1,4 @@
--- Monthly maturities: the month sets and the rows of counts (01, Listed months; 002, 1.6.3).
+-- Monthly maturities: the month sets and the rows of counts (01, Listed months; 002, 1.6.3; 000, 2.6.4).
 -- Assumes nothing.
 use Prim.Native.Nat.{ℕ}
 use mathlib.Core.Bool.{Bool, true}

@@ -1,20 +1,17 @@
--- What the call that opens a table comes to, question by question.
+-- What opening a table comes to, question by question.
 -- Assumes nothing.
 use mathlib.Core.Path.{_≡_, refl, _∙_, sym, ap}
 use mathlib.Core.Bool.{Bool, true, false, _&&_, cond}
 use mathlib.Core.List.{List, [], _∷_, _++_}
 use Prim.Native.Nat.{ℕ, zero, suc, _/_, _%_}
 use native.Mathlib.Omega.{arith}
-use lib.Dec.{ltb}
-use lib.ListN.{take}
+use lib.Dec.{ltb, eqb·suc-zero}
 use borrow.Author.Tests.{ltb-true}
 use Rattle.questions.specs.Questions.{Ask, ask, firstNo, Answer, answer}
 use Rattle.questions.proofs.Bools.{and-fst, and-snd}
 use Rattle.questions.proofs.Asks.{none-no, no-asks, first-yes, accepted}
-use Rattle.calendar.specs.declared.Calendar.{Calendar}
 use Rattle.calendar.specs.Trading.{inCover}
-use Rattle.listing.specs.declared.Listing.{Listing}
-use Rattle.listing.specs.Months.{placesOfKind, listingOf, freshOf, allInCover}
+use Rattle.listing.specs.Months.{listingOf, allInCover}
 use Rattle.years.specs.Calendars.{calendarOf}
 use Rattle.master.specs.Products.{productAt}
 use Rattle.master.specs.Load.{loadAsks, loadCall, loadAnswer, found, placeFrom, placeOf, findAsks, findCall, findAnswer, productOf}
@@ -23,12 +20,7 @@ use Rattle.master.specs.declared.Found.the-variants.{At, Nothing}
 use Rattle.master.specs.declared.Place.{Place}
 use Rattle.master.specs.declared.Loaded.{Loaded}
 use Rattle.master.specs.declared.Counts.{Counts}
-use Rattle.product.specs.declared.Product.{Product}
-use Rattle.table.specs.declared.Table.{Table}
-use Rattle.table.specs.declared.Outcome.{Outcome}
-use Rattle.table.specs.Table.{refusedWith, answered, openedTable}
-use Rattle.opening.specs.Opening.{zeroTable, openAsks, openedWith, openCall}
-use Rattle.table.proofs.Calls.{answered-no, answered-yes, complete-is, places-is, fresh-listed}
+use Rattle.opening.specs.Opening.{openAsks, refusedOpening, openingOf}
 
 -- of two lists of questions, one after the other
 append-no : (qs rs : List Ask) (n : ℕ) → firstNo qs ≡ suc n → firstNo (qs ++ rs) ≡ suc n
@@ -82,13 +74,18 @@ find-none f id e = go (found f id) refl (find-refusal f id Nothing e)
     go true q r = let z : _≡_ {A = ℕ} 9 0 = rw q at r in absurd (omega arith)
     go false q r = q
 
+-- an opening by its questions' answer
+opening-no : (f id : List ℕ) (date n : ℕ) → firstNo (openAsks f id date) ≡ suc n → openingOf f id date ≡ refusedOpening (suc n)
+unfolding openingOf
+opening-no f id date n e = rw (e, eqb·suc-zero n)
+
 module _ (f id : List ℕ) (date : ℕ) where
   -- 1 to 8
-  open-load : (n : ℕ) → firstNo (loadAsks f) ≡ suc n → openCall f id date ≡ refusedWith zeroTable (suc n)
-  unfolding openCall openAsks
-  open-load n e = answered-no zeroTable _ _ n (append-no (loadAsks f) _ n e)
+  open-load : (n : ℕ) → firstNo (loadAsks f) ≡ suc n → openingOf f id date ≡ refusedOpening (suc n)
+  unfolding openAsks
+  open-load n e = opening-no f id date n (append-no (loadAsks f) _ n e)
 
-  pub open-refused : (q : ℕ) → q ≡ firstNo (loadAsks f) → (q ≡ 0 → ⊥) → refusedWith zeroTable q ≡ openCall f id date
+  pub open-refused : (q : ℕ) → q ≡ firstNo (loadAsks f) → (q ≡ 0 → ⊥) → refusedOpening q ≡ openingOf f id date
   open-refused zero e h = absurd (h refl)
   open-refused (suc n) e h = sym (open-load n (sym e))
 
@@ -98,30 +95,24 @@ module _ (f id : List ℕ) (date : ℕ) where
     unfolding openAsks
     rest-is = append-yes (loadAsks f) _ (load-numbers f) a
 
-    pub open-9 : found f id ≡ false → openCall f id date ≡ refusedWith zeroTable 9
-    unfolding openCall firstNo
-    open-9 b = answered-no zeroTable (openAsks f id date) _ 8 (rest-is ∙ rw b)
+    pub open-9 : found f id ≡ false → openingOf f id date ≡ refusedOpening 9
+    unfolding firstNo
+    open-9 b = opening-no f id date 8 (rest-is ∙ rw b)
 
     module _ (b : found f id ≡ true) where
-      pub open-11 : inCover (calendarOf f .cover) date ≡ false → openCall f id date ≡ refusedWith zeroTable 11
-      unfolding openCall firstNo
-      open-11 c = answered-no zeroTable (openAsks f id date) _ 10 (rest-is ∙ rw (b, c))
+      pub open-11 : inCover (calendarOf f .cover) date ≡ false → openingOf f id date ≡ refusedOpening 11
+      unfolding firstNo
+      open-11 c = opening-no f id date 10 (rest-is ∙ rw (b, c))
 
       module _ (c : inCover (calendarOf f .cover) date ≡ true) where
-        pub open-16 : allInCover (calendarOf f) (productOf f id .kind) (productOf f id .group) date ≡ false → openCall f id date ≡ refusedWith zeroTable 16
-        unfolding openCall firstNo
-        open-16 d = answered-no zeroTable (openAsks f id date) _ 15 (rest-is ∙ rw (b, c, d))
+        pub open-16 : allInCover (calendarOf f) (productOf f id .kind) (productOf f id .group) date ≡ false → openingOf f id date ≡ refusedOpening 16
+        unfolding firstNo
+        open-16 d = opening-no f id date 15 (rest-is ∙ rw (b, c, d))
 
         pub open-yes : allInCover (calendarOf f) (productOf f id .kind) (productOf f id .group) date ≡ true
-            → openCall f id date ≡ openedWith (productOf f id) (calendarOf f) date (freshOf (calendarOf f) (productOf f id .kind) (productOf f id .group) date)
-        unfolding openCall firstNo
-        open-yes d = answered-yes zeroTable (openAsks f id date) _ (rest-is ∙ rw (b, c, d))
-
--- the code's listing fills the places that are used
-pub opened-is : (p : Product) (cal : Calendar) (date : ℕ) (l : Listing) → l ≡ listingOf cal (p .kind) (p .group) date → l .complete ≡ true
-    → openedWith p cal date (take (placesOfKind (p .kind)) (l .maturities)) ≡ openedWith p cal date (freshOf cal (p .kind) (p .group) date)
-opened-is p cal date l e w =
-    rw (places-is cal (p .kind) (p .group) date l e, fresh-listed cal (p .kind) (p .group) date _ refl (sym (complete-is cal (p .kind) (p .group) date l e) ∙ w))
+            → openingOf f id date ≡ record { refusal = 0; product = productOf f id; calendar = calendarOf f; fresh = listingOf (calendarOf f) (productOf f id .kind) (productOf f id .group) date .maturities }
+        unfolding openingOf listingOf firstNo
+        open-yes d = let z : firstNo (openAsks f id date) ≡ 0 = rest-is ∙ rw (b, c, d) in rw z
 
 -- what the questions of an accepted open leave
 pub record OpenedFrom (f id : List ℕ) (date : ℕ) : Type 0 where
@@ -130,13 +121,6 @@ pub record OpenedFrom (f id : List ℕ) (date : ℕ) : Type 0 where
   pub dated : inCover (calendarOf f .cover) date ≡ true
   pub whole : allInCover (calendarOf f) (productOf f id .kind) (productOf f id .group) date ≡ true
 
-refusal-is : (t : Table) (asks : List Ask) (o : Outcome) → answered t asks o .refusal ≡ 0 → firstNo asks ≡ 0
-refusal-is t asks o e = go (firstNo asks) refl
-  where
-    go : (n : ℕ) → firstNo asks ≡ n → firstNo asks ≡ 0
-    go zero q = q
-    go (suc n) q = absurd (omega (arith, e, ap (λ (x : Outcome). x .refusal) (answered-no t asks o n q)))
-
 load-first : (f : List ℕ) (rs : List Ask) → firstNo (loadAsks f ++ rs) ≡ 0 → firstNo (loadAsks f) ≡ 0
 load-first f rs e = go (firstNo (loadAsks f)) refl
   where
@@ -144,19 +128,11 @@ load-first f rs e = go (firstNo (loadAsks f)) refl
     go zero q = q
     go (suc n) q = absurd (omega (arith, e, append-no (loadAsks f) rs n q))
 
-pub opened-from : (f id : List ℕ) (date : ℕ) → openCall f id date .refusal ≡ 0 → OpenedFrom f id date
-unfolding openCall openAsks
-opened-from f id date e =
-    let q = refusal-is zeroTable (openAsks f id date) _ e in
+pub opened-from : (f id : List ℕ) (date : ℕ) → firstNo (openAsks f id date) ≡ 0 → OpenedFrom f id date
+unfolding openAsks
+opened-from f id date q =
     let l = load-first f _ q in
     let (a, r1) = none-no 8 (found f id) _ (sym (rest-is f id date l) ∙ q) in
     let (b, r2) = none-no 10 (inCover (calendarOf f .cover) date) _ r1 in
     let (c, r3) = none-no 15 (allInCover (calendarOf f) (productOf f id .kind) (productOf f id .group) date) [] r2 in
     record { loaded = l; there = a; dated = b; whole = c }
-
--- the table of an accepted open
-pub opened-table : (f id : List ℕ) (date : ℕ) → openCall f id date .refusal ≡ 0 → openCall f id date .table ≡ openedTable (productOf f id) (calendarOf f) date
-unfolding openedTable
-opened-table f id date e =
-    let o = opened-from f id date e in
-    ap (λ (x : Outcome). x .table) (open-yes f id date (o .loaded) (o .there) (o .dated) (o .whole))

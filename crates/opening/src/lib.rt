@@ -1,37 +1,26 @@
-// Opening a table from a master file.
+// What opening a table finds in a master file.
 use calendar::Calendar;
 use calendar::Cover;
 use listing::Maturity;
 use master::Found;
 use product::Kind;
 use product::Product;
-use table::Outcome;
-use table::Table;
-use table::refused;
 ghost use mathlib.Core.Path.{_≡_};
-ghost use Prim.Native.Nat.{_≤_};
-ghost use lib.ListN.{take};
-ghost use Rattle.listing.specs.Rules.{places15};
-ghost use Rattle.listing.specs.Months.{placesOfKind};
-ghost use Rattle.places.specs.Numbering.{numberedFresh};
-ghost use Rattle.opening.specs.Opening.{zeroTable, openedWith, openCall};
+ghost use Rattle.opening.specs.Opening.{zeroProduct, zeroCalendar, refusedOpening, openingOf};
 
-// A table of zeros.
-pub fn zero_table() -> Table
-    ensures { λ r. ⌜ r ≡ zeroTable ⌝ }
+// The number of the refusal, 0 where there is none; the product, the file's calendar, and the fresh listing, not yet numbered.
+pub struct Opening {
+    pub refusal: u8,
+    pub product: Product,
+    pub calendar: Calendar,
+    pub fresh: [Maturity; 15],
+}
+
+// A product of zeros; kind 0 is a future.
+pub fn zero_product() -> Product
+    ensures { λ r. ⌜ r ≡ zeroProduct ⌝ }
 {
-    let unused = Maturity {
-        month: 0,
-        day: 0,
-        number: 0,
-    };
-    let cover = Cover {
-        first_year: 0,
-        years: 0,
-    };
-    let closed = [0u8; 736];
-    let calendar = Calendar { cover, closed };
-    let product = Product {
+    Product {
         id: [0, 0, 0, 0],
         group: [0, 0, 0, 0],
         market: [0, 0, 0, 0],
@@ -39,88 +28,69 @@ pub fn zero_table() -> Table
         size: 0,
         tick: 0,
         currency: [0, 0, 0],
-    };
-    let maturities = [unused; 15];
-    Table {
-        product,
-        calendar,
-        date: 0,
-        maturities,
-        given: 0,
     }
 }
 
-// The first n fresh maturities, numbered 1, 2, ..
-fn number_from_one(fresh: [Maturity; 15], n: usize) -> [Maturity; 15]
-    requires { ⌜ n ≤ 15 ⌝ }
-    ensures { λ r. ⌜ r ≡ places15 (numberedFresh (take n fresh)) ⌝ }
+// A calendar of zeros.
+pub fn zero_calendar() -> Calendar
+    ensures { λ r. ⌜ r ≡ zeroCalendar ⌝ }
 {
+    let cover = Cover {
+        first_year: 0,
+        years: 0,
+    };
+    let closed = [0u8; 736];
+    Calendar { cover, closed }
+}
+
+// The number of a refusal, and zeros.
+fn refused_opening(number: u8) -> Opening
+    ensures { λ r. ⌜ r ≡ refusedOpening number ⌝ }
+{
+    let product = zero_product();
+    let calendar = zero_calendar();
     let unused = Maturity {
         month: 0,
         day: 0,
         number: 0,
     };
-    let mut maturities = [unused; 15];
-    let mut given: u16 = 0;
-    let mut i: usize = 0;
-    while i < n {
-        let m = fresh[i];
-        given += 1;
-        maturities[i] = Maturity {
-            month: m.month,
-            day: m.day,
-            number: given,
-        };
-        i += 1;
-    }
-    maturities
-}
-
-// The table of a product with a fresh listing, numbered 1, 2, ..
-fn opened_with(product: Product, calendar: Calendar, date: u16, fresh: [Maturity; 15]) -> Outcome
-    ensures { λ r. ⌜ r ≡ openedWith product calendar date (take (placesOfKind (product .kind)) fresh) ⌝ }
-{
-    let kind = product.kind;
-    let n = listing::months_listed(kind);
-    let maturities = number_from_one(fresh, n as usize);
-    let table = Table {
+    let fresh = [unused; 15];
+    Opening {
+        refusal: number,
         product,
         calendar,
-        date,
-        maturities,
-        given: n,
-    };
-    Outcome {
-        refusal: 0,
-        table: table,
-        entered: n,
-        left: 0,
+        fresh,
     }
 }
 
-// The table of the product with an id, on a date.
-pub fn open(file: &[u8], id: [u8; 4], date: u16) -> Outcome
-    ensures { λ r. ⌜ r ≡ openCall (now (file .entry)) id date ⌝ }
+// The product with an id, the file's calendar, and the fresh listing on a date.
+pub fn opening_of(file: &[u8], id: [u8; 4], date: u16) -> Opening
+    ensures { λ r. ⌜ r ≡ openingOf (now (file .entry)) id date ⌝ }
 {
     let loaded = master::load(file);
     let refusal = loaded.refusal;
     if refusal != 0 {
-        return refused(zero_table(), refusal);
+        return refused_opening(refusal);
     }
     let Found::At(block, record) = master::find(file, id) else {
-        return refused(zero_table(), 9);
+        return refused_opening(9);
     };
-    let cal = years::calendar_of(file);
-    if !calendar::in_cover(cal.cover, date) {
-        return refused(zero_table(), 11);
+    let calendar = years::calendar_of(file);
+    if !calendar::in_cover(calendar.cover, date) {
+        return refused_opening(11);
     }
-    let p = master::product_at(file, block, record);
-    let kind = p.kind;
-    let group = p.group;
-    let l = listing::list(cal, kind, group, date);
+    let product = master::product_at(file, block, record);
+    let kind = product.kind;
+    let group = product.group;
+    let l = listing::list(calendar, kind, group, date);
     if !l.complete {
-        return refused(zero_table(), 16);
+        return refused_opening(16);
     }
     let fresh = l.maturities;
-    opened_with(p, cal, date, fresh)
+    Opening {
+        refusal: 0,
+        product,
+        calendar,
+        fresh,
+    }
 }

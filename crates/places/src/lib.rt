@@ -9,7 +9,7 @@ ghost use lib.ListN.{length, take};
 ghost use Rattle.questions.specs.Search.{every};
 ghost use Rattle.listing.specs.Rules.{places15};
 ghost use Rattle.listing.specs.Months.{placesOfKind};
-ghost use Rattle.places.specs.Numbering.{placeRight, isListed, numberOf, missing, renumbered, numbersRight, unlikeBefore, numberRight, withNumber};
+ghost use Rattle.places.specs.Numbering.{placeRight, isListed, numberOf, missing, renumbered, numberedFresh, numbersRight, unlikeBefore, numberRight, withNumber};
 
 // The places of a table.
 pub type Places = [Maturity; 15];
@@ -148,10 +148,10 @@ fn numbered(old: [Maturity; 15], n: usize, m: Maturity, given: u16) -> NumberedM
     }
 }
 
-// The first n fresh maturities with their numbers.
-fn number_fresh(old: [Maturity; 15], fresh: [Maturity; 15], n: usize, given: u16) -> [Maturity; 15]
-    requires { ⌜ (n ≤ 15) × (given ≤ 60000) ⌝ }
-    ensures { λ r. ⌜ r ≡ places15 (renumbered (take n old) given (take n fresh)) ⌝ }
+// The first n fresh maturities with their numbers, where k old places are used.
+fn number_fresh(old: Places, k: usize, fresh: Places, n: usize, given: u16) -> Places
+    requires { ⌜ (k ≤ 15) × (n ≤ 15) × (given ≤ 60000) ⌝ }
+    ensures { λ r. ⌜ r ≡ places15 (renumbered (take k old) given (take n fresh)) ⌝ }
 {
     let unused = Maturity {
         month: 0,
@@ -163,7 +163,7 @@ fn number_fresh(old: [Maturity; 15], fresh: [Maturity; 15], n: usize, given: u16
     let mut i: usize = 0;
     while i < n {
         let m = fresh[i];
-        let s = numbered(old, n, m, given_so_far);
+        let s = numbered(old, k, m, given_so_far);
         let t = s.maturity;
         maturities[i] = t;
         given_so_far = s.given;
@@ -180,7 +180,15 @@ pub fn renumber(old: Places, fresh: Places, kind: Kind, given: u16) -> Places
         return old;
     }
     let n = listing::months_listed(kind) as usize;
-    number_fresh(old, fresh, n, given)
+    number_fresh(old, n, fresh, n, given)
+}
+
+// The fresh maturities in the places that a kind uses, numbered 1, 2, ..
+pub fn number_opened(fresh: Places, kind: Kind) -> Places
+    ensures { λ r. ⌜ r ≡ places15 (numberedFresh (take (placesOfKind kind) fresh)) ⌝ }
+{
+    let n = listing::months_listed(kind) as usize;
+    number_fresh(fresh, 0, fresh, n, 0)
 }
 
 // Whether no place before i has the number of place i.

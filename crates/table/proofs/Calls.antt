@@ -1,38 +1,28 @@
 -- What the calls on a table come to, question by question.
 -- Assumes nothing.
-use mathlib.Core.Path.{_≡_, refl, _∙_, sym, ap}
+use mathlib.Core.Path.{_≡_, refl, _∙_, sym}
 use mathlib.Core.Bool.{Bool, true, false, _&&_, cond}
 use mathlib.Core.List.{List}
 use Prim.Native.Nat.{ℕ, suc, _-_, _≤_, _<_}
 use native.Mathlib.Omega.{arith}
 use lib.Dec.{leb, ltb, eqb·suc-zero}
-use lib.ListN.{take, length-map}
-use lib.Seq.{take-at}
-use borrow.Author.Tests.{eqb-true, leb-true, le-leb, lt-leb}
+use lib.ListN.{take}
+use borrow.Author.Tests.{leb-true, le-leb, lt-leb}
 use Rattle.questions.specs.Questions.{Ask, firstNo}
 use Rattle.questions.specs.Search.{every}
 use Rattle.questions.proofs.Bools.{both}
 use Rattle.calendar.specs.declared.Calendar.{Calendar}
 use Rattle.calendar.specs.Trading.{validCover, clean, everyWeek, inCover, tradingDay, closeDay}
-use Rattle.product.specs.declared.Kind.{Kind}
 use Rattle.product.specs.Fields.{productRight}
-use Rattle.listing.specs.Rules.{freshKeys, complete, monthsBefore, places15}
+use Rattle.listing.specs.Rules.{complete, monthsBefore}
 use Rattle.listing.specs.declared.Listing.{Listing}
-use Rattle.listing.specs.Months.{placesOfKind, ruleOf, monthly, listingOf, freshOf, allInCover}
+use Rattle.listing.specs.Months.{placesOfKind, ruleOf, listingOf, allInCover}
 use Rattle.listing.proofs.Front.{before-most}
-use Rattle.listing.proofs.Fresh.{places-most}
+use Rattle.listing.proofs.Fresh.{places-most, complete-is, places-is, fresh-listed}
 use Rattle.table.specs.declared.Table.{Table}
 use Rattle.table.specs.declared.Outcome.{Outcome}
 use Rattle.places.specs.Numbering.{placeRight, numbersRight}
 use Rattle.table.specs.Table.{listsFresh, listingSound, sound, movedTo, moved, refusedWith, answered, rollAsks, rollCall, closeAsks, closeCall}
-
--- a complete fresh listing fills the places that are used
-pub fresh-listed : (cal : Calendar) (kind : Kind) (group : List ℕ) (date n : ℕ) → n ≡ placesOfKind kind → allInCover cal kind group date ≡ true
-    → take n (places15 (freshOf cal kind group date)) ≡ freshOf cal kind group date
-unfolding places15 complete monthly
-fresh-listed cal kind group date n q e =
-    take-at (freshOf cal kind group date) _ n
-    (length-map (freshKeys (ruleOf cal kind group) cal date) _ ∙ eqb-true _ _ e ∙ sym q)
 
 -- the first question answered no
 pub answered-no : (t : Table) (asks : List Ask) (o : Outcome) (n : ℕ) → firstNo asks ≡ suc n → answered t asks o ≡ refusedWith t (suc n)
@@ -167,15 +157,6 @@ module _ (t : Table) (day : ℕ) where
             pub close-16 : closeCall t day ≡ cond (allInCover (closeDay (t .calendar) day) (t .product .kind) (t .product .group) (t .date)) (moved t (closeDay (t .calendar) day) (t .date)) (refusedWith t 16)
             unfolding closeCall firstNo
             close-16 = answered-last t (closeAsks t day) _ 15 (allInCover (closeDay (t .calendar) day) (t .product .kind) (t .product .group) (t .date)) (λ h. rw (a, b, d, f, g, h)) (λ h. rw (a, b, d, f, g, h))
-
--- what the code's listing says: complete or not, and the fresh maturities in the places that are used
-pub complete-is : (cal : Calendar) (kind : Kind) (group : List ℕ) (date : ℕ) (l : Listing) → l ≡ listingOf cal kind group date → l .complete ≡ allInCover cal kind group date
-unfolding listingOf
-complete-is cal kind group date l e = ap (λ (x : Listing). x .complete) e
-
-pub places-is : (cal : Calendar) (kind : Kind) (group : List ℕ) (date : ℕ) (l : Listing) → l ≡ listingOf cal kind group date → l .maturities ≡ places15 (freshOf cal kind group date)
-unfolding listingOf
-places-is cal kind group date l e = ap (λ (x : Listing). x .maturities) e
 
 -- the move with the code's listing
 pub moved-is : (t : Table) (cal : Calendar) (date : ℕ) (l : Listing) → l ≡ listingOf cal (t .product .kind) (t .product .group) date → l .complete ≡ true

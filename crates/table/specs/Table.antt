@@ -1,10 +1,10 @@
--- The table, its soundness, and the calls that roll it and close a day (01, The table; Questions, in order).
+-- The table, its soundness, and the calls that open it, roll it and close a day (01, The table; Questions, in order).
 -- Assumes nothing.
 use Prim.Native.Nat.{ℕ, zero, _+_, _-_}
 use mathlib.Core.Bool.{Bool, _&&_, cond}
 use mathlib.Core.List.{List, [], _∷_}
 use lib.Dec.{leb, ltb, eqb}
-use lib.ListN.{length, take}
+use lib.ListN.{length, take, replicate}
 use Rattle.questions.specs.Questions.{Ask, ask, firstNo}
 use Rattle.questions.specs.Search.{every}
 use Rattle.calendar.specs.declared.Calendar.{Calendar}
@@ -12,8 +12,11 @@ use Rattle.calendar.specs.Trading.{validCover, inCover, tradingDay, clean, ever
 use Rattle.product.specs.declared.Product.{Product}
 use Rattle.product.specs.Fields.{productRight}
 use Rattle.listing.specs.declared.Maturity.{Maturity}
-use Rattle.listing.specs.Rules.{monthsBefore, places15}
+use Rattle.listing.specs.Rules.{monthsBefore, unused, places15}
 use Rattle.listing.specs.Months.{placesOfKind, ruleOf, freshOf, allInCover}
+use Rattle.years.specs.Calendars.{calendarOf}
+use Rattle.master.specs.Load.{productOf}
+use Rattle.opening.specs.Opening.{zeroProduct, zeroCalendar, openAsks}
 use Rattle.table.specs.declared.Table.{Table}
 use Rattle.table.specs.declared.Outcome.{Outcome}
 use Rattle.places.specs.Numbering.{missing, renumbered, numberedFresh, placeRight, numbersRight}
@@ -79,6 +82,29 @@ refusedWith t number = record { refusal = number; table = t; entered = 0; left =
 unfoldable pub answered : Table → List Ask → Outcome → Outcome
 answered t asks accepted = cond (eqb (firstNo asks) 0) accepted (refusedWith t (firstNo asks))
 
+-- 'open: a table of zeros'
+unfoldable pub zeroTable : Table
+zeroTable = record { product = zeroProduct; calendar = zeroCalendar; date = 0; maturities = replicate 15 unused; given = 0 }
+
+-- 'Open numbers the listed months 1, 2, .. by rising month', for a fresh listing
+abbrev pub openedOn : Product → Calendar → ℕ → List Maturity → Table
+openedOn p cal date fresh =
+    record { product = p; calendar = cal; date = date; maturities = places15 (numberedFresh fresh); given = length fresh }
+
+-- the table that an accepted open gives back
+unfoldable pub openedTable : Product → Calendar → ℕ → Table
+openedTable p cal date = openedOn p cal date (freshOf cal (p .kind) (p .group) date)
+
+-- 'entered is the months listed and left is 0', for a fresh listing
+abbrev pub openedWith : Product → Calendar → ℕ → List Maturity → Outcome
+openedWith p cal date fresh = record { refusal = 0; table = openedOn p cal date fresh; entered = length fresh; left = 0 }
+
+-- the call that opens a table, from a file alone: what stood in the table plays no part
+unfoldable pub openCall : List ℕ → List ℕ → ℕ → Outcome
+openCall f id date =
+    answered zeroTable (openAsks f id date)
+    (openedWith (productOf f id) (calendarOf f) date (freshOf (calendarOf f) (productOf f id .kind) (productOf f id .group) date))
+
 -- 'Roll: 10, 11, 12, 16'
 abbrev pub rollAsks : Table → ℕ → List Ask
 rollAsks t date =
@@ -106,12 +132,3 @@ closeAsks t day =
 -- 'Close marks one day closed'
 unfoldable pub closeCall : Table → ℕ → Outcome
 closeCall t day = answered t (closeAsks t day) (moved t (closeDay (t .calendar) day) (t .date))
-
--- 'Open numbers the listed months 1, 2, .. by rising month', for a fresh listing
-abbrev pub openedOn : Product → Calendar → ℕ → List Maturity → Table
-openedOn p cal date fresh =
-    record { product = p; calendar = cal; date = date; maturities = places15 (numberedFresh fresh); given = length fresh }
-
--- the table that an accepted open gives back
-unfoldable pub openedTable : Product → Calendar → ℕ → Table
-openedTable p cal date = openedOn p cal date (freshOf cal (p .kind) (p .group) date)

@@ -8,7 +8,7 @@ ghost use Prim.Native.Nat.{_≤_};
 ghost use lib.ListN.{take};
 ghost use Rattle.places.specs.Numbering.{isListed};
 ghost use Rattle.listing.specs.Months.{placesOfKind, allInCover};
-ghost use Rattle.table.specs.Table.{listedIn, listsFresh, listingSound, sound, movedTo, moved, refusedWith, rollCall, closeCall};
+ghost use Rattle.table.specs.Table.{listedIn, listsFresh, listingSound, sound, movedTo, moved, refusedWith, zeroTable, openedWith, openCall, rollCall, closeCall};
 
 // A product, its calendar, a date, up to 15 maturities by rising month, and the count of numbers given.
 pub struct Table {
@@ -108,6 +108,49 @@ pub fn refused(t: Table, number: u8) -> Outcome
     }
 }
 
+// A table of zeros.
+pub fn zero_table() -> Table
+    ensures { λ r. ⌜ r ≡ zeroTable ⌝ }
+{
+    let product = opening::zero_product();
+    let calendar = opening::zero_calendar();
+    let unused = Maturity {
+        month: 0,
+        day: 0,
+        number: 0,
+    };
+    let maturities = [unused; 15];
+    Table {
+        product,
+        calendar,
+        date: 0,
+        maturities,
+        given: 0,
+    }
+}
+
+// The table of a product with a fresh listing, numbered 1, 2, ..
+fn opened_with(product: Product, calendar: Calendar, date: u16, fresh: [Maturity; 15]) -> Outcome
+    ensures { λ r. ⌜ r ≡ openedWith product calendar date (take (placesOfKind (product .kind)) fresh) ⌝ }
+{
+    let kind = product.kind;
+    let n = listing::months_listed(kind);
+    let maturities = places::number_opened(fresh, kind);
+    let table = Table {
+        product,
+        calendar,
+        date,
+        maturities,
+        given: n,
+    };
+    Outcome {
+        refusal: 0,
+        table: table,
+        entered: n,
+        left: 0,
+    }
+}
+
 // The table with a calendar, a date and a fresh listing; a month that was there keeps its number.
 fn moved_to(t: Table, cal: Calendar, date: u16, fresh: [Maturity; 15]) -> Outcome
     requires { ⌜ t .given ≤ 60000 ⌝ }
@@ -151,6 +194,21 @@ fn relisted(t: Table, cal: Calendar, date: u16) -> Outcome
 }
 
 impl Table {
+    // The table of the product with an id, on a date. What stood in the table before plays no part.
+    pub fn open(self, file: &[u8], id: [u8; 4], date: u16) -> Outcome
+        ensures { λ r. ⌜ r ≡ openCall (now (file .entry)) id date ⌝ }
+    {
+        let o = opening::opening_of(file, id, date);
+        let refusal = o.refusal;
+        if refusal != 0 {
+            return refused(zero_table(), refusal);
+        }
+        let product = o.product;
+        let calendar = o.calendar;
+        let fresh = o.fresh;
+        opened_with(product, calendar, date, fresh)
+    }
+
     // Sets the date, a later or equal one.
     pub fn roll(self, date: u16) -> Outcome
         ensures { λ r. ⌜ r ≡ rollCall self date ⌝ }

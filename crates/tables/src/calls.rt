@@ -6,7 +6,7 @@ use table::Table;
 
 // The table of zeros that open gives back for an empty file.
 pub(crate) fn no_table() -> Table {
-    let o = opening::open(b"", [0, 0, 0, 0], 0);
+    let o = table::zero_table().open(b"", [0, 0, 0, 0], 0);
     let t = o.table;
     t
 }
@@ -15,7 +15,7 @@ pub(crate) fn open(bytes: [u8; 16]) -> Table {
     let id = [bytes[4], bytes[5], bytes[6], bytes[7]];
     let mut file = io::large_buffer();
     let n = read_master(bytes[1], &mut file);
-    let o = opening::open(&file[..n], id, two(bytes[2], bytes[3]));
+    let o = table::zero_table().open(&file[..n], id, two(bytes[2], bytes[3]));
     put_outcome(b'O', o);
     let t = o.table;
     t

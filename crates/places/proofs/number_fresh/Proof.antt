@@ -6,14 +6,14 @@ use Rattle.places.proofs.number_fresh.Statement.{statement}
 use Rattle.places.proofs.number_fresh.Tie as tie
 
 abbrev Inv-loop : tie.InvT-loop
-Inv-loop old n given fresh maturities₀ given-so-far₀ i₀ maturities given-so-far i = (n ≤ length fresh) × (n ≤ 15) × (given ≤ 60000) × Numbering (take n old) fresh n given maturities given-so-far i
+Inv-loop old k n given fresh maturities₀ given-so-far₀ i₀ maturities given-so-far i = (n ≤ length fresh) × (n ≤ 15) × (given ≤ 60000) × Numbering (take k old) fresh n given maturities given-so-far i
 
 abbrev μ-loop : tie.MeasureT-loop
-μ-loop old n given fresh maturities₀ given-so-far₀ i₀ maturities given-so-far i = n - i
+μ-loop old k n given fresh maturities₀ given-so-far₀ i₀ maturities given-so-far i = n - i
 
 loop-holds : tie.Need-loop-holds Inv-loop μ-loop
 loop-holds c =
-    let fits : c .args .n ≤ length (c .args .t2) = omega (arith, c .good .1 .0 .1 .0 .1) in
+    let fits : c .args .n ≤ length (c .args .t3) = omega (arith, c .good .1 .1 .0 .1 .0 .1) in
     (fits, omega arith, omega arith, starts _ _ _ _ fits (omega arith))
 
 mul-m : tie.Need-mul-m Inv-loop μ-loop
