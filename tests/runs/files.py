@@ -1,6 +1,6 @@
 """States of master.bin: files of every legal size, whole, with one fault and
 with two; files of other lengths; no readable file at all (01, "Master file",
-questions 1 to 9; issue 6, `terms`)."""
+questions 1 to 9; the program `terms`)."""
 
 from dataclasses import dataclass
 from functools import lru_cache

@@ -1,6 +1,6 @@
 """Histories of tables as commands: the book says what fits the moment (01, "The
-table"; issue 6: covers of 1, 2, 3, 5, 7 and 16 years, closure clusters, long
-histories)."""
+table"): covers of 1, 2, 3, 5, 7 and 16 years, closure clusters, long
+histories."""
 
 from runs.case import with_file
 from runs.lines import OTHER_LINES, day_word, text_of

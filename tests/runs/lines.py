@@ -1,5 +1,5 @@
 """Shapes of standard input (01: "Single spaces part the words of a line, which
-ends with a line feed or with the input"; issue 6, `terms`)."""
+ends with a line feed or with the input")."""
 
 import datetime
 

@@ -1,5 +1,5 @@
 """The second program: document 01 written once more, in Python, for comparison.
 
 It shares no code with the proved program. Every module is written from
-document 01 (papers/01-scope.md); "01" in the comments is that document.
+document 01; "01" in the comments is that document.
 """
