@@ -66,10 +66,10 @@ fn answer_next(file: &[u8], s: Progress, part: &[u8], out: &mut [u8]) -> Progres
         };
     }
     let a = command::answer(file, kept, line, out, s.length);
-    let kept = a.kept;
+    let after = a.kept;
     let empty = lines::empty_line();
     Progress {
-        kept: kept,
+        kept: after,
         line: empty,
         at: end + 1,
         length: a.at,

@@ -10,7 +10,26 @@ pub(crate) fn read_part(part: &mut [u8]) -> usize
     io::count(got, part)
 }
 
-// The bytes of master.bin at the start of file, and how many there are. A file that cannot be read counts as empty: a read after the last that does not find the end says so. So does one of more than 65,537 bytes; question 1 refuses both.
+// The bytes of an open file at the start of a buffer, and how many there are: up to the file's end, or as many as the buffer holds. None where any read fails.
+fn read_all(fd: i32, file: &mut [u8]) -> usize
+    ensures { λ r. ⌜ Counts r (now (file .exit)) ⌝ }
+{
+    let mut n: usize = 0;
+    while n < file.len() {
+        let got = libc::read(fd, &mut file[n..]);
+        if got < 0 {
+            return 0;
+        }
+        let more = io::count(got, &file[n..]);
+        if more == 0 {
+            return n;
+        }
+        n += more;
+    }
+    n
+}
+
+// The bytes of master.bin at the start of file, and how many there are. A file that cannot be read counts as empty. One that fills the buffer has more than 65,536 bytes, which question 1 refuses.
 pub(crate) fn read_master(file: &mut [u8]) -> usize
     ensures { λ r. ⌜ Counts r (now (file .exit)) ⌝ }
 {
@@ -18,12 +37,7 @@ pub(crate) fn read_master(file: &mut [u8]) -> usize
     if fd < 0 {
         return 0;
     }
-    let n = io::read_full(fd, file);
-    let mut rest = [0u8; 1];
-    let after = libc::read(fd, &mut rest);
+    let n = read_all(fd, file);
     libc::close(fd);
-    if after != 0 {
-        return 0;
-    }
     n
 }
