@@ -54,7 +54,7 @@ fn write_last(file: &[u8], k: Carried, out: &mut [u8]) {
     output::write_out(out, n);
 }
 
-// Reads the input part by part. What is answered is written before the next read.
+// Reads the input part by part. What is answered is written before the next read. The loop has to be shown to end, so after 2^64 - 1 reads the input counts as ended.
 fn run(file: &[u8]) {
     let mut part = io::large_buffer();
     let mut out = io::large_buffer();
