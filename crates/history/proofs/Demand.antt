@@ -4,10 +4,10 @@ use mathlib.Core.Path.{_≡_, refl, sym, ap, _∙_}
 use mathlib.Core.Bool.{Bool, true, false, cond}
 use mathlib.Core.List.{List, [], _∷_, _++_, map}
 use mathlib.Core.Logic.{_⊎_, inl, inr, _↔_}
-use Prim.Native.Nat.{ℕ, suc, _+_, _≤_, _<_}
+use Prim.Native.Nat.{ℕ, suc, _≤_, _<_}
 use native.Mathlib.Omega.{arith}
 use Rattle.questions.specs.Search.{oneOf}
-use Rattle.questions.proofs.Bools.{clash, is-false, lt-or-ge}
+use Rattle.questions.proofs.Bools.{clash, or-left, is-false, lt-or-ge}
 use Rattle.calendar.specs.declared.Calendar.{Calendar}
 use Rattle.product.specs.declared.Product.{Product}
 use Rattle.listing.specs.Rules.{Rule, widest, lastDayOf, freshKeys, maturity}
@@ -18,13 +18,14 @@ use Rattle.listing.proofs.Lawful.{Lawful, key-of, day-past}
 use Rattle.listing.proofs.Monthly.{monthly-lawful, monthly-most}
 use Rattle.table.specs.declared.Table.{Table}
 use Rattle.table.specs.declared.Outcome.{Outcome}
-use Rattle.places.specs.Numbering.{isListed, numberOf}
+use Rattle.places.specs.Numbering.{isListed, numberOf, unnumbered}
 use Rattle.table.specs.Table.{listedIn, sound, openedTable}
 use Rattle.history.specs.Book.{Call, Book, bookOpened, bookAfter, bookRun, bookReplies}
-use Rattle.history.specs.History.{tableCall, tableRun, tableReplies, calendarWith, dateWith, opens, unnumbered, Demand3}
+use Rattle.history.specs.History.{tableCall, tableRun, tableReplies, calendarWith, dateWith, opens, Demand3}
+use Rattle.history.proofs.Gone.{once-apart}
 use Rattle.history.proofs.Moves.{fresh, now, present-is, number-is, given-most, numbersFirst}
 use Rattle.history.proofs.Soundness.{Opened, opened}
-use Rattle.history.proofs.Runs.{ruleIn, frontIn, Inv, Later, starts, turn-later, run-later, run-append}
+use Rattle.history.proofs.Runs.{ruleIn, frontIn, known, Inv, Later, starts, turn-later, run-later, run-append}
 use Rattle.history.proofs.Tables.{tableIn, table-lists, sound-in, turn, table-run, reply-run, calendar-run, date-run, opened-in}
 
 -- without its numbers a numbered listing is the fresh one
@@ -98,6 +99,13 @@ module _ (p : Product) (b : Book) (nu : ℕ → ℕ) (I : Inv p b nu) where
         monthly-most (b .calendar .cover) (p .kind) (p .group) (I .opened .valid),
       )
 
+  most-number : (m : ℕ) → numberOf (b .maturities) m ≤ 192
+  most-number m = rw (number-in m) (go (in-now m))
+    where
+      go : (t : Bool) → cond t (nu m) 0 ≤ 192
+      go true = omega (arith, I .numbered .numbers .small m, most-given)
+      go false = omega arith
+
 module _ (p : Product) (cal : Calendar) (date : ℕ) (o : Opened p cal date) where
   abbrev start : Book
   start = bookOpened (p .kind) (p .group) cal date
@@ -151,28 +159,17 @@ module _ (p : Product) (cal : Calendar) (date : ℕ) (o : Opened p cal date) whe
   later-had : (cs ds : List Call) (m n : ℕ) → numberOf (listedIn (table (cs ++ ds))) m ≡ suc n → after cs ds .nu′ m ≡ suc n
   later-had cs ds m n e = had p (book (cs ++ ds)) (after cs ds .nu′) (after cs ds .inv) m n (rw (listed-are (cs ++ ds)) at e)
 
-  never-back : (cs ds : List Call) (m : ℕ) → oneOf (book cs .gone) m ≡ true → isListed (listedIn (table (cs ++ ds))) m ≡ false
-  never-back cs ds m e =
+  for-good : (cs ds : List Call) (m : ℕ) → oneOf (book cs .gone) m ≡ true → isListed (listedIn (table (cs ++ ds))) m ≡ false
+  for-good cs ds m e =
       rw (listed-are (cs ++ ds))
       (before-front p (book (cs ++ ds)) (after cs ds .nu′) (after cs ds .inv) m (omega (arith, at cs .inv .past m e, after cs ds .on)))
 
-  -- a month that was listed and is not any more lies before the front, now and later
-  not-again : (cs ds es : List Call) (m : ℕ) → isListed (listedIn (table cs)) m ≡ true → isListed (listedIn (table (cs ++ ds))) m ≡ false
-      → isListed (listedIn (table ((cs ++ ds) ++ es))) m ≡ false
-  not-again cs ds es m e off = go (lt-or-ge m (frontIn p (book (cs ++ ds))))
-    where
-      z : Later p (book cs) (at cs .nu′) (book (cs ++ ds))
-      z = after cs ds
-
-      v : Ever p (book (cs ++ ds)) (z .nu′) m
-      v = ever-after p (book cs) (at cs .nu′) (book (cs ++ ds)) z m (ever p (book cs) (at cs .nu′) (at cs .inv) m (rw (listed-are cs) at e))
-
-      y : Later p (book (cs ++ ds)) (z .nu′) (book ((cs ++ ds) ++ es))
-      y = rw (run-append p (cs ++ ds) es start) (run-later p es (book (cs ++ ds)) (z .nu′) (z .inv))
-
-      go : (m < frontIn p (book (cs ++ ds))) ⊎ (frontIn p (book (cs ++ ds)) ≤ m) → isListed (listedIn (table ((cs ++ ds) ++ es))) m ≡ false
-      go (inl s) = rw (listed-are ((cs ++ ds) ++ es)) (before-front p (book ((cs ++ ds) ++ es)) (y .nu′) (y .inv) m (omega (arith, s, y .on)))
-      go (inr s) = clash (listed-in p (book (cs ++ ds)) (z .nu′) (z .inv) m ∙ z .inv .numbered .there m (v .number) s) (rw (listed-are (cs ++ ds)) at off)
+  -- a month that was listed and is not any more has left
+  has-left : (cs ds : List Call) (m : ℕ) → isListed (listedIn (table cs)) m ≡ true → isListed (listedIn (table (cs ++ ds))) m ≡ false → oneOf (book (cs ++ ds) .gone) m ≡ true
+  has-left cs ds m e off =
+      let h : known (book cs) m ≡ true = or-left (oneOf (book cs .gone) m) (rw (listed-are cs) at e) in
+      let l : isListed (book (cs ++ ds) .maturities) m ≡ false = rw (listed-are (cs ++ ds)) at off in
+      rw l at (after cs ds .stays m h)
 
   -- one more call
   next-table : (cs : List Call) (c : Call) → tableCall (table cs) c .table ≡ tableIn p (bookAfter (p .kind) (p .group) (book cs) c)
@@ -201,11 +198,14 @@ module _ (p : Product) (cal : Calendar) (date : ℕ) (o : Opened p cal date) whe
     one-month = λ m m′ n e d. after cs ds .inv .numbered .numbers .inj m m′ (still-had cs ds m n e ∙ sym (later-had cs ds m′ n d)) (omega (arith, still-had cs ds m n e));
     one-number = λ m n n′ e d. omega (arith, still-had cs ds m n e, later-had cs ds m n′ d);
     numbered = λ m e. rw (listed-are cs) (has-number p (book cs) (at cs .nu′) (at cs .inv) m (rw (listed-are cs) at e));
-    for-good = never-back cs ds;
-    never-back = λ m es. not-again cs ds es m;
+    for-good = for-good cs ds;
+    never-back = λ m es e off. for-good (cs ++ ds) es m (has-left cs ds m e off);
+    in-gone = has-left cs ds;
+    gone-once = once-apart (book cs .gone) (at cs .inv .apart);
     off = taken-off cs;
     sum = rw (listed-are cs) (ap (λ (t : Table). t .given) (table-is cs) ∙ at cs .inv .total);
     stays-sound = ap sound (table-is cs) ∙ sound-in p (book cs) (at cs .nu′) (at cs .inv);
+    number-below-193 = λ m. rw (listed-are cs) (most-number p (book cs) (at cs .nu′) (at cs .inv) m);
     below-193 = omega (arith, ap (λ (t : Table). t .given) (table-is cs), most-given p (book cs) (at cs .nu′) (at cs .inv));
   }
 

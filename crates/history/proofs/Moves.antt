@@ -9,17 +9,19 @@ use native.Mathlib.Nat.{zero-add}
 use native.Mathlib.Omega.{arith}
 use lib.ListN.{length, length-map}
 use borrow.Author.Tests.{not-true}
-use Rattle.questions.specs.Search.{oneOf}
 use Rattle.questions.proofs.Bools.{clash, both, is-false, lt-or-ge}
 use Rattle.calendar.specs.declared.Calendar.{Calendar}
 use Rattle.listing.specs.declared.Maturity.{Maturity}
 use Rattle.listing.specs.Rules.{Rule, lastDayOf, front, countFrom, monthsBefore, freshKeys, maturity}
-use Rattle.listing.proofs.Walks.{bit, sift}
+use Rattle.listing.proofs.Walks.{bit}
 use Rattle.listing.proofs.Places.{before-none}
 use Rattle.listing.proofs.Lawful.{Lawful, inListing, front-most, fresh-is, key-of, keys-stay}
 use Rattle.places.specs.Numbering.{isListed, numberOf, missing, renumbered}
-use Rattle.history.proofs.Counting.{count-add, count-most, count-window, count-balance, count-less, length-sift}
-use Rattle.history.proofs.Numbers.{mat, but, next, months-of, number-of, listed-is, missing-is, one-sift, renumbered-is, Numbers, next-keeps, next-numbers}
+use Rattle.places.specs.Laws.{only, MissingLaw}
+use Rattle.places.proofs.Counting.{count-add, count-most, count-window, count-balance, count-less, length-sift}
+use Rattle.places.proofs.Rising.{listing-rises}
+use Rattle.places.proofs.Renumbering.{missing-law}
+use Rattle.history.proofs.Numbers.{but, next, number-of, listed-is, renumbered-is, Numbers, next-keeps, next-numbers}
 
 -- the fresh listing of a rule, not yet numbered
 abbrev pub fresh : Rule → Calendar → ℕ → List Maturity
@@ -45,12 +47,14 @@ pub record Numbered (r : Rule) (cal : Calendar) (date : ℕ) (ms : List Maturity
   pub enough : length ms ≤ given
   pub few : given ≤ length ms + monthsBefore r cal date
 
--- what holds once the listing of another calendar and date replaces it: it is numbered again, numbers once given stay, entered + old = left + new, and the months that left are before the front
+-- what holds once the listing of another calendar and date replaces it: it is numbered again, numbers once given stay, entered + old = left + new, its months are the fresh ones, and those that left lie from the old front on, before the new
 pub record Moved (r : Rule) (cal : Calendar) (date : ℕ) (ms : List Maturity) (given : ℕ) (nu : ℕ → ℕ) (cal′ : Calendar) (date′ : ℕ) : Type 0 where
   pub numbered : Numbered r cal′ date′ (renumbered ms given (fresh r cal′ date′)) (given + length (missing (fresh r cal′ date′) ms)) (numbersNext r cal date given nu cal′ date′)
   pub grows : (k : ℕ) → 1 ≤ nu k → numbersNext r cal date given nu cal′ date′ k ≡ nu k
   pub balance : length (missing (fresh r cal′ date′) ms) + length ms ≡ length (missing ms (fresh r cal′ date′)) + length (renumbered ms given (fresh r cal′ date′))
-  pub left : (k : ℕ) → oneOf (map (λ m. m .month) (missing ms (fresh r cal′ date′))) k ≡ true → k < front r cal′ date′
+  pub listed : (k : ℕ) → isListed (renumbered ms given (fresh r cal′ date′)) k ≡ isListed (fresh r cal′ date′) k
+  pub left : MissingLaw ms (fresh r cal′ date′) (missing ms (fresh r cal′ date′))
+  pub between : (k : ℕ) → isListed (missing ms (fresh r cal′ date′)) k ≡ true → (front r cal date ≤ k) × (k < front r cal′ date′)
 
 module _ (r : Rule) (w : Lawful r) where
   below : (cal : Calendar) (date k : ℕ) → now r cal date k ≡ true → k < r .beyond
@@ -128,26 +132,37 @@ module _ (r : Rule) (w : Lawful r) where
 
       renumbered-now : renumbered ms given (fresh r cal′ date′) ≡ map (maturity r cal′ numbers-then) (freshKeys r cal′ date′)
       renumbered-now =
-          rw (fresh-is r w cal′ date′)
-          (renumbered-is p p′ nu (lastDayOf r cal′) (λ k. 0) given ms present-is (λ k e. number-is k ∙ rw e) (r .beyond))
+          renumbered-is p p′ nu (lastDayOf r cal′) (λ k. 0) given ms present-is (λ k e. number-is k ∙ rw e) (freshKeys r cal′ date′)
+          (listing-rises r w cal′ date′ (λ k. 0)) (listed-now cal′ date′ (λ k. 0))
+
+      listed-then : (k : ℕ) → isListed (renumbered ms given (fresh r cal′ date′)) k ≡ isListed (fresh r cal′ date′) k
+      listed-then k = rw renumbered-now (listed-now cal′ date′ numbers-then k ∙ sym (listed-now cal′ date′ (λ k. 0) k))
+
+      entered-law : MissingLaw (fresh r cal′ date′) ms (missing (fresh r cal′ date′) ms)
+      entered-law = missing-law ms (fresh r cal′ date′) (listing-rises r w cal′ date′ (λ k. 0))
 
       entered-is : length (missing (fresh r cal′ date′) ms) ≡ countFrom (but p′ p) (r .beyond) 0
       entered-is =
-          rw (fresh-is r w cal′ date′, missing-is (lastDayOf r cal′) (λ k. 0) p′ p ms present-is (r .beyond) 0)
-          (length-map (sift (but p′ p) (r .beyond) 0) (mat (lastDayOf r cal′) (λ k. 0)) ∙ length-sift (but p′ p) (r .beyond) 0)
+          entered-law .count (r .beyond) (λ k e. below cal′ date′ k (sym (listed-now cal′ date′ (λ k. 0) k) ∙ e))
+          ∙ ap (λ (q : ℕ → Bool). countFrom q (r .beyond) 0) (fun-ext each)
+        where
+          each : (k : ℕ) → only (fresh r cal′ date′) ms k ≡ but p′ p k
+          each k = rw (listed-now cal′ date′ (λ k. 0) k, present-is k)
 
-      left-is : missing ms (fresh r cal′ date′) ≡ map (mat (lastDayOf r cal) nu) (sift (but p p′) (r .beyond) 0)
-      left-is =
-          rw (I .listing ∙ ap (map (maturity r cal nu)) (fresh-is r w cal date))
-          (missing-is (lastDayOf r cal) nu p p′ (fresh r cal′ date′) (listed-now cal′ date′ (λ k. 0)) (r .beyond) 0)
+      left-law : MissingLaw ms (fresh r cal′ date′) (missing ms (fresh r cal′ date′))
+      left-law = missing-law (fresh r cal′ date′) ms (rw (I .listing) (listing-rises r w cal date nu))
 
-      left-before : (k : ℕ) → oneOf (map (λ m. m .month) (missing ms (fresh r cal′ date′))) k ≡ true → k < front r cal′ date′
-      left-before k e =
-          let q : map (λ m. m .month) (missing ms (fresh r cal′ date′)) ≡ sift (but p p′) (r .beyond) 0 = rw left-is (months-of (lastDayOf r cal) nu (sift (but p p′) (r .beyond) 0)) in
-          leaves k (one-sift (but p p′) k (r .beyond) 0 (rw q at e))
+      left-is : (k : ℕ) → only ms (fresh r cal′ date′) k ≡ but p p′ k
+      left-is k = rw (present-is k, listed-now cal′ date′ (λ k. 0) k)
 
       left-count : length (missing ms (fresh r cal′ date′)) ≡ countFrom (but p p′) (r .beyond) 0
-      left-count = rw left-is (length-map (sift (but p p′) (r .beyond) 0) (mat (lastDayOf r cal) nu) ∙ length-sift (but p p′) (r .beyond) 0)
+      left-count =
+          left-law .count (r .beyond) (λ k e. below cal date k (sym (present-is k) ∙ e)) ∙ ap (λ (q : ℕ → Bool). countFrom q (r .beyond) 0) (fun-ext left-is)
+
+      left-between : (k : ℕ) → isListed (missing ms (fresh r cal′ date′)) k ≡ true → (front r cal date ≤ k) × (k < front r cal′ date′)
+      left-between k e =
+          let t : but p p′ k ≡ true = sym (left-is k) ∙ sym (left-law .holds k) ∙ e in
+          (key-of r w cal date k (both (p k) (not (p′ k)) t .0) .from, leaves k t)
 
       balance : length (missing (fresh r cal′ date′) ms) + length ms ≡ length (missing ms (fresh r cal′ date′)) + length (renumbered ms given (fresh r cal′ date′))
       balance =
@@ -209,7 +224,7 @@ module _ (r : Rule) (w : Lawful r) where
       }
 
       pub moves : Moved r cal date ms given nu cal′ date′
-      moves = record { numbered = moved-numbered; grows = moved-keeps; balance = balance; left = left-before }
+      moves = record { numbered = moved-numbered; grows = moved-keeps; balance = balance; listed = listed-then; left = left-law; between = left-between }
 
   -- the first listing
   module _ (cal : Calendar) (date : ℕ) (begins : r .first ≤ front r cal date) where
@@ -222,8 +237,8 @@ module _ (r : Rule) (w : Lawful r) where
     first-listing : renumbered [] 0 (fresh r cal date) ≡ map (maturity r cal first-numbers) (freshKeys r cal date)
     unfolding isListed
     first-listing =
-        rw (fresh-is r w cal date)
-        (renumbered-is (λ k. false) (now r cal date) (λ k. 0) (lastDayOf r cal) (λ k. 0) 0 [] (λ k. refl) (λ k e. clash e refl) (r .beyond))
+        renumbered-is (λ k. false) (now r cal date) (λ k. 0) (lastDayOf r cal) (λ k. 0) 0 [] (λ k. refl) (λ k e. clash e refl) (freshKeys r cal date)
+        (listing-rises r w cal date (λ k. 0)) (listed-now cal date (λ k. 0))
 
     first-count : 0 + countFrom (but (now r cal date) (λ k. false)) (r .beyond) 0 ≡ length (fresh r cal date)
     first-count =

@@ -1,11 +1,10 @@
 -- The listing numbers of a listing that replaces another: old keys keep theirs, new keys take the next.
 -- Assumes nothing.
-use mathlib.Core.Path.{_≡_, refl, sym, ap, _∙_}
+use mathlib.Core.Path.{_≡_, refl, sym, ap, _∙_, fun-ext}
 use mathlib.Core.Bool.{Bool, true, false, not, _&&_, _||_, cond}
 use mathlib.Core.List.{List, [], _∷_, _++_, map}
 use mathlib.Core.Logic.{_⊎_, inl, inr}
-use Prim.Native.Nat.{ℕ, zero, suc, _+_, _-_, _≤_, _<_}
-use native.Mathlib.Nat.{add-zero}
+use Prim.Native.Nat.{ℕ, zero, suc, _+_, _≤_, _<_}
 use native.Mathlib.Omega.{arith}
 use lib.Dec.{eqb}
 use borrow.Author.Tests.{eqb-true, eqb-false, eq-eqb}
@@ -13,9 +12,11 @@ use Rattle.questions.specs.Search.{oneOf}
 use Rattle.questions.proofs.Bools.{clash, both, or-left, or-right, or-either, same-test}
 use Rattle.listing.specs.declared.Maturity.{Maturity}
 use Rattle.listing.proofs.Walks.{bit, put, sift}
-use Rattle.places.specs.Numbering.{isListed, numberOf, missing, renumbered}
+use Rattle.places.specs.Numbering.{isListed, numberOf, renumbered}
+use Rattle.places.specs.Laws.{Rising, only}
 use Rattle.listing.specs.Rules.{countFrom}
-use Rattle.history.proofs.Counting.{count-end, count-zero, count-before}
+use Rattle.places.proofs.Counting.{count-end, count-before}
+use Rattle.places.proofs.Renumbering.{with-numbers, number-with, with-same, number-in, renumbered-with}
 
 -- a maturity by its key, with days and numbers
 abbrev pub mat : (ℕ → ℕ) → (ℕ → ℕ) → ℕ → Maturity
@@ -26,7 +27,7 @@ abbrev pub but : (ℕ → Bool) → (ℕ → Bool) → ℕ → Bool
 but q p k = q k && not (p k)
 
 -- a key is among those that pass where it passes
-pub one-sift : (p : ℕ → Bool) (x f a : ℕ) → oneOf (sift p f a) x ≡ true → p x ≡ true
+one-sift : (p : ℕ → Bool) (x f a : ℕ) → oneOf (sift p f a) x ≡ true → p x ≡ true
 unfolding oneOf
 one-sift p x zero a t = clash t refl
 one-sift p x (suc f) a t = go (p a) refl t (one-sift p x f (suc a))
@@ -55,84 +56,66 @@ eqb-either : (x y : ℕ) → eqb x y ≡ eqb y x
 eqb-either x y = same-test (eqb x y) (eqb y x) (λ e. eq-eqb y x (sym (eqb-true x y e))) (λ e. eq-eqb x y (sym (eqb-true y x e)))
 
 -- two lists after one another
-pub one-append : (ks js : List ℕ) (x : ℕ) → oneOf (ks ++ js) x ≡ true → (oneOf ks x ≡ true) ⊎ (oneOf js x ≡ true)
+pub one-append : (ks js : List ℕ) (x : ℕ) → oneOf (ks ++ js) x ≡ (oneOf ks x || oneOf js x)
 unfolding oneOf
-one-append [] js x t = inr t
-one-append (k ∷ ks) js x t = go (eqb x k) t (one-append ks js x)
+one-append [] js x = refl
+one-append (k ∷ ks) js x = rw (one-append ks js x) (go (eqb x k))
   where
-    go : (b : Bool) → (b || oneOf (ks ++ js) x) ≡ true → (oneOf (ks ++ js) x ≡ true → (oneOf ks x ≡ true) ⊎ (oneOf js x ≡ true)) → ((b || oneOf ks x) ≡ true) ⊎ (oneOf js x ≡ true)
-    go true t ih = inl refl
-    go false t ih = ih t
+    go : (b : Bool) → (b || (oneOf ks x || oneOf js x)) ≡ ((b || oneOf ks x) || oneOf js x)
+    go true = refl
+    go false = refl
+
+-- a month is listed where it is one of the months
+pub listed-one : (ms : List Maturity) (x : ℕ) → isListed ms x ≡ oneOf (map (λ m. m .month) ms) x
+unfolding isListed oneOf
+listed-one [] x = refl
+listed-one (m ∷ ms) x = rw (eqb-either (m .month) x, listed-one ms x)
 
 module _ (dy nu : ℕ → ℕ) where
-  pub months-of : (ks : List ℕ) → map (λ m. m .month) (map (mat dy nu) ks) ≡ ks
+  months-of : (ks : List ℕ) → map (λ m. m .month) (map (mat dy nu) ks) ≡ ks
   months-of [] = refl
   months-of (k ∷ ks) = ap (_∷_ k) (months-of ks)
 
+  -- other numbers
+  numbered-with : (mu : ℕ → ℕ) (ks : List ℕ) → with-numbers mu (map (mat dy nu) ks) ≡ map (mat dy mu) ks
+  numbered-with mu [] = refl
+  numbered-with mu (k ∷ ks) = ap (_∷_ (mat dy mu k)) (numbered-with mu ks)
+
   -- the number of a listed key
   pub number-of : (ks : List ℕ) (x : ℕ) → numberOf (map (mat dy nu) ks) x ≡ cond (isListed (map (mat dy nu) ks) x) (nu x) 0
-  unfolding numberOf isListed
-  number-of [] x = refl
-  number-of (k ∷ ks) x = go (eqb k x) refl (number-of ks x)
-    where
-      go : (b : Bool) → eqb k x ≡ b → numberOf (map (mat dy nu) ks) x ≡ cond (isListed (map (mat dy nu) ks) x) (nu x) 0
-          → cond b (nu k) (numberOf (map (mat dy nu) ks) x) ≡ cond (b || isListed (map (mat dy nu) ks) x) (nu x) 0
-      go true e ih = ap nu (eqb-true k x e)
-      go false e ih = ih
-
-  listed-one : (ks : List ℕ) (x : ℕ) → isListed (map (mat dy nu) ks) x ≡ oneOf ks x
-  unfolding isListed oneOf
-  listed-one [] x = refl
-  listed-one (k ∷ ks) x = rw (eqb-either k x, listed-one ks x)
+  number-of ks x = ap (λ (ms : List Maturity). numberOf ms x) (sym (numbered-with nu ks)) ∙ number-with nu (map (mat dy nu) ks) x
 
   -- a key is listed where it passes
   pub listed-is : (p : ℕ → Bool) (x n : ℕ) → (p x ≡ true → x < n) → isListed (map (mat dy nu) (sift p n 0)) x ≡ p x
   listed-is p x n h =
-      listed-one (sift p n 0) x ∙ same-test (oneOf (sift p n 0) x) (p x) (one-sift p x n 0) (λ t. sift-one p x n 0 t (omega arith) (omega (arith, h t)))
-
-  -- the maturities whose keys another list has not
-  pub missing-is : (p q : ℕ → Bool) (others : List Maturity) → ((k : ℕ) → isListed others k ≡ q k) → (f a : ℕ)
-      → missing (map (mat dy nu) (sift p f a)) others ≡ map (mat dy nu) (sift (but p q) f a)
-  unfolding missing
-  missing-is p q others h zero a = refl
-  missing-is p q others h (suc f) a = go (p a) (q a) (h a) (missing-is p q others h f (suc a))
-    where
-      go : (b d : Bool) → isListed others a ≡ d → missing (map (mat dy nu) (sift p f (suc a))) others ≡ map (mat dy nu) (sift (but p q) f (suc a))
-          → missing (map (mat dy nu) (put b a (sift p f (suc a)))) others ≡ map (mat dy nu) (put (b && not d) a (sift (but p q) f (suc a)))
-      go true true e ih = rw e ih
-      go true false e ih = rw e (ap (_∷_ (mat dy nu a)) ih)
-      go false d e ih = ih
+      listed-one (map (mat dy nu) (sift p n 0)) x ∙ ap (λ (ks : List ℕ). oneOf ks x) (months-of (sift p n 0))
+      ∙ same-test (oneOf (sift p n 0) x) (p x) (one-sift p x n 0) (λ t. sift-one p x n 0 t (omega arith) (omega (arith, h t)))
 
 -- the number of a key after a listing: new keys take the next numbers after those given, by rising key
 abbrev pub next : (ℕ → Bool) → ℕ → (ℕ → ℕ) → ℕ → ℕ
 next new given nu k = cond (new k) (suc (given + countFrom new k 0)) (nu k)
 
--- so the definition numbers a listing
+-- so a listing is numbered
 module _ (p p′ : ℕ → Bool) (nu dy blank : ℕ → ℕ) (given : ℕ) (old : List Maturity) (listed : (k : ℕ) → isListed old k ≡ p k)
-    (kept : (k : ℕ) → p k ≡ true → numberOf old k ≡ nu k) where
-  renumbered-from : (f a : ℕ) → renumbered old (given + countFrom (but p′ p) a 0) (map (mat dy blank) (sift p′ f a)) ≡ map (mat dy (next (but p′ p) given nu)) (sift p′ f a)
-  unfolding renumbered
-  renumbered-from zero a = refl
-  renumbered-from (suc f) a = go (p′ a) refl (p a) refl (renumbered-from f (suc a))
+    (kept : (k : ℕ) → p k ≡ true → numberOf old k ≡ nu k) (ks : List ℕ) (rises : Rising (map (mat dy blank) ks))
+    (fresh : (k : ℕ) → isListed (map (mat dy blank) ks) k ≡ p′ k) where
+  number-next : (k : ℕ) → p′ k ≡ true → number-in old given (map (mat dy blank) ks) k ≡ next (but p′ p) given nu k
+  number-next k t = rw (listed k, fun-ext each, t) (go (p k) refl)
     where
-      go : (b : Bool) → p′ a ≡ b → (d : Bool) → p a ≡ d
-          → renumbered old (given + countFrom (but p′ p) (suc a) 0) (map (mat dy blank) (sift p′ f (suc a))) ≡ map (mat dy (next (but p′ p) given nu)) (sift p′ f (suc a))
-          → renumbered old (given + countFrom (but p′ p) a 0) (map (mat dy blank) (put b a (sift p′ f (suc a)))) ≡ map (mat dy (next (but p′ p) given nu)) (put b a (sift p′ f (suc a)))
-      go true e true d ih =
-          let c : countFrom (but p′ p) (suc a) 0 ≡ countFrom (but p′ p) a 0 = count-end (but p′ p) a ∙ rw (e, d) (add-zero (countFrom (but p′ p) a 0)) in
-          rw (listed a, d, e, kept a d) (ap (_∷_ (mat dy nu a)) (rw c at ih))
-      go true e false d ih =
-          let t : but p′ p a ≡ true = rw (e, d) in
-          let c : given + countFrom (but p′ p) (suc a) 0 ≡ suc (given + countFrom (but p′ p) a 0) = omega (arith, count-end (but p′ p) a, ap bit t) in
-          rw (listed a, d, e) (ap (_∷_ (mat dy (λ k. suc (given + countFrom (but p′ p) a 0)) a)) (rw c at ih))
-      go false e d q ih =
-          let c : countFrom (but p′ p) (suc a) 0 ≡ countFrom (but p′ p) a 0 = count-end (but p′ p) a ∙ rw e (add-zero (countFrom (but p′ p) a 0)) in
-          rw c at ih
+      each : (k : ℕ) → only (map (mat dy blank) ks) old k ≡ but p′ p k
+      each k = rw (fresh k, listed k)
 
-  pub renumbered-is : (n : ℕ) → renumbered old given (map (mat dy blank) (sift p′ n 0)) ≡ map (mat dy (next (but p′ p) given nu)) (sift p′ n 0)
-  renumbered-is n =
-      let z : given + countFrom (but p′ p) 0 0 ≡ given = omega (arith, count-zero (but p′ p) 0 0 (λ k x y. absurd (omega arith))) in
-      rw z at (renumbered-from n 0)
+      go : (b : Bool) → p k ≡ b → cond b (numberOf old k) (given + countFrom (but p′ p) (suc k) 0) ≡ cond (not b) (suc (given + countFrom (but p′ p) k 0)) (nu k)
+      go true e = kept k e
+      go false e =
+          let n : but p′ p k ≡ true = rw (t, e) in
+          omega (arith, count-end (but p′ p) k, ap bit n)
+
+  pub renumbered-is : renumbered old given (map (mat dy blank) ks) ≡ map (mat dy (next (but p′ p) given nu)) ks
+  renumbered-is =
+      renumbered-with old given (map (mat dy blank) ks) rises
+      ∙ with-same (number-in old given (map (mat dy blank) ks)) (next (but p′ p) given nu) (map (mat dy blank) ks) (λ k e. number-next k (sym (fresh k) ∙ e))
+      ∙ numbered-with dy blank (next (but p′ p) given nu) ks
 
 -- nu gives the number that a key ever had, or 0: those of p have one, none passes the count given, and no two keys have the same
 pub record Numbers (p : ℕ → Bool) (given : ℕ) (nu : ℕ → ℕ) : Type 0 where

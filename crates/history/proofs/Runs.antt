@@ -1,7 +1,7 @@
 -- What holds of the book at every moment of a history, and of two moments of it.
 -- Assumes nothing.
 use mathlib.Core.Path.{_≡_, refl, _∙_}
-use mathlib.Core.Bool.{Bool, true, false, cond}
+use mathlib.Core.Bool.{Bool, true, false, not, _&&_, _||_, cond}
 use mathlib.Core.List.{List, [], _∷_, _++_, map}
 use mathlib.Core.Logic.{_⊎_, inl, inr}
 use Prim.Native.Nat.{ℕ, _+_, _≤_, _<_}
@@ -11,16 +11,18 @@ use lib.ListN.{length, length-append, length-map}
 use borrow.Author.Tests.{eqb-true}
 use Rattle.questions.specs.Questions.{firstNo}
 use Rattle.questions.specs.Search.{oneOf}
-use Rattle.questions.proofs.Bools.{clash}
+use Rattle.questions.proofs.Bools.{clash, or-either}
 use Rattle.calendar.specs.declared.Calendar.{Calendar}
 use Rattle.product.specs.declared.Product.{Product}
+use Rattle.listing.specs.declared.Maturity.{Maturity}
 use Rattle.listing.specs.Rules.{Rule, front}
 use Rattle.listing.specs.Months.{ruleOf}
 use Rattle.listing.proofs.Lawful.{Lawful}
 use Rattle.listing.proofs.Monthly.{monthly-lawful, monthly-begins}
-use Rattle.places.specs.Numbering.{missing, renumbered}
+use Rattle.places.specs.Numbering.{isListed, missing}
 use Rattle.history.specs.Book.{Call, Book, calendarAfter, dateAfter, bookOpened, bookAsks, bookMoved, bookAfter, bookRun}
-use Rattle.history.proofs.Numbers.{one-append}
+use Rattle.history.proofs.Numbers.{one-append, listed-one}
+use Rattle.history.proofs.Gone.{once, once-append, once-months}
 use Rattle.history.proofs.Moves.{fresh, Numbered, numbersNext, numbersFirst, Moved, moves, first-length, first-numbered}
 use Rattle.history.proofs.Soundness.{Opened}
 use Rattle.history.proofs.Calls.{rule-stays, after-opened, forward}
@@ -33,20 +35,26 @@ ruleIn p b = ruleOf (b .calendar) (p .kind) (p .group)
 abbrev pub frontIn : Product → Book → ℕ
 frontIn p b = front (ruleIn p b) (b .calendar) (b .date)
 
+-- a month that was listed up to now: it is listed, or it left
+abbrev pub known : Book → ℕ → Bool
+known b k = isListed (b .maturities) k || oneOf (b .gone) k
+
 -- what holds of the book at every moment, with nu k the number that the key k ever had, or 0
 pub record Inv (p : Product) (b : Book) (nu : ℕ → ℕ) : Type 0 where
   pub opened : Opened p (b .calendar) (b .date)
   pub numbered : Numbered (ruleIn p b) (b .calendar) (b .date) (b .maturities) (b .given) nu
   pub total : b .given ≡ length (b .maturities) + length (b .gone)
   pub past : (k : ℕ) → oneOf (b .gone) k ≡ true → k < frontIn p b
+  pub apart : once (b .gone) ≡ true
 
--- a later moment: the rule is the same, numbers once given stay, and the front has not gone back
+-- a later moment: the rule is the same, numbers once given stay, the front has not gone back, and a month that was listed is listed or left
 pub record Later (p : Product) (b : Book) (nu : ℕ → ℕ) (b′ : Book) : Type 0 where
   pub nu′ : ℕ → ℕ
   pub inv : Inv p b′ nu′
   pub rule : ruleIn p b′ ≡ ruleIn p b
   pub grows : (k : ℕ) → 1 ≤ nu k → nu′ k ≡ nu k
   pub on : frontIn p b ≤ frontIn p b′
+  pub stays : (k : ℕ) → known b k ≡ true → known b′ k ≡ true
 
 module _ (p : Product) where
   abbrev lawful : (b : Book) → Lawful (ruleIn p b)
@@ -59,41 +67,76 @@ module _ (p : Product) where
       let r = ruleOf cal (p .kind) (p .group) in
       let w = monthly-lawful (cal .cover) (p .kind) (p .group) in
       let s = monthly-begins (cal .cover) (p .kind) (p .group) cal date (o .covered) in
-      record { opened = o; numbered = first-numbered r w cal date s; total = omega (arith, first-length r w cal date s); past = λ k e. clash e refl }
+      record { opened = o; numbered = first-numbered r w cal date s; total = omega (arith, first-length r w cal date s); past = λ k e. clash e refl; apart = refl }
 
   module _ (b : Book) (nu : ℕ → ℕ) (I : Inv p b nu) where
     -- a listing of a later front replaces the book's
-    book-moved : (cal : Calendar) (date : ℕ) → Opened p cal date → ruleOf cal (p .kind) (p .group) ≡ ruleIn p b → frontIn p b ≤ front (ruleIn p b) cal date
-        → Later p b nu (bookMoved (p .kind) (p .group) b cal date)
-    unfolding bookMoved
-    book-moved cal date o same later = record {
-      nu′ = numbersNext (ruleIn p b) (b .calendar) (b .date) (b .given) nu cal date;
-      inv = record { opened = o; numbered = rw same (m .numbered); total = rw same total; past = rw same past };
-      rule = same;
-      grows = m .grows;
-      on = rw same later;
-    }
-      where
-        m : Moved (ruleIn p b) (b .calendar) (b .date) (b .maturities) (b .given) nu cal date
-        m = moves (ruleIn p b) (lawful b) (b .calendar) (b .date) (b .maturities) (b .given) nu (I .numbered) cal date later
+    module _ (cal : Calendar) (date : ℕ) (o : Opened p cal date) (same : ruleOf cal (p .kind) (p .group) ≡ ruleIn p b) (later : frontIn p b ≤ front (ruleIn p b) cal date) where
+      abbrev moved-book : Book
+      moved-book = bookMoved (p .kind) (p .group) b cal date
 
-        left : List ℕ
-        left = map (λ m. m .month) (missing (b .maturities) (fresh (ruleIn p b) cal date))
+      abbrev left : List Maturity
+      left = missing (b .maturities) (fresh (ruleIn p b) cal date)
 
-        total : b .given + length (missing (fresh (ruleIn p b) cal date) (b .maturities))
-            ≡ length (renumbered (b .maturities) (b .given) (fresh (ruleIn p b) cal date)) + length (b .gone ++ left)
-        total = omega (arith, I .total, m .balance, length-append (b .gone) left, length-map (missing (b .maturities) (fresh (ruleIn p b) cal date)) (λ m. m .month))
+      moved-on : Moved (ruleIn p b) (b .calendar) (b .date) (b .maturities) (b .given) nu cal date
+      moved-on = moves (ruleIn p b) (lawful b) (b .calendar) (b .date) (b .maturities) (b .given) nu (I .numbered) cal date later
 
-        past : (k : ℕ) → oneOf (b .gone ++ left) k ≡ true → k < front (ruleIn p b) cal date
-        past k e = side (one-append (b .gone) left k e)
-          where
-            side : (oneOf (b .gone) k ≡ true) ⊎ (oneOf left k ≡ true) → k < front (ruleIn p b) cal date
-            side (inl t) = omega (arith, I .past k t)
-            side (inr t) = m .left k t
+      -- 'Numbers given = months listed + months that left'
+      moved-total : moved-book .given ≡ length (moved-book .maturities) + length (moved-book .gone)
+      unfolding bookMoved
+      moved-total = rw same (omega (arith, I .total, moved-on .balance, length-append (b .gone) (map (λ m. m .month) left), length-map left (λ m. m .month)))
+
+      -- every month that was listed is listed or has left
+      moved-stays : (k : ℕ) → known b k ≡ true → known moved-book k ≡ true
+      unfolding bookMoved
+      moved-stays k e =
+          rw (
+            same,
+            moved-on .listed k,
+            one-append (b .gone) (map (λ m. m .month) left) k,
+            ← listed-one left k,
+            moved-on .left .holds k,
+          )
+          (go (isListed (b .maturities) k) (oneOf (b .gone) k) (isListed (fresh (ruleIn p b) cal date) k) e)
+        where
+          go : (a g f : Bool) → (a || g) ≡ true → (f || (g || (a && not f))) ≡ true
+          go a g true e = refl
+          go a true false e = refl
+          go true false false e = refl
+          go false false false e = e
+
+      -- a month that left
+      left-one : (k : ℕ) → oneOf (map (λ m. m .month) left) k ≡ true → (frontIn p b ≤ k) × (k < front (ruleIn p b) cal date)
+      left-one k e = moved-on .between k (listed-one left k ∙ e)
+
+      moved-past : (k : ℕ) → oneOf (moved-book .gone) k ≡ true → k < frontIn p moved-book
+      unfolding bookMoved
+      moved-past k e =
+          rw same (side (or-either (oneOf (b .gone) k) (oneOf (map (λ m. m .month) left) k) (rw (same, one-append (b .gone) (map (λ m. m .month) left) k) at e)))
+        where
+          side : (oneOf (b .gone) k ≡ true) ⊎ (oneOf (map (λ m. m .month) left) k ≡ true) → k < front (ruleIn p b) cal date
+          side (inl t) = omega (arith, I .past k t)
+          side (inr t) = left-one k t .1
+
+      moved-apart : once (moved-book .gone) ≡ true
+      unfolding bookMoved
+      moved-apart =
+          rw same (once-append (b .gone) (map (λ m. m .month) left) (I .apart) (once-months left (moved-on .left .rising)) (λ k e t. omega (arith, I .past k e, left-one k t .0)))
+
+      book-moved : Later p b nu moved-book
+      unfolding bookMoved
+      book-moved = record {
+        nu′ = numbersNext (ruleIn p b) (b .calendar) (b .date) (b .given) nu cal date;
+        inv = record { opened = o; numbered = rw same (moved-on .numbered); total = moved-total; past = moved-past; apart = moved-apart };
+        rule = same;
+        grows = moved-on .grows;
+        on = rw same later;
+        stays = moved-stays;
+      }
 
     -- nothing has changed
     still : Later p b nu b
-    still = record { nu′ = nu; inv = I; rule = refl; grows = λ k h. refl; on = omega arith }
+    still = record { nu′ = nu; inv = I; rule = refl; grows = λ k h. refl; on = omega arith; stays = λ k h. h }
 
     -- one call
     pub turn-later : (c : Call) → Later p b nu (bookAfter (p .kind) (p .group) b c)
@@ -116,6 +159,7 @@ module _ (p : Product) where
     rule = t .rule ∙ s .rule;
     grows = λ k h. t .grows k (omega (arith, s .grows k h)) ∙ s .grows k h;
     on = omega (arith, s .on, t .on);
+    stays = λ k h. t .stays k (s .stays k h);
   }
 
   -- a list of calls

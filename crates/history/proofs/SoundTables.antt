@@ -13,7 +13,7 @@ use lib.Seq.{getD-take, length-take-le, ext-getD}
 use borrow.Author.Tests.{eqb-true, eqb-false, eq-eqb, ne-eqb, leb-true, not-true}
 use Rattle.questions.specs.Questions.{firstNo}
 use Rattle.questions.specs.Search.{every}
-use Rattle.questions.proofs.Bools.{clash, both, lt-or-ge}
+use Rattle.questions.proofs.Bools.{both, lt-or-ge}
 use Rattle.questions.proofs.Search.{every-at}
 use Rattle.listing.specs.declared.Maturity.{Maturity}
 use Rattle.listing.specs.Rules.{Rule, lastDayOf, monthsBefore, freshKeys, maturity, unused, places15}
@@ -23,32 +23,16 @@ use Rattle.listing.proofs.Fresh.{places-most}
 use Rattle.listing.proofs.Monthly.{monthly-lawful, monthly-places, monthly-begins, monthly-most}
 use Rattle.table.specs.declared.Table.{Table}
 use Rattle.places.specs.Numbering.{isListed, numberOf, sameMaturity, numbersRight}
+use Rattle.places.proofs.Rising.{place-of, at-map}
+use Rattle.places.proofs.Unique.{same-maturity}
 use Rattle.table.specs.Table.{listedIn, listsFresh, sound, moved, refusedWith, answered, rollCall, closeCall}
 use Rattle.history.specs.Book.{Call, roll, close, Book, calendarAfter, dateAfter, bookAsks}
 use Rattle.history.specs.History.{tableCall}
 use Rattle.history.proofs.Numbers.{Numbers}
 use Rattle.history.proofs.Moves.{fresh, now, Numbered, listed-now, given-most, numbersNext, moves}
-use Rattle.history.proofs.Soundness.{Opened, at-map, at-used, is-sound}
+use Rattle.history.proofs.Soundness.{Opened, at-used, is-sound}
 use Rattle.history.proofs.Calls.{rule-stays, after-opened, forward}
 use Rattle.history.proofs.Tables.{table-answer}
-
--- the place of a month in a list
-record Place (ms : List Maturity) (k : ℕ) : Type 0 where
-  place : ℕ
-  below : place < length ms
-  month : getD ms place unused .month ≡ k
-
-next-place : (m : Maturity) (ms : List Maturity) (k : ℕ) → Place ms k → Place (m ∷ ms) k
-next-place m ms k s = record { place = suc (s .place); below = omega (arith, s .below); month = s .month }
-
-place-of : (ms : List Maturity) (k : ℕ) → isListed ms k ≡ true → Place ms k
-unfolding isListed
-place-of [] k t = clash t refl
-place-of (m ∷ ms) k t = go (eqb (m .month) k) refl t (place-of ms k)
-  where
-    go : (b : Bool) → eqb (m .month) k ≡ b → (b || isListed ms k) ≡ true → (isListed ms k ≡ true → Place ms k) → Place (m ∷ ms) k
-    go true e t ih = record { place = 0; below = omega arith; month = eqb-true (m .month) k e }
-    go false e t ih = next-place m ms k (ih t)
 
 -- a month with a number is listed
 number-listed : (ms : List Maturity) (k : ℕ) → 1 ≤ numberOf ms k → isListed ms k ≡ true
@@ -69,9 +53,6 @@ number-place (m ∷ ms) zero h apart = rw (eq-eqb (m .month) (m .month) refl)
 number-place (m ∷ ms) (suc i) h apart =
     rw (ne-eqb (m .month) (getD ms i unused .month) (apart 0 (omega arith)))
     (number-place ms i (omega arith) (λ j l. apart (suc j) (omega arith)))
-
-same-maturity : (m : Maturity) (k d n : ℕ) → m .month ≡ k → m .day ≡ d → m .number ≡ n → m ≡ record { month = k; day = d; number = n }
-same-maturity m k d n a b c = rw (← a, ← b, ← c)
 
 -- what question 10 asks
 record Sound (t : Table) : Type 0 where
@@ -194,7 +175,7 @@ module _ (t : Table) (s : Sound t) where
       each : (i : ℕ) → i < n → getD (listedIn t) i unused ≡ getD (map (maturity r (t .calendar) (numberOf (listedIn t))) (freshKeys r (t .calendar) (t .date))) i unused
       each i h =
           listed-at i h
-          ∙ same-maturity (in-place i) (key i) (lastDayOf r (t .calendar) (key i)) (numberOf (listedIn t) (key i)) (same-in i h .0) (same-in i h .1) (sym (number-key i h))
+          ∙ same-maturity (in-place i) (maturity r (t .calendar) (numberOf (listedIn t)) (key i)) (same-in i h .0) (same-in i h .1) (sym (number-key i h))
           ∙ sym (at-map (maturity r (t .calendar) (numberOf (listedIn t))) unused (freshKeys r (t .calendar) (t .date)) i (omega (arith, as-many)))
 
   -- the place of a listed month has its number

@@ -27,6 +27,7 @@ use Rattle.table.specs.declared.Table.{Table}
 use Rattle.places.specs.Numbering.{sameMaturity, numbersRight}
 use Rattle.table.specs.Table.{listedIn, listsFresh, sound}
 use Rattle.history.specs.History.{opens}
+use Rattle.places.proofs.Rising.{at-map}
 use Rattle.history.proofs.Numbers.{mat}
 use Rattle.history.proofs.Moves.{fresh, now, Numbered}
 
@@ -50,11 +51,6 @@ opened p cal date e =
     record { product = a; valid = b; cleaned = c; weeks = d; covered = f; full = g }
 
 -- a list by its places
-pub at-map : {A : Type 0} (f : ℕ → A) (d : A) (ks : List ℕ) (i : ℕ) → i < length ks → getD (map f ks) i d ≡ f (getD ks i 0)
-at-map f d [] i h = absurd (omega arith)
-at-map f d (k ∷ ks) zero h = refl
-at-map f d (k ∷ ks) (suc i) h = at-map f d ks i (omega arith)
-
 at-same : {A : Type 0} (d : A) (n i : ℕ) → getD (replicate n d) i d ≡ d
 at-same d zero i = refl
 at-same d (suc n) zero = refl

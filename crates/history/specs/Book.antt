@@ -1,4 +1,4 @@
--- The book of demand 3 (01, The table, 'The book of demand 3 ..'). Nothing of it reads a table.
+-- The book of demand 3 (01, The table, 'The book of demand 3 ..'). Nothing of it reads a table. What `renumbered` and `missing` give, which the table uses too, is said without their recursion in `places` Laws.
 -- Assumes nothing.
 use Prim.Native.Nat.{ℕ, _+_}
 use mathlib.Core.Bool.{cond}
@@ -13,11 +13,11 @@ use Rattle.listing.specs.declared.Maturity.{Maturity}
 use Rattle.places.specs.Numbering.{missing, renumbered, numberedFresh}
 use Rattle.listing.specs.Months.{freshOf, allInCover}
 
--- a call of the list, with its argument
+-- 'The list of rolls and closes': a call with its argument, a date or a day
 pub data Call : Type 0 where
   roll close : ℕ → Call
 
--- a call's acceptance, 0, or refusal number, and its two counts
+-- 'every call's acceptance or refusal number and its two counts'; acceptance is 0
 pub record Reply : Type 0 where
   pub refusal : ℕ
   pub entered : ℕ
@@ -94,12 +94,12 @@ bookReply kind group b c =
     (bookCounts kind group b (calendarAfter (b .calendar) c) (dateAfter (b .date) c))
     (record { refusal = firstNo (bookAsks kind group b c); entered = 0; left = 0 })
 
--- the book after a list of calls
+-- the book after a list of calls: 'is fed .. then each call's arguments'
 unfoldable pub bookRun : Kind → List ℕ → Book → List Call → Book
 bookRun kind group b [] = b
 bookRun kind group b (c ∷ cs) = bookRun kind group (bookAfter kind group b c) cs
 
--- its answers to them
+-- the book's answers to a list of calls, 'every call's acceptance or refusal number and its two counts'
 unfoldable pub bookReplies : Kind → List ℕ → Book → List Call → List Reply
 bookReplies kind group b [] = []
 bookReplies kind group b (c ∷ cs) = bookReply kind group b c ∷ bookReplies kind group (bookAfter kind group b c) cs

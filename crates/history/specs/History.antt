@@ -1,42 +1,41 @@
--- Demand 3: one claim about every list of rolls and closes on a table that an accepted open gave back.
+-- Demand 3: one claim about every list of rolls and closes on a table that an accepted open gave back (01, The table, 'The list of rolls and closes ..'; the other sentences are the demand's own).
 -- Assumes nothing.
 use Prim.Native.Nat.{ℕ, suc, _+_, _≤_, _<_}
 use mathlib.Core.Path.{_≡_}
 use mathlib.Core.Bool.{Bool, true, false, cond, _&&_}
-use mathlib.Core.List.{List, [], _∷_, _++_, map}
+use mathlib.Core.List.{List, [], _∷_, _++_}
 use mathlib.Core.Logic.{_↔_}
 use lib.Dec.{eqb}
-use lib.ListN.{length}
+use lib.ListN.{length, getD}
 use Rattle.questions.specs.Search.{oneOf}
 use Rattle.calendar.specs.declared.Calendar.{Calendar}
 use Rattle.calendar.specs.Trading.{validCover, inCover, clean, everyWeek}
 use Rattle.product.specs.declared.Product.{Product}
 use Rattle.product.specs.Fields.{productRight}
-use Rattle.listing.specs.declared.Maturity.{Maturity}
 use Rattle.listing.specs.Rules.{places15}
 use Rattle.expiry.specs.LastDays.{lastTradingDay}
 use Rattle.table.specs.declared.Table.{Table}
 use Rattle.table.specs.declared.Outcome.{Outcome}
-use Rattle.places.specs.Numbering.{isListed, numberOf, withNumber}
+use Rattle.places.specs.Numbering.{isListed, numberOf, unnumbered}
 use Rattle.listing.specs.Months.{freshOf, allInCover}
 use Rattle.table.specs.Table.{listedIn, sound, rollCall, closeCall, openedTable}
 use Rattle.history.specs.Book.{Call, roll, close, Reply, Book, calendarAfter, dateAfter, bookOpened, bookRun, bookReplies}
 
--- a call on a table
+-- 'the table .. rolls and closes a day': a call on a table
 abbrev pub tableCall : Table → Call → Outcome
 tableCall t (roll date) = rollCall t date
 tableCall t (close day) = closeCall t day
 
--- the table after a list of calls, 'each call getting the table the last one gave back'
+-- the table after a list of calls: 'nothing else changes the table between its calls'
 unfoldable pub tableRun : Table → List Call → Table
 tableRun t [] = t
 tableRun t (c ∷ cs) = tableRun (tableCall t c .table) cs
 
--- a call's acceptance or refusal number and its two counts
+-- a call's 'acceptance or refusal number and its two counts'
 abbrev pub replyOf : Outcome → Reply
 replyOf o = record { refusal = o .refusal; entered = o .entered; left = o .left }
 
--- every call's answer
+-- 'every call's acceptance or refusal number and its two counts'
 unfoldable pub tableReplies : Table → List Call → List Reply
 tableReplies t [] = []
 tableReplies t (c ∷ cs) = replyOf (tableCall t c) ∷ tableReplies (tableCall t c .table) cs
@@ -53,7 +52,7 @@ dateWith date [] rs = date
 dateWith date (c ∷ cs) [] = date
 dateWith date (c ∷ cs) (r ∷ rs) = dateWith (cond (eqb (r .refusal) 0) (dateAfter date c) date) cs rs
 
--- what the questions of an accepted open leave: 5 to 8, 9, 11 and 16 are answered yes
+-- what an accepted open leaves: 7 holds of the product, the cover has '1 to 16 years from 2000 to 2099', and 5, 6, 11 and 16 are answered yes
 unfoldable pub opens : Product → Calendar → ℕ → Bool
 opens p cal date =
     productRight p
@@ -62,20 +61,16 @@ opens p cal date =
     && (everyWeek cal
     && (inCover (cal .cover) date && allInCover cal (p .kind) (p .group) date))))
 
--- the months and days, without the numbers
-abbrev pub unnumbered : List Maturity → List Maturity
-unnumbered ms = map (λ m. withNumber m 0) ms
-
 module _ (p : Product) (cal : Calendar) (date : ℕ) where
-  -- the table after some calls, from its opening on
+  -- the table after a list of calls that 'starts from the table that an accepted open gave back'
   abbrev pub after : List Call → Table
   after cs = tableRun (openedTable p cal date) cs
 
-  -- the book that is fed the same calls
+  -- the book after the same calls
   abbrev pub book : List Call → Book
   book cs = bookRun (p .kind) (p .group) (bookOpened (p .kind) (p .group) cal date) cs
 
-  -- every call's answer, and the book's
+  -- the table's answers to the calls, and the book's
   abbrev pub answers : List Call → List Reply
   answers cs = tableReplies (openedTable p cal date) cs
 
@@ -102,7 +97,7 @@ module _ (p : Product) (cal : Calendar) (date : ℕ) where
   abbrev pub next : List Call → Call → Table
   next cs c = tableCall (after cs) c .table
 
-  -- Demand 3 at the moment after the calls cs, at any later moment after cs ++ ds, and for one more call
+  -- 'Demand 3 is a single claim about the list': at the moment after the calls cs, at any later moment after cs ++ ds, and for one more call
   pub record Demand3 (cs ds : List Call) : Type 0 where
     -- 'After it, the table's calendar, date, maturities (month, day, number) and count given are the book's'
     pub book-calendar : after cs .calendar ≡ book cs .calendar
@@ -128,11 +123,18 @@ module _ (p : Product) (cal : Calendar) (date : ℕ) where
     pub for-good : (m : ℕ) → oneOf (book cs .gone) m ≡ true → listedThen (cs ++ ds) m ≡ false
     -- the same of the table alone: a month that was listed at some moment and is not at a later one is not listed again
     pub never-back : (m : ℕ) (es : List Call) → listedThen cs m ≡ true → listedThen (cs ++ ds) m ≡ false → listedThen ((cs ++ ds) ++ es) m ≡ false
+    -- 'A month only in the old one joins those that left': every month that was listed and is not any more is among them
+    pub in-gone : (m : ℕ) → listedThen cs m ≡ true → listedThen (cs ++ ds) m ≡ false → oneOf (book (cs ++ ds) .gone) m ≡ true
+    -- none is among them twice
+    pub gone-once : (i j : ℕ) → i < j → j < length (book cs .gone) → getD (book cs .gone) i 0 ≡ getD (book cs .gone) j 0 → ⊥
     -- 'A call took a listed month off exactly when its last trading day, as the calendar stands after the call, is before the date the table then has'
     pub off : (c : Call) (m : ℕ) → listedThen cs m ≡ true
         → (isListed (listedIn (next cs c)) m ≡ false) ↔ (lastTradingDay (next cs c .calendar) (p .group) m < next cs c .date)
     -- 'Numbers given = months listed + months that left'
     pub sum : after cs .given ≡ length (listedIn (after cs)) + length (book cs .gone)
-    -- the table is sound, and 'the listing number of a month never passes 192'
+    -- the table is sound
     pub stays-sound : sound (after cs) ≡ true
+    -- 'the listing number of a month never passes 192'
+    pub number-below-193 : (m : ℕ) → numberThen cs m ≤ 192
+    -- nor does the count of numbers given
     pub below-193 : after cs .given ≤ 192

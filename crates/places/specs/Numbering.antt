@@ -2,7 +2,7 @@
 -- Assumes nothing.
 use Prim.Native.Nat.{ℕ, suc}
 use mathlib.Core.Bool.{Bool, false, not, _&&_, _||_, cond}
-use mathlib.Core.List.{List, [], _∷_}
+use mathlib.Core.List.{List, [], _∷_, map}
 use lib.Dec.{leb, ltb, eqb}
 use lib.ListN.{getD}
 use Rattle.questions.specs.Search.{every}
@@ -27,6 +27,10 @@ missing (m ∷ ms) others = cond (isListed others (m .month)) (missing ms others
 -- a maturity with a listing number
 abbrev pub withNumber : Maturity → ℕ → Maturity
 withNumber m n = record { month = m .month; day = m .day; number = n }
+
+-- the months and days, without the numbers
+abbrev pub unnumbered : List Maturity → List Maturity
+unnumbered ms = map (λ m. withNumber m 0) ms
 
 -- 'A month in both keeps its number; a new one has entered and takes the next number after given, by rising month'
 unfoldable pub renumbered : List Maturity → ℕ → List Maturity → List Maturity

@@ -1,0 +1,115 @@
+-- Nothing else than `renumbered` and `missing` has what their laws say.
+-- Assumes nothing.
+use mathlib.Core.Path.{_≡_, refl, sym, ap, ap₂, _∙_}
+use mathlib.Core.Bool.{Bool, true, false}
+use mathlib.Core.List.{List, [], _∷_, map}
+use mathlib.Core.Logic.{_⊎_, inl, inr}
+use Prim.Native.Nat.{ℕ, zero, suc, _≤_}
+use native.Mathlib.Omega.{arith}
+use lib.Dec.{eqb}
+use lib.ListN.{length, getD, drop, length-map}
+use borrow.Author.Tests.{eqb-true, eq-eqb, ne-eqb}
+use Rattle.questions.proofs.Bools.{clash, or-left, or-right, or-either}
+use Rattle.listing.specs.declared.Maturity.{Maturity}
+use Rattle.listing.specs.Rules.{unused}
+use Rattle.places.specs.Numbering.{isListed, numberOf, missing, withNumber, unnumbered, renumbered}
+use Rattle.places.specs.Laws.{Rising, RenumberedLaw, MissingLaw}
+use Rattle.places.proofs.Rising.{rising-tail, rising-above, rising-once}
+use Rattle.places.proofs.Renumbering.{renumbered-law, missing-law}
+
+-- a maturity is its month, day and number
+pub same-maturity : (m n : Maturity) → m .month ≡ n .month → m .day ≡ n .day → m .number ≡ n .number → m ≡ n
+same-maturity m n a b c = rw (← a, ← b, ← c)
+
+-- the first of rising months is the least
+least : (m : Maturity) (ms : List Maturity) → Rising (m ∷ ms) → (k : ℕ) → isListed (m ∷ ms) k ≡ true → m .month ≤ k
+unfolding isListed
+least m ms rises k t = go (or-either (eqb (m .month) k) (isListed ms k) t)
+  where
+    go : (eqb (m .month) k ≡ true) ⊎ (isListed ms k ≡ true) → m .month ≤ k
+    go (inl e) = omega (arith, eqb-true (m .month) k e)
+    go (inr e) = omega (arith, rising-above m ms rises k e)
+
+here : (m : Maturity) (ms : List Maturity) → isListed (m ∷ ms) (m .month) ≡ true
+unfolding isListed
+here m ms = or-left (isListed ms (m .month)) (eq-eqb (m .month) (m .month) refl)
+
+-- rising lists that have the same months
+same-months : (ms ns : List Maturity) → Rising ms → Rising ns → ((k : ℕ) → isListed ms k ≡ isListed ns k) → map (λ m. m .month) ms ≡ map (λ m. m .month) ns
+unfolding isListed
+same-months [] [] r s h = refl
+same-months [] (n ∷ ns) r s h = clash (here n ns) (sym (h (n .month)))
+same-months (m ∷ ms) [] r s h = clash (here m ms) (h (m .month))
+same-months (m ∷ ms) (n ∷ ns) r s h = ap₂ _∷_ same (same-months ms ns (rising-tail m ms r) (rising-tail n ns s) rest)
+  where
+    same : m .month ≡ n .month
+    same = omega (arith, least m ms r (n .month) (h (n .month) ∙ here n ns), least n ns s (m .month) (sym (h (m .month)) ∙ here m ms))
+
+    rest : (k : ℕ) → isListed ms k ≡ isListed ns k
+    rest k = go (eqb (n .month) k) refl
+      where
+        go : (b : Bool) → eqb (n .month) k ≡ b → isListed ms k ≡ isListed ns k
+        go true e =
+            let q : k ≡ n .month = sym (eqb-true (n .month) k e) in
+            ap (isListed ms) (q ∙ sym same) ∙ rising-once m ms r ∙ sym (ap (isListed ns) q ∙ rising-once n ns s)
+        go false e = rw (same, e) at (h k)
+
+pub missing-only : (ms others result : List Maturity) → Rising ms → MissingLaw ms others result → map (λ m. m .month) result ≡ map (λ m. m .month) (missing ms others)
+missing-only ms others result rises l =
+    let s = missing-law others ms rises in
+    same-months result (missing ms others) (l .rising) (s .rising) (λ k. l .holds k ∙ sym (s .holds k))
+
+-- the months are those of the list without its numbers
+month-at : (ms : List Maturity) (i : ℕ) → getD (unnumbered ms) i unused .month ≡ getD ms i unused .month
+month-at [] i = refl
+month-at (m ∷ ms) zero = refl
+month-at (m ∷ ms) (suc i) = month-at ms i
+
+rising-same : (ms ns : List Maturity) → unnumbered ms ≡ unnumbered ns → Rising ns → Rising ms
+rising-same ms ns e rises i j l h =
+    omega (
+      arith,
+      month-at ms i,
+      month-at ms j,
+      month-at ns i,
+      month-at ns j,
+      ap (λ (ls : List Maturity). getD ls i unused .month) e,
+      ap (λ (ls : List Maturity). getD ls j unused .month) e,
+      rises i j l (omega (arith, ap length e, length-map ms (λ m. withNumber m 0), length-map ns (λ m. withNumber m 0))),
+    )
+
+listed-unnumbered : (ms : List Maturity) (k : ℕ) → isListed (unnumbered ms) k ≡ isListed ms k
+unfolding isListed
+listed-unnumbered [] k = refl
+listed-unnumbered (m ∷ ms) k = rw (listed-unnumbered ms k)
+
+-- lists with the same months, days and numbers
+same-numbers : (ms ns : List Maturity) → Rising ns → unnumbered ms ≡ unnumbered ns → ((k : ℕ) → isListed ns k ≡ true → numberOf ms k ≡ numberOf ns k) → ms ≡ ns
+unfolding isListed numberOf
+same-numbers [] [] r e h = refl
+same-numbers [] (n ∷ ns) r e h = absurd (omega (arith, ap length e))
+same-numbers (m ∷ ms) [] r e h = absurd (omega (arith, ap length e))
+same-numbers (m ∷ ms) (n ∷ ns) r e h =
+    ap₂ _∷_ (same-maturity m n a (ap (λ (ls : List Maturity). getD ls 0 unused .day) e) (rw (eq-eqb (m .month) (n .month) a, eq-eqb (n .month) (n .month) refl) at (h (n .month) (here n ns))))
+    (same-numbers ms ns (rising-tail n ns r) (ap (drop 1) e) rest)
+  where
+    a : m .month ≡ n .month
+    a = ap (λ (ls : List Maturity). getD ls 0 unused .month) e
+
+    rest : (k : ℕ) → isListed ns k ≡ true → numberOf ms k ≡ numberOf ns k
+    rest k t = rw (a, ne-eqb (n .month) k (λ q. absurd (omega (arith, rising-above n ns r k t)))) at (h k (or-right (eqb (n .month) k) t))
+
+pub renumbered-only : (old : List Maturity) (given : ℕ) (fresh result : List Maturity) → Rising fresh → RenumberedLaw old given fresh result → result ≡ renumbered old given fresh
+renumbered-only old given fresh result rises l =
+    same-numbers result (renumbered old given fresh) (rising-same (renumbered old given fresh) fresh (s .replaces) rises) (l .replaces ∙ sym (s .replaces))
+    (λ k t. go k (sym (listed-same k) ∙ t) (isListed old k) refl)
+  where
+    s : RenumberedLaw old given fresh (renumbered old given fresh)
+    s = renumbered-law old given fresh rises
+
+    listed-same : (k : ℕ) → isListed (renumbered old given fresh) k ≡ isListed fresh k
+    listed-same k = sym (listed-unnumbered (renumbered old given fresh) k) ∙ ap (λ (ms : List Maturity). isListed ms k) (s .replaces) ∙ listed-unnumbered fresh k
+
+    go : (k : ℕ) → isListed fresh k ≡ true → (b : Bool) → isListed old k ≡ b → numberOf result k ≡ numberOf (renumbered old given fresh) k
+    go k t true e = l .keeps k t e ∙ sym (s .keeps k t e)
+    go k t false e = l .takes k t e ∙ sym (s .takes k t e)
