@@ -97,6 +97,11 @@ rising i (suc n) = rw (add-suc i n) (omega (arith, rising i n, first-suc (i + n)
 pub first-apart : (i j : ℕ) → i ≤ j → firstDay i + 28 * (j - i) ≤ firstDay j
 first-apart i j h = subst (λ (k : ℕ). firstDay i + 28 * (j - i) ≤ firstDay k) (omega arith) (rising i (j - i))
 
+-- and at most 31 days after
+pub first-near : (i n : ℕ) → firstDay (i + n) ≤ firstDay i + 31 * n
+first-near i zero = rw (add-zero i) (omega arith)
+first-near i (suc n) = rw (add-suc i n) (omega (arith, first-near i n, first-suc (i + n), length-bounds (i + n)))
+
 pub first-le : (i j : ℕ) → i ≤ j → firstDay i ≤ firstDay j
 first-le i j h = omega (arith, first-apart i j h)
 

@@ -1,11 +1,11 @@
 -- A table that follows the month lengths has the first day of each month.
 -- Assumes nothing.
 use mathlib.Core.Path.{_≡_, refl, _∙_, sym, ap}
-use mathlib.Core.Bool.{Bool, true, false, _&&_}
+use mathlib.Core.Bool.{Bool, true, false, _&&_, cond}
 use mathlib.Core.List.{List, [], _∷_}
-use Prim.Native.Nat.{ℕ, zero, suc, _+_, _<_}
+use Prim.Native.Nat.{ℕ, zero, suc, _+_, _-_, _*_, _/_, _%_, _<_}
 use native.Mathlib.Nat.{add-zero, zero-add, add-suc, suc-add, le-of-suc-le-suc, not-suc-le-zero}
-use lib.Dec.{eqb}
+use lib.Dec.{eqb, ltb}
 use lib.ListN.{length, getD}
 use borrow.Author.Tests.{eqb-true}
 use Rattle.questions.specs.Search.{oneOf}
@@ -39,3 +39,29 @@ first-at xs t k h =
 pub first-end : firstDay 1200 ≡ 36525
 unfolding firstDay lengthOf monthLength lengthIn leapYear oneOf
 first-end = refl
+
+-- the first day by arithmetic: the year's, then two months of at most 31 days, then five months of 153 days and so on
+abbrev pub byRule : ℕ → ℕ
+byRule k =
+    365 * (k / 12) + (k / 12 + 3) / 4 +
+    cond (ltb (k % 12) 2) (31 * (k % 12))
+    (cond (eqb (k / 12 % 4) 0) ((153 * (k % 12) - 304) / 5 + 60) ((153 * (k % 12) - 304) / 5 + 59))
+
+-- what the rule gives for n months from month i on
+ruled : ℕ → ℕ → List ℕ
+ruled zero i = []
+ruled (suc n) i = byRule i ∷ ruled n (suc i)
+
+ruled-at : (n i k : ℕ) → k < n → getD (ruled n i) k 0 ≡ byRule (i + k)
+unfolding ruled
+ruled-at zero i k h = absurd (not-suc-le-zero h)
+ruled-at (suc n) i zero h = ap byRule (sym (add-zero i))
+ruled-at (suc n) i (suc k) h = ruled-at n (suc i) k (le-of-suc-le-suc h) ∙ ap byRule (suc-add i k ∙ sym (add-suc i k))
+
+-- that table follows the month lengths too: one computed test
+ruled-right : followsMonths (ruled 1200 0) ≡ true
+unfolding ruled followsFrom lengthOf monthLength lengthIn leapYear oneOf
+ruled-right = refl
+
+pub first-rule : (k : ℕ) → k < 1200 → firstDay k ≡ byRule k
+first-rule k h = sym (first-at (ruled 1200 0) ruled-right k h) ∙ ruled-at 1200 0 k h ∙ ap byRule (zero-add k)

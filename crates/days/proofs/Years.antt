@@ -1,6 +1,6 @@
 -- Laws of the years: their first days, the year of a day, and both by arithmetic.
 -- Assumes nothing.
-use mathlib.Core.Path.{_≡_, refl, _∙_, ap}
+use mathlib.Core.Path.{_≡_, refl, _∙_, sym, ap}
 use mathlib.Core.Bool.{Bool, true, false, cond, and-true}
 use mathlib.Core.Logic.{_⊎_, inl, inr, ⊎-elim}
 use Prim.Native.Nat.{ℕ, zero, suc, _+_, _-_, _*_, _/_, _%_, _≤_, _<_}
@@ -11,7 +11,7 @@ use Rattle.questions.specs.Search.{oneOf}
 use Rattle.questions.proofs.Bools.{lt-or-ge}
 use Rattle.days.specs.Gregorian.{lengthOf, firstDay, monthLength, lengthIn, leapYear}
 use Rattle.days.specs.Dates.{monthOf, firstOf, yearOf, yearStart, dayInYear}
-use Rattle.days.proofs.Months.{first-suc, first-zero, first-le, first-to, first-out, first-of-le, first-of-most, month-holds, month-past}
+use Rattle.days.proofs.Months.{first-suc, first-zero, first-near, first-le, first-to, first-out, first-of-le, first-of-most, month-holds, month-past}
 
 -- the month after j months of the year 2000 + i, and the next
 month : (i j n : ℕ) → j < 12 → n ≡ 12 * i + j + 1 → firstDay n ≡ firstDay (12 * i + j) + monthLength (2000 + i) (j + 1)
@@ -154,6 +154,17 @@ in-year-below d l =
     let a = year-start-is (yearOf d) (omega arith) (omega arith) in
     let b = year-start-is (yearOf d + 1) (omega arith) (omega arith) in
     omega arith
+
+-- a month of at most 31 days for each 31 days of the year before the day: it starts by the day
+pub month-guess : (d r n : ℕ) → d < 36525 → r ≡ yearOf d → n ≡ dayInYear d → (12 * (r - 2000) + n / 31 < 1200) × (firstDay (12 * (r - 2000) + n / 31) ≤ d)
+unfolding dayInYear yearStart
+month-guess d r n l q e =
+    let v = in-year d l in
+    let b : dayInYear d < 366 = in-year-below d l in
+    let m = year-month d r l q in
+    let f : yearStart (yearOf d) ≡ firstDay (12 * (r - 2000)) = ap (λ (y : ℕ). firstOf (12 * (y - 2000))) (sym q) ∙ first-to (12 * (r - 2000)) (omega arith) in
+    let g : n ≡ d - firstDay (12 * (r - 2000)) = e ∙ ap (λ (x : ℕ). d - x) f in
+    (omega arith, omega (arith, first-near (12 * (r - 2000)) (n / 31)))
 
 -- a day is in a year or later where the year has started, and before it where it has not
 pub year-from : (y d : ℕ) → d < 36525 → yearStart y ≤ d → y ≤ yearOf d

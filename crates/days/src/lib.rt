@@ -1245,6 +1245,25 @@ pub fn first_day(month: u16) -> u16
     first[month as usize]
 }
 
+// The first day of a month by arithmetic, as the table has it: from March on five months have 153 days.
+pub fn month_start(month: u16) -> u16
+    ensures { λ r. ⌜ r ≡ firstOf month ⌝ }
+{
+    if 1200 <= month {
+        return 36525;
+    }
+    let i = month / 12;
+    let j = month % 12;
+    let start = 365 * i + (i + 3) / 4;
+    if j < 2 {
+        return start + 31 * j;
+    }
+    if i % 4 == 0 {
+        return start + ((153 * j - 304) / 5 + 60);
+    }
+    start + ((153 * j - 304) / 5 + 59)
+}
+
 // Monday is 0.
 pub fn weekday(day: u16) -> u16
     ensures { λ r. ⌜ r ≡ weekdayOf day ⌝ }
@@ -1356,8 +1375,8 @@ pub fn month_of(day: u16) -> u16
     if 36525 <= day {
         return 1200;
     }
-    let mut m = 12 * (year_of(day) - 2000);
-    while first_day(m + 1) <= day {
+    let mut m = 12 * (year_of(day) - 2000) + day_in_year(day) / 31;
+    while month_start(m + 1) <= day {
         m += 1;
     }
     m
@@ -1373,6 +1392,6 @@ pub fn date_of_day(day: u16) -> DateAnswer
     DateAnswer::Is(Date {
         year: 2000 + m / 12,
         month: m % 12 + 1,
-        day: day - first_day(m) + 1,
+        day: day - month_start(m) + 1,
     })
 }

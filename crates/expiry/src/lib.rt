@@ -11,7 +11,7 @@ ghost use Rattle.expiry.specs.LastDays.{thirdFriday, anchorOf, lastDay, 
 pub fn third_friday(month: u16) -> u16
     ensures { λ r. ⌜ r ≡ thirdFriday month ⌝ }
 {
-    let first = days::first_day(month);
+    let first = days::month_start(month);
     first + (11 - days::weekday(first)) % 7 + 14
 }
 

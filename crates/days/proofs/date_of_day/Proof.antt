@@ -20,14 +20,14 @@ add-t5 c = search needs
 add-t7 : tie.Need-add-t7
 add-t7 c = search needs
 
-first-day-requires : tie.Need-first-day-requires
-first-day-requires c κs = tt
+month-start-requires : tie.Need-month-start-requires
+month-start-requires c κs = tt
 
-holds : (c : tie.After-first-day) → Holds (c .before .before .before .args .day) (c .before .month-of .result)
+holds : (c : tie.After-month-start) → Holds (c .before .before .before .args .day) (c .before .month-of .result)
 holds c = rw (c .before .month-of .ensures) (month-holds _ (c .before .before .if1 .left))
 
-first : (c : tie.After-first-day) → c .first-day .result ≡ firstDay (c .before .month-of .result)
-first c = c .first-day .ensures ∙ first-in _ (holds c .within)
+first : (c : tie.After-month-start) → c .month-start .result ≡ firstDay (c .before .month-of .result)
+first c = c .month-start .ensures ∙ first-in _ (holds c .within)
 
 sub-t9 : tie.Need-sub-t9
 sub-t9 c = omega (arith, holds c, first c)
@@ -42,4 +42,4 @@ returns-2 c = sym (date-accepted _ (c .before .before .if1 .left) ∙ simp (sym 
 pub date-of-day-spec : {M : Type 1} → statement M
 date-of-day-spec =
     tie.close
-    (tie.spec returns month-of-requires add-t5 add-t7 first-day-requires sub-t9 add-t10 returns-2)
+    (tie.spec returns month-of-requires add-t5 add-t7 month-start-requires sub-t9 add-t10 returns-2)
