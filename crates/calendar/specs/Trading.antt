@@ -2,6 +2,7 @@
 -- Assumes nothing.
 use Prim.Native.Nat.{ℕ, zero, suc, _+_, _-_, _*_, _/_, _%_}
 use mathlib.Core.Bool.{Bool, not, _&&_, _||_, cond}
+use mathlib.Core.List.{List}
 use lib.Dec.{leb, ltb}
 use Rattle.questions.specs.Search.{every, some, firstFrom}
 use Rattle.days.specs.Gregorian.{weekdayOf}
@@ -9,6 +10,10 @@ use Rattle.days.specs.Dates.{yearOf, yearStart, dayInYear}
 use Rattle.calendar.specs.Bits.{bitAt, setBit}
 use Rattle.calendar.specs.declared.Cover.{Cover}
 use Rattle.calendar.specs.declared.Calendar.{Calendar}
+
+-- a calendar by its cover and its maps
+abbrev pub calendarWith : Cover → List ℕ → Calendar
+calendarWith cover closed = record { cover = cover; closed = closed }
 
 -- '1 to 16 years from 2000 to 2099' (01, The table)
 unfoldable pub validCover : Cover → Bool
@@ -71,6 +76,10 @@ someTrades cal s n = some n (λ i. tradingDay cal (s + i))
 unfoldable pub everyWeek : Calendar → Bool
 everyWeek cal =
     every (coverEnd (cal .cover) - coverStart (cal .cover) - 6) (λ k. someTrades cal (coverStart (cal .cover) + k) 7)
+
+-- the same of the runs that begin on a day s or later and end before a day e
+abbrev pub weeksIn : Calendar → ℕ → ℕ → Bool
+weeksIn cal s e = every (e - s - 6) (λ k. someTrades cal (s + k) 7)
 
 -- 'Close marks one day closed' (01, The table); a day outside the cover changes nothing
 unfoldable pub closeDay : Calendar → ℕ → Calendar

@@ -2,7 +2,7 @@
 ghost use mathlib.Core.Path.{_≡_};
 ghost use Prim.Native.Nat.{_-_, _≤_};
 ghost use Rattle.questions.specs.Search.{latest};
-ghost use Rattle.calendar.specs.Trading.{validCover, coverStart, coverEnd, inCover, slotOf, closedOn, tradingDay, nextTradingDay, nthTradingDay, closeDay};
+ghost use Rattle.calendar.specs.Trading.{calendarWith, validCover, coverStart, coverEnd, inCover, slotOf, closedOn, tradingDay, nextTradingDay, nthTradingDay, closeDay};
 
 // A run of whole years.
 pub struct Cover {
@@ -103,31 +103,52 @@ pub fn is_closed(cal: Calendar, day: u16) -> bool
     (byte >> (7 - slot % 8)) % 2 == 1
 }
 
-pub fn is_trading_day(cal: Calendar, day: u16) -> bool
-    ensures { λ r. ⌜ r ≡ tradingDay cal day ⌝ }
+// Whether a day is a trading day, by the cover and the lent maps.
+pub fn is_trading_day_in(cover: Cover, closed: &[u8], day: u16) -> bool
+    ensures { λ r. ⌜ r ≡ tradingDay (calendarWith cover (now (closed .entry))) day ⌝ }
 {
-    let cover = cal.cover;
     if !in_cover(cover, day) {
         return false;
     }
     if 5 <= days::weekday(day) {
         return false;
     }
-    !is_closed(cal, day)
+    let slot = slot_of(cover, day);
+    let at = slot / 8;
+    if closed.len() <= at {
+        return true;
+    }
+    let byte = closed[at];
+    !((byte >> (7 - slot % 8)) % 2 == 1)
+}
+
+pub fn is_trading_day(cal: Calendar, day: u16) -> bool
+    ensures { λ r. ⌜ r ≡ tradingDay cal day ⌝ }
+{
+    let cover = cal.cover;
+    is_trading_day_in(cover, &cal.closed, day)
+}
+
+// The latest trading day at or before a day, by the cover and the lent maps; 0, a Saturday, where there is none.
+pub fn latest_trading_day_in(cover: Cover, closed: &[u8], day: u16) -> u16
+    ensures { λ r. ⌜ r ≡ latest (tradingDay (calendarWith cover (now (closed .entry)))) day ⌝ }
+{
+    let mut d = day;
+    while 0 < d {
+        if is_trading_day_in(cover, closed, d) {
+            return d;
+        }
+        d -= 1;
+    }
+    0
 }
 
 // The latest trading day at or before a day; 0, a Saturday, where there is none.
 pub fn latest_trading_day(cal: Calendar, day: u16) -> u16
     ensures { λ r. ⌜ r ≡ latest (tradingDay cal) day ⌝ }
 {
-    let mut d = day;
-    while 0 < d {
-        if is_trading_day(cal, d) {
-            return d;
-        }
-        d -= 1;
-    }
-    0
+    let cover = cal.cover;
+    latest_trading_day_in(cover, &cal.closed, day)
 }
 
 // The first trading day after a day; 36,525 where the cover has none.

@@ -3,7 +3,7 @@ use calendar::Calendar;
 use calendar::Cover;
 ghost use mathlib.Core.Path.{_≡_};
 ghost use Prim.Native.Nat.{_≤_};
-ghost use Rattle.calendar.specs.Trading.{coverEnd};
+ghost use Rattle.calendar.specs.Trading.{calendarWith, coverEnd};
 ghost use Rattle.days.specs.Dates.{monthOf};
 ghost use Rattle.expiry.specs.LastDays.{thirdFriday, anchorOf, lastDay, lastTradingDay};
 
@@ -39,11 +39,19 @@ pub fn last_day(cal: Calendar, anchor: u16) -> u16
     calendar::latest_trading_day(cal, anchor - 1)
 }
 
-// 002, 1.6.4 (2): the third Friday, the Italian exception, the day itself or the trading day before it.
+// 002, 1.6.4 (2): the third Friday, the Italian exception, the day itself or the trading day before it. By the cover and the lent maps.
+pub fn last_trading_day_in(cover: Cover, closed: &[u8], group: [u8; 4], month: u16) -> u16
+    ensures { λ r. ⌜ r ≡ lastTradingDay (calendarWith cover (now (closed .entry))) group month ⌝ }
+{
+    calendar::latest_trading_day_in(cover, closed, anchor(group, month))
+}
+
+// The same of a calendar.
 pub fn last_trading_day(cal: Calendar, group: [u8; 4], month: u16) -> u16
     ensures { λ r. ⌜ r ≡ lastTradingDay cal group month ⌝ }
 {
-    last_day(cal, anchor(group, month))
+    let cover = cal.cover;
+    last_trading_day_in(cover, &cal.closed, group, month)
 }
 
 // The first month beyond the cover.

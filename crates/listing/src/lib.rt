@@ -1,10 +1,12 @@
 // The front month and the listed months of a product on a date.
 use calendar::Calendar;
+use calendar::Cover;
 use product::Kind;
 ghost use mathlib.Core.Path.{_≡_};
 ghost use mathlib.Core.List.{[]};
 ghost use lib.ListN.{getD, length};
 ghost use Prim.Native.Nat.{_≤_, _<_};
+ghost use Rattle.calendar.specs.Trading.{calendarWith};
 ghost use Rattle.listing.specs.Rules.{front, monthsBefore, nextOf};
 ghost use Rattle.product.specs.declared.Kind.{Kind};
 ghost use Rattle.listing.specs.Months.{monthSets, inSet, placesOfKind, ruleOf, listingOf};
@@ -67,19 +69,27 @@ pub fn months_listed(kind: Kind) -> u16
     sum
 }
 
-// The front month on a date, which is the same for every kind; the first month beyond the cover where the cover has none.
-pub fn front_month(cal: Calendar, group: [u8; 4], date: u16) -> u16
-    ensures { λ r. ⌜ ((kind : Kind) → r ≡ front (ruleOf cal kind group) cal date) × (r ≤ 1200) ⌝ }
+// The front month on a date by the cover and the lent maps, which is the same for every kind; the first month beyond the cover where the cover has none.
+pub fn front_month_in(cover: Cover, closed: &[u8], group: [u8; 4], date: u16) -> u16
+    ensures { λ r. ⌜ ((kind : Kind) → r ≡ front (ruleOf (calendarWith cover (now (closed .entry))) kind group) (calendarWith cover (now (closed .entry))) date) × (r ≤ 1200) ⌝ }
 {
-    let end = expiry::end_month(cal.cover);
+    let end = expiry::end_month(cover);
     let mut month = days::month_of(date);
     while month < end {
-        if date <= expiry::last_trading_day(cal, group, month) {
+        if date <= expiry::last_trading_day_in(cover, closed, group, month) {
             return month;
         }
         month += 1;
     }
     end
+}
+
+// The same of a calendar.
+pub fn front_month(cal: Calendar, group: [u8; 4], date: u16) -> u16
+    ensures { λ r. ⌜ ((kind : Kind) → r ≡ front (ruleOf cal kind group) cal date) × (r ≤ 1200) ⌝ }
+{
+    let cover = cal.cover;
+    front_month_in(cover, &cal.closed, group, date)
 }
 
 // The number of cover months before the front month.
@@ -94,12 +104,12 @@ pub fn months_before(cal: Calendar, group: [u8; 4], date: u16) -> u16
     front - first
 }
 
-// The fresh listing of a product on a date.
-pub fn list(cal: Calendar, kind: Kind, group: [u8; 4], date: u16) -> Listing
-    ensures { λ r. ⌜ r ≡ listingOf cal kind group date ⌝ }
+// The fresh listing of a product on a date, by the cover and the lent maps.
+pub fn list_in(cover: Cover, closed: &[u8], kind: Kind, group: [u8; 4], date: u16) -> Listing
+    ensures { λ r. ⌜ r ≡ listingOf (calendarWith cover (now (closed .entry))) kind group date ⌝ }
 {
     let row = product::kind_number(kind) as usize;
-    let end = expiry::end_month(cal.cover);
+    let end = expiry::end_month(cover);
     let unused = Maturity {
         month: 0,
         day: 0,
@@ -107,7 +117,7 @@ pub fn list(cal: Calendar, kind: Kind, group: [u8; 4], date: u16) -> Listing
     };
     let mut maturities = [unused; 15];
     let mut listed: usize = 0;
-    let mut from = front_month(cal, group, date);
+    let mut from = front_month_in(cover, closed, group, date);
     let mut complete = true;
     'steps: for step in 0..4 {
         let count = COUNTS[row][step];
@@ -117,7 +127,7 @@ pub fn list(cal: Calendar, kind: Kind, group: [u8; 4], date: u16) -> Listing
                 complete = false;
                 break 'steps;
             }
-            let day = expiry::last_trading_day(cal, group, month);
+            let day = expiry::last_trading_day_in(cover, closed, group, month);
             maturities[listed] = Maturity {
                 month: month,
                 day: day,
@@ -131,4 +141,12 @@ pub fn list(cal: Calendar, kind: Kind, group: [u8; 4], date: u16) -> Listing
         complete: complete,
         maturities: maturities,
     }
+}
+
+// The fresh listing of a product on a date.
+pub fn list(cal: Calendar, kind: Kind, group: [u8; 4], date: u16) -> Listing
+    ensures { λ r. ⌜ r ≡ listingOf cal kind group date ⌝ }
+{
+    let cover = cal.cover;
+    list_in(cover, &cal.closed, kind, group, date)
 }

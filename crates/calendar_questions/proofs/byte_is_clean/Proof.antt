@@ -1,7 +1,8 @@
-use Rattle.calendar.proofs.Clean.{cleanBit, cleanByte, zero-clean}
+use Rattle.calendar.proofs.Clean.{zero-clean}
 use Rattle.questions.specs.Search.{every}
 use Rattle.questions.proofs.Search.{every-none, every-more, every-not}
 use Rattle.questions.proofs.Bools.{said-no, said-yes}
+use Rattle.calendar.proofs.Clean.{cleanBit, cleanByte}
 use mathlib.Core.Bool.{true}
 use Prim.Native.Nat.{_-_, _≤_}
 use native.Mathlib.Omega.{arith}

@@ -1,64 +1,20 @@
-use Rattle.calendar.proofs.Clean.{clean-more, clean-not}
-use Rattle.questions.specs.Search.{every}
-use Rattle.questions.proofs.Search.{every-none}
-use Rattle.questions.proofs.Bools.{said-no, said-yes}
-use Rattle.calendar.specs.Trading.{cleanSlot, clean}
-use mathlib.Core.Bool.{true}
-use Prim.Native.Nat.{_-_, _*_, _≤_}
-use native.Mathlib.Omega.{arith}
-use mathlib.Core.Path.{_≡_, sym}
+use Prim.Native.Nat.{_-_}
+use mathlib.Core.Path.{sym}
 use Rattle.calendar_questions.proofs.is_clean.Statement.{statement}
 use Rattle.calendar_questions.proofs.is_clean.Tie as tie
 
-abbrev Inv-loop : tie.InvT-loop
-Inv-loop cal cover i₀ i = (i ≤ 736) × (every (8 * i) (cleanSlot cal) ≡ true)
+bytes-fit-requires : tie.Need-bytes-fit-requires
+bytes-fit-requires c κs = tt
 
-abbrev μ-loop : tie.MeasureT-loop
-μ-loop cal cover i₀ i = 736 - i
+returns : tie.Need-returns
+returns c = sym (c .before .bytes-fit .ensures (c .if1 .taken))
 
-loop-holds : tie.Need-loop-holds Inv-loop μ-loop
-loop-holds c = (omega arith, every-none _)
+is-clean-by-bits-requires : tie.Need-is-clean-by-bits-requires
+is-clean-by-bits-requires c κs = tt
 
-cast-byte : tie.Need-cast-byte Inv-loop μ-loop
-cast-byte c = omega arith
-
-element-copy-out-byte : tie.Need-element-copy-out-byte Inv-loop μ-loop
-element-copy-out-byte c = omega arith
-
-byte-is-clean-requires : tie.Need-byte-is-clean-requires Inv-loop μ-loop
-byte-is-clean-requires c κs = omega arith
-
-returns : tie.Need-returns Inv-loop μ-loop
-unfolding clean
-returns c = sym (clean-not _ _ (omega arith) (said-no (c .before .byte-is-clean .ensures) (c .if1 .taken)))
-
-add-i : tie.Need-add-i Inv-loop μ-loop
-add-i c = omega arith
-
-loop-less : tie.Need-loop-less Inv-loop μ-loop
-loop-less c = omega arith
-
-loop-again : tie.Need-loop-again Inv-loop μ-loop
-loop-again c = (omega arith, clean-more _ _ (c .before .before .before .before .loop .inv .1) (said-yes (c .before .byte-is-clean .ensures) (c .if1 .left)))
-
-returns-2 : tie.Need-returns-2 Inv-loop μ-loop
-unfolding clean
-returns-2 c =
-    let e : 8 * c .before .loop .i ≡ 5888 = omega arith in
-    sym (rw e at (c .before .loop .inv .1))
+returns-2 : tie.Need-returns-2
+returns-2 c = c .is-clean-by-bits .ensures
 
 pub is-clean-spec : {M : Type 1} → statement M
 is-clean-spec =
-    tie.close
-    (tie.spec
-    Inv-loop
-    μ-loop
-    loop-holds
-    cast-byte
-    element-copy-out-byte
-    byte-is-clean-requires
-    returns
-    add-i
-    loop-less
-    loop-again
-    returns-2)
+    tie.close (tie.spec bytes-fit-requires returns is-clean-by-bits-requires returns-2)

@@ -10,9 +10,6 @@ weekday-requires c κs = tt
 returns : tie.Need-returns
 returns c = rw (le-ltb _ _ (rw (c .before .weekday .ensures) at (c .if1 .taken))) refl
 
-returns-2 : tie.Need-returns-2
-returns-2 c = rw (lt-ltb _ _ (rw (c .before .before .weekday .ensures) at (c .before .if1 .left)), le-ltb _ _ (c .if2 .taken)) refl
-
 sub-result : tie.Need-sub-result
 sub-result c = search needs
 
@@ -22,8 +19,8 @@ cast-result c = search needs
 shr-result : tie.Need-shr-result
 shr-result c = search needs
 
-returns-3 : tie.Need-returns-3
-returns-3 c = rw (lt-ltb _ _ (rw (c .before .before .weekday .ensures) at (c .before .if1 .left)), lt-ltb _ _ (c .if2 .left)) refl
+returns-2 : tie.Need-returns-2
+returns-2 c = rw (lt-ltb _ _ (rw (c .before .weekday .ensures) at (c .if1 .left))) refl
 
 pub trades-on-spec : {M : Type 1} → statement M
-trades-on-spec = tie.close (tie.spec weekday-requires returns returns-2 sub-result cast-result shr-result returns-3)
+trades-on-spec = tie.close (tie.spec weekday-requires returns sub-result cast-result shr-result returns-2)

@@ -1,0 +1,75 @@
+use Rattle.calendar.proofs.Bits.{bit-past}
+use Rattle.questions.proofs.Bools.{said-no, said-yes}
+use Rattle.calendar.specs.Bits.{bitAt}
+use Rattle.calendar.specs.Trading.{closedOn, slotOf, tradingDay}
+use borrow.Author.Tests.{lt-ltb, le-ltb}
+use Prim.Native.Nat.{_-_}
+use native.Mathlib.Omega.{arith}
+use mathlib.Core.Path.{_≡_, sym}
+use borrow.Author.Needs.{needs}
+use Rattle.calendar.proofs.is_trading_day_in.Statement.{statement}
+use Rattle.calendar.proofs.is_trading_day_in.Tie as tie
+
+in-cover-requires : tie.Need-in-cover-requires
+in-cover-requires c κs = tt
+
+returns : tie.Need-returns
+unfolding tradingDay
+returns c = simp (said-no (c .before .in-cover .ensures) (c .if1 .taken))
+
+weekday-requires : tie.Need-weekday-requires
+weekday-requires c κs = tt
+
+returns-2 : tie.Need-returns-2
+unfolding tradingDay
+returns-2 c = simp (said-yes (c .before .before .before .in-cover .ensures) (c .before .before .if1 .left), le-ltb _ _ (rw (c .before .weekday .ensures) at (c .if2 .taken)))
+
+slot-of-requires : tie.Need-slot-of-requires
+slot-of-requires c κs = tt
+
+returns-3 : tie.Need-returns-3
+unfolding tradingDay closedOn
+returns-3 c =
+    let at-if2 = c .before .before in
+    let at-if1 = at-if2 .before .before in
+    let start = at-if1 .before .before .before in
+    simp (
+      said-yes (at-if1 .before .in-cover .ensures) (at-if1 .if1 .left),
+      lt-ltb _ _ (rw (at-if2 .before .weekday .ensures) at (at-if2 .if2 .left)),
+      bit-past (start .args .closed .now) (slotOf (start .args .cover) (start .args .day)) (omega (arith, c .before .slot-of .ensures)),
+    )
+
+shared-slice-read-byte : tie.Need-shared-slice-read-byte
+shared-slice-read-byte c = search needs
+
+sub-result : tie.Need-sub-result
+sub-result c = search needs
+
+cast-result : tie.Need-cast-result
+cast-result c = search needs
+
+shr-result : tie.Need-shr-result
+shr-result c = search needs
+
+returns-4 : tie.Need-returns-4
+unfolding tradingDay closedOn bitAt
+returns-4 c =
+    let at-if2 = c .before .before .before in
+    let at-if1 = at-if2 .before .before in
+    simp (said-yes (at-if1 .before .in-cover .ensures) (at-if1 .if1 .left), lt-ltb _ _ (rw (at-if2 .before .weekday .ensures) at (at-if2 .if2 .left)), sym (c .before .before .slot-of .ensures))
+
+pub is-trading-day-in-spec : {M : Type 1} → statement M
+is-trading-day-in-spec =
+    tie.close
+    (tie.spec
+    in-cover-requires
+    returns
+    weekday-requires
+    returns-2
+    slot-of-requires
+    returns-3
+    shared-slice-read-byte
+    sub-result
+    cast-result
+    shr-result
+    returns-4)

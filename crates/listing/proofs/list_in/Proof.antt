@@ -1,0 +1,143 @@
+use Rattle.listing.proofs.Front.{found, front-is}
+use Rattle.listing.proofs.Fresh.{matOf, listing-is}
+use Rattle.listing.proofs.Taking.{rest, setOf, Walking, starts, enters, finishes, leaves, has-room, takes, stops, kind-below}
+use Rattle.calendar.specs.Trading.{calendarWith}
+use Rattle.listing.specs.Rules.{taken, complete}
+use lib.ListN.{replicate}
+use mathlib.Core.List.{_++_}
+use Prim.Native.Nat.{_+_, _-_, _≤_}
+use native.Mathlib.Omega.{arith}
+use mathlib.Core.Path.{_∙_, sym}
+use Rattle.listing.proofs.list_in.Statement.{statement}
+use Rattle.listing.proofs.list_in.Tie as tie
+
+abbrev Inv-loop : tie.InvT-loop
+Inv-loop cover closed group date row end maturities₀ listed₀ from₀ complete₀ step count j₀ maturities listed from complete j =
+    Walking (matOf (calendarWith cover closed) group) end row (found (calendarWith cover closed) group date) maturities listed from complete (replicate (count - j) (setOf step) ++ rest row (step + 1)) × (count ≤ 255)
+
+abbrev μ-loop : tie.MeasureT-loop
+μ-loop cover closed group date row end maturities₀ listed₀ from₀ complete₀ step count j₀ maturities listed from complete j = count - j
+
+abbrev Inv-steps : tie.InvT-steps
+Inv-steps cover closed group date row end maturities₀ listed₀ from₀ complete₀ step₀ maturities listed from complete step =
+    Walking (matOf (calendarWith cover closed) group) end row (found (calendarWith cover closed) group date) maturities listed from complete (rest row step)
+
+abbrev μ-steps : tie.MeasureT-steps
+μ-steps cover closed group date row end maturities₀ listed₀ from₀ complete₀ step₀ maturities listed from complete step = 4 - step
+
+kind-number-requires : tie.Need-kind-number-requires Inv-loop μ-loop Inv-steps μ-steps
+kind-number-requires c κs = tt
+
+cast-row : tie.Need-cast-row Inv-loop μ-loop Inv-steps μ-steps
+cast-row c = omega (arith, c .kind-number .ensures, kind-below (c .before .before .args .kind))
+
+end-month-requires : tie.Need-end-month-requires Inv-loop μ-loop Inv-steps μ-steps
+end-month-requires c κs = tt
+
+front-month-in-requires : tie.Need-front-month-in-requires Inv-loop μ-loop Inv-steps μ-steps
+front-month-in-requires c κs = tt
+
+steps-holds : tie.Need-steps-holds Inv-loop μ-loop Inv-steps μ-steps
+steps-holds c =
+    let start = c .before .before .before .before in
+    rw (c .front-month-in .ensures .0 (start .args .kind) ∙ front-is _ _ _ (start .args .kind))
+    (starts _ _ (start .args .kind) _ _ (c .before .before .kind-number .ensures) (c .before .end-month .ensures .1))
+
+mul-count : tie.Need-mul-count Inv-loop μ-loop Inv-steps μ-steps
+mul-count c = omega arith
+
+index-1-count : tie.Need-index-1-count Inv-loop μ-loop Inv-steps μ-steps
+index-1-count c = omega arith
+
+index-2-count : tie.Need-index-2-count Inv-loop μ-loop Inv-steps μ-steps
+index-2-count c = omega arith
+
+loop-holds : tie.Need-loop-holds Inv-loop μ-loop Inv-steps μ-steps
+loop-holds c = enters (c .before .before .steps .step) (c .before .steps-test .taken) (c .before .before .steps .inv)
+
+next-in-set-requires : tie.Need-next-in-set-requires Inv-loop μ-loop Inv-steps μ-steps
+next-in-set-requires c κs = c .before .before .before .steps-test .taken
+
+last-trading-day-in-requires : tie.Need-last-trading-day-in-requires Inv-loop μ-loop Inv-steps μ-steps
+last-trading-day-in-requires c κs = tt
+
+mul-maturities : tie.Need-mul-maturities Inv-loop μ-loop Inv-steps μ-steps
+mul-maturities c = let w = c .before .before .before in omega (arith, has-room _ _ _ _ (w .before .loop .inv .0) (w .loop-test .taken))
+
+array-set-from-maturities : tie.Need-array-set-from-maturities Inv-loop μ-loop Inv-steps μ-steps
+array-set-from-maturities c = let w = c .before .before .before in has-room _ _ _ _ (w .before .loop .inv .0) (w .loop-test .taken)
+
+add-listed : tie.Need-add-listed Inv-loop μ-loop Inv-steps μ-steps
+add-listed c = let w = c .before .before .before in omega (arith, has-room _ _ _ _ (w .before .loop .inv .0) (w .loop-test .taken))
+
+add-from : tie.Need-add-from Inv-loop μ-loop Inv-steps μ-steps
+add-from c = omega arith
+
+add-j : tie.Need-add-j Inv-loop μ-loop Inv-steps μ-steps
+add-j c = omega arith
+
+loop-less : tie.Need-loop-less Inv-loop μ-loop Inv-steps μ-steps
+loop-less c = omega arith
+
+loop-again : tie.Need-loop-again Inv-loop μ-loop Inv-steps μ-steps
+loop-again c =
+    let w = c .before .before .before in
+    (rw (c .last-trading-day-in .ensures) (takes _ _ _ _ (w .before .loop .inv .0) (c .before .before .next-in-set .result) (w .loop-test .taken) (c .before .before .next-in-set .ensures) (c .before .if1 .left)), w .before .loop .inv .1)
+
+add-step : tie.Need-add-step Inv-loop μ-loop Inv-steps μ-steps
+add-step c = omega arith
+
+steps-less : tie.Need-steps-less Inv-loop μ-loop Inv-steps μ-steps
+steps-less c = omega arith
+
+steps-again : tie.Need-steps-again Inv-loop μ-loop Inv-steps μ-steps
+steps-again c = leaves _ _ _ _ (c .before .loop .inv .0) (c .loop-test .left)
+
+returns : tie.Need-returns Inv-loop μ-loop Inv-steps μ-steps
+returns c =
+    let at-end-month = c .before .before .before in
+    let at-kind-number = at-end-month .before in
+    let start = at-kind-number .before .before in
+    finishes (c .before .steps .step) (c .steps-test .left) (c .before .steps .inv) ∙
+    listing-is _ (start .args .kind) _ (start .args .date) _ _ _ (at-kind-number .kind-number .ensures) (at-end-month .end-month .ensures .0) (sym (front-is _ _ _ (start .args .kind)))
+
+returns-2 : tie.Need-returns-2 Inv-loop μ-loop Inv-steps μ-steps
+returns-2 c =
+    let at-loop = c .before .before .before in
+    let at-end-month = at-loop .before .before .before .before .before in
+    let at-kind-number = at-end-month .before in
+    let start = at-kind-number .before .before in
+    stops _ _ _ _ (at-loop .loop .inv .0) (c .before .next-in-set .result) (c .before .before .loop-test .taken) (c .before .next-in-set .ensures) (c .if1 .taken) ∙
+    listing-is _ (start .args .kind) _ (start .args .date) _ _ _ (at-kind-number .kind-number .ensures) (at-end-month .end-month .ensures .0) (sym (front-is _ _ _ (start .args .kind)))
+
+pub list-in-spec : {M : Type 1} → statement M
+list-in-spec =
+    tie.close
+    (tie.spec
+    Inv-loop
+    μ-loop
+    Inv-steps
+    μ-steps
+    kind-number-requires
+    cast-row
+    end-month-requires
+    front-month-in-requires
+    steps-holds
+    mul-count
+    index-1-count
+    index-2-count
+    loop-holds
+    next-in-set-requires
+    last-trading-day-in-requires
+    mul-maturities
+    array-set-from-maturities
+    add-listed
+    add-from
+    add-j
+    loop-less
+    loop-again
+    add-step
+    steps-less
+    steps-again
+    returns
+    returns-2)
