@@ -2,5 +2,4 @@ pub mod Bits
 pub mod Covered
 pub mod Closing
 pub mod Weeks
-pub mod Clean
 pub mod Next

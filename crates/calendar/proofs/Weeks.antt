@@ -19,18 +19,9 @@ use Rattle.calendar.specs.Bits.{byteBit, bitAt}
 use Rattle.calendar.proofs.Bits.{bit-past}
 use Rattle.calendar.specs.Trading.{coverStart, coverEnd, inCover, slotOf, closedOn, tradingDay, someTrades, everyWeek}
 
-bit-is : (map : List ℕ) (n : ℕ) → byteBit (getD map (n / 8) 0) (n % 8) ≡ bitAt map n
-unfolding bitAt
-bit-is map n = refl
-
--- the code's test of a day, by its slot and the byte at a place that has it
-pub slot-trades : (cal : Calendar) (day slot place : ℕ) → inCover (cal .cover) day ≡ true → slot ≡ slotOf (cal .cover) day → length (cal .closed) ≡ 736 → (slot < 5888 → place ≡ slot / 8) → (ltb (weekdayOf day) 5 && not (ltb slot 5888 && byteBit (getD (cal .closed) place 0) (slot % 8))) ≡ tradingDay cal day
-unfolding tradingDay closedOn
-slot-trades cal day slot place i s l p = rw (i, ← s) (ap (λ (b : Bool). ltb (weekdayOf day) 5 && not b) (side (lt-or-ge slot 5888)))
-  where
-    side : (slot < 5888) ⊎ (5888 ≤ slot) → (ltb slot 5888 && byteBit (getD (cal .closed) place 0) (slot % 8)) ≡ bitAt (cal .closed) slot
-    side (inl h) = rw (lt-ltb slot 5888 h, p h) (bit-is (cal .closed) slot)
-    side (inr h) = rw (le-ltb slot 5888 h) (sym (bit-past (cal .closed) slot (omega (arith, l))))
+-- the runs of seven days that begin on a day s or later and end before a day e hold a trading day
+abbrev pub weeksIn : Calendar → ℕ → ℕ → Bool
+weeksIn cal s e = every (e - s - 6) (λ k. someTrades cal (s + k) 7)
 
 -- the code's test of a day that does not trade and is the first of its week
 pub idle-first : (b : Bool) (x y : ℕ) → (not b && eqb x y) ≡ true → (b ≡ false) × (x ≡ y)

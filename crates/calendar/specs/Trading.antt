@@ -77,10 +77,6 @@ unfoldable pub everyWeek : Calendar → Bool
 everyWeek cal =
     every (coverEnd (cal .cover) - coverStart (cal .cover) - 6) (λ k. someTrades cal (coverStart (cal .cover) + k) 7)
 
--- the same of the runs that begin on a day s or later and end before a day e
-abbrev pub weeksIn : Calendar → ℕ → ℕ → Bool
-weeksIn cal s e = every (e - s - 6) (λ k. someTrades cal (s + k) 7)
-
 -- 'Close marks one day closed' (01, The table); a day outside the cover changes nothing
 unfoldable pub closeDay : Calendar → ℕ → Calendar
 closeDay cal d =

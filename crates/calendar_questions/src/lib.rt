@@ -2,18 +2,18 @@
 use calendar::Calendar;
 use calendar::Cover;
 ghost use mathlib.Core.Path.{_≡_};
-ghost use mathlib.Core.Bool.{not, _&&_, cond, true};
-ghost use Prim.Native.Nat.{ℕ, _+_, _-_, _*_, _/_, _%_, _≤_, _<_};
+ghost use mathlib.Core.Bool.{not, _&&_, _||_, cond, true};
+ghost use Prim.Native.Nat.{ℕ, _+_, _-_, _*_, _%_, _^_, _≤_, _<_};
 ghost use lib.Dec.{ltb};
 ghost use lib.ListN.{getD};
 ghost use Rattle.questions.specs.Search.{every};
 ghost use Rattle.days.specs.Gregorian.{weekdayOf};
-ghost use Rattle.calendar.specs.Bits.{byteBit};
-ghost use Rattle.calendar.proofs.Clean.{cleanBit, cleanByte};
-ghost use Rattle.calendar.specs.Trading.{calendarWith, validCover, coverStart, coverEnd, mayClose, mayBeClosed, clean, someTrades, weeksIn, everyWeek, closeDay};
-ghost use Rattle.calendar_questions.specs.Masks.{weekdayBit, inTime, EightZero, EightClean};
-ghost use Rattle.calendar_questions.specs.Words.{bytesFrom, weekendBit, SevenFree, YearHolds};
-ghost use lib.Bits.{bitOr};
+ghost use Rattle.days.specs.Dates.{yearStart};
+ghost use Rattle.calendar.specs.Bits.{byteBit, bitAt};
+ghost use Rattle.calendar.specs.Trading.{calendarWith, validCover, coverStart, coverEnd, mayClose, mayBeClosed, clean, everyWeek, closeDay};
+ghost use Rattle.calendar.proofs.Weeks.{weeksIn};
+ghost use Rattle.day_words.specs.Words.{dayBit, Shows};
+ghost use Rattle.day_words.proofs.Windows.{Ends, TradesUntil};
 
 // Whether the year has a day n, from 0, and it is a Monday to Friday.
 pub fn may_close(year: u16, n: u16) -> bool
@@ -33,176 +33,76 @@ pub fn may_close(year: u16, n: u16) -> bool
     days::weekday(start + n) < 5
 }
 
-// Whether a slot of the maps belongs to a Monday to Friday of the cover.
-fn may_be_closed(cover: Cover, slot: u16) -> bool
-    requires { ⌜ slot < 5888 ⌝ }
-    ensures { λ r. ⌜ r ≡ mayBeClosed cover slot ⌝ }
+// The year of map k of a calendar; one after 2099, which has no days, where the cover has none.
+fn year_of_map(cover: Cover, k: u16) -> u16
+    requires { ⌜ k < 16 ⌝ }
+    ensures { λ r. ⌜ (r ≤ 2115) × ((n : ℕ) → n < 368 → mayBeClosed cover (368 * k + n) ≡ mayClose r n) ⌝ }
 {
     let first = cover.first_year;
-    let years = cover.years;
-    let k = slot / 368;
-    if years <= k {
-        return false;
+    if cover.years <= k {
+        return 2100;
     }
     if 2100 <= first {
-        return false;
+        return 2100;
     }
-    may_close(first + k, slot % 368)
+    first + k
 }
 
-// Whether bit j of one byte of the maps is 0, or belongs to a Monday to Friday of the cover.
-fn bit_is_clean(cover: Cover, at: u16, byte: u8, j: u16) -> bool
-    requires { ⌜ (at < 736) × (j < 8) ⌝ }
-    ensures { λ r. ⌜ r ≡ cleanBit cover at byte j ⌝ }
+// The days of eight weeks of a year that may not be closed: the weekends, which are the same in each eight weeks; all where the year has no days.
+fn weeks_barred(year: u16) -> u64
+    requires { ⌜ year ≤ 2115 ⌝ }
+    ensures { λ r. ⌜ ((j : ℕ) (p : ℕ) → j < 6 → p < 56 → dayBit 56 r p ≡ not (mayClose year (56 * j + p))) ⌝ }
 {
-    if (byte >> (7 - j)) % 2 != 1 {
-        return true;
+    let start = days::year_start(year);
+    if days::year_start(year + 1) <= start {
+        return 0xFFFFFFFFFFFFFF;
     }
-    may_be_closed(cover, 8 * at + j)
+    day_words::weekends_from(start) >> 8
 }
 
-// The same of all bits of the byte. Most bytes are zero.
-fn byte_is_clean(cover: Cover, at: u16, byte: u8) -> bool
-    requires { ⌜ at < 736 ⌝ }
-    ensures { λ r. ⌜ r ≡ cleanByte cover at byte ⌝ }
+// The days of the rest of its map that may not be closed: the weekends, and the bits after the year's end.
+fn rest_barred(year: u16) -> u64
+    requires { ⌜ year ≤ 2115 ⌝ }
+    ensures { λ r. ⌜ ((p : ℕ) → p < 32 → dayBit 32 r p ≡ not (mayClose year (336 + p))) ⌝ }
 {
-    if byte == 0 {
-        return true;
+    let start = days::year_start(year);
+    let end = days::year_start(year + 1);
+    if end <= start {
+        return 0xFFFFFFFF;
     }
+    let weekends = day_words::weekends_from(start) >> 32;
+    if end - start == 366 {
+        return weekends | 3;
+    }
+    weekends | 7
+}
+
+// Question 5, of the map of one year, eight weeks at a time.
+fn year_is_clean(closed: &[u8; 736], k: u16, year: u16) -> bool
+    requires { ⌜ (k < 16) × (year ≤ 2115) ⌝ }
+    ensures { λ r. ⌜ r ≡ every 368 (λ n. not (bitAt (now (closed .entry)) (368 * k + n)) || mayClose year n) ⌝ }
+{
+    let barred = weeks_barred(year);
     let mut j: u16 = 0;
-    while j < 8 {
-        if !bit_is_clean(cover, at, byte, j) {
+    while j < 6 {
+        if day_words::weeks_of(closed, k, j) & barred != 0 {
             return false;
         }
         j += 1;
     }
-    true
+    day_words::rest_of(closed, k) & rest_barred(year) == 0
 }
 
-// The same of every byte, bit by bit.
-fn is_clean_by_bits(cover: Cover, closed: &[u8; 736]) -> bool
+// The same of every map.
+fn maps_are_clean(cover: Cover, closed: &[u8; 736]) -> bool
     ensures { λ r. ⌜ r ≡ clean (calendarWith cover (now (closed .entry))) ⌝ }
 {
-    let mut i: u16 = 0;
-    while i < 736 {
-        let byte = closed[i as usize];
-        if !byte_is_clean(cover, i, byte) {
+    let mut k: u16 = 0;
+    while k < 16 {
+        if !year_is_clean(closed, k, year_of_map(cover, k)) {
             return false;
         }
-        i += 1;
-    }
-    true
-}
-
-// The Mondays to Fridays of the eight days that begin with a weekday, as bits of a byte.
-fn weekdays_from(weekday: u16) -> u8
-    ensures { λ r. ⌜ every 8 (weekdayBit weekday r) ≡ true ⌝ }
-{
-    match weekday {
-        0 => 0xF9,
-        1 => 0xF3,
-        2 => 0xE7,
-        3 => 0xCF,
-        4 => 0x9F,
-        5 => 0x3E,
-        6 => 0x7C,
-        _ => 0,
-    }
-}
-
-// Whether a byte of a year's map, by the number of its first day in the year, has no bit after the year's end.
-fn ends_in_time(year: u16, n: u16, byte: u8) -> bool
-    ensures { λ r. ⌜ (r ≡ true → inTime year n byte) ⌝ }
-{
-    if n < 360 {
-        return true;
-    }
-    if year % 4 == 0 {
-        return byte % 4 == 0;
-    }
-    byte % 8 == 0
-}
-
-// A quick look at a byte of the maps: yes where it is clean in a cover of 2000 to 2099, mostly.
-fn byte_fits(cover: Cover, at: u16, byte: u8) -> bool
-    requires { ⌜ at < 736 ⌝ }
-    ensures { λ r. ⌜ (r ≡ true → cleanByte cover at byte ≡ true) ⌝ }
-{
-    if byte == 0 {
-        return true;
-    }
-    let first = cover.first_year;
-    let years = cover.years;
-    let k = at / 46;
-    if years <= k {
-        return false;
-    }
-    if first < 2000 {
-        return false;
-    }
-    if 2083 < first {
-        return false;
-    }
-    let year = first + k;
-    let n = 8 * (at % 46);
-    if !ends_in_time(year, n, byte) {
-        return false;
-    }
-    let mask = weekdays_from(days::weekday(days::year_start(year) + n));
-    byte | mask == mask
-}
-
-fn wide(byte: u8) -> u64
-    ensures { λ r. ⌜ (r ≡ byte) × (r < 256) ⌝ }
-{
-    byte as u64
-}
-
-// Eight bytes of the maps as one number, which the compiler reads at once.
-fn eight_at(closed: &[u8; 736], at: usize) -> u64
-    requires { ⌜ at + 8 ≤ 736 ⌝ }
-    ensures { λ r. ⌜ (r ≡ 0 → EightZero (now (closed .entry)) at) ⌝ }
-{
-    wide(closed[at])
-        + 0x100 * wide(closed[at + 1])
-        + 0x10000 * wide(closed[at + 2])
-        + 0x1000000 * wide(closed[at + 3])
-        + 0x100000000 * wide(closed[at + 4])
-        + 0x10000000000 * wide(closed[at + 5])
-        + 0x1000000000000 * wide(closed[at + 6])
-        + 0x100000000000000 * wide(closed[at + 7])
-}
-
-// The same of eight bytes. Mostly all of them are zero.
-fn eight_fit(cover: Cover, closed: &[u8; 736], at: u16) -> bool
-    requires { ⌜ at + 8 ≤ 736 ⌝ }
-    ensures { λ r. ⌜ (r ≡ true → EightClean cover (now (closed .entry)) at) ⌝ }
-{
-    if eight_at(closed, at as usize) == 0 {
-        return true;
-    }
-    let mut j: u16 = 0;
-    while j < 8 {
-        let i = at + j;
-        let byte = closed[i as usize];
-        if !byte_fits(cover, i, byte) {
-            return false;
-        }
-        j += 1;
-    }
-    true
-}
-
-// The same of every byte.
-fn bytes_fit(cover: Cover, closed: &[u8; 736]) -> bool
-    ensures { λ r. ⌜ (r ≡ true → clean (calendarWith cover (now (closed .entry))) ≡ true) ⌝ }
-{
-    let mut i: u16 = 0;
-    while i < 92 {
-        if !eight_fit(cover, closed, 8 * i) {
-            return false;
-        }
-        i += 1;
+        k += 1;
     }
     true
 }
@@ -212,10 +112,7 @@ pub fn is_clean(cal: Calendar) -> bool
     ensures { λ r. ⌜ r ≡ clean cal ⌝ }
 {
     let cover = cal.cover;
-    if bytes_fit(cover, &cal.closed) {
-        return true;
-    }
-    is_clean_by_bits(cover, &cal.closed)
+    maps_are_clean(cover, &cal.closed)
 }
 
 // A byte of the maps; one past the end counts as 0.
@@ -284,128 +181,83 @@ fn weeks_trade(cover: Cover, closed: &[u8], from: u16, to: u16) -> bool
     true
 }
 
-// The first day of the runs in the cover that have one of eight days.
-fn runs_from(start: u16, day: u16) -> u16
-    ensures { λ r. ⌜ (start ≤ r) × ((x : ℕ) → start ≤ x → day ≤ x + 6 → r ≤ x) ⌝ }
+// Every run, one after the other.
+fn all_weeks_trade(cover: Cover, closed: &[u8]) -> bool
+    ensures { λ r. ⌜ r ≡ everyWeek (calendarWith cover (now (closed .entry))) ⌝ }
 {
-    if day < 6 {
-        return start;
+    weeks_trade(
+        cover,
+        closed,
+        calendar::cover_start(cover),
+        calendar::cover_end(cover),
+    )
+}
+
+// How many days of a year the rest of its map has.
+fn rest_length(year: u16) -> u64
+    requires { ⌜ (2000 ≤ year) × (year < 2100) ⌝ }
+    ensures { λ r. ⌜ (yearStart (year + 1) ≡ yearStart year + 336 + r) × (29 ≤ r) × (r ≤ 30) ⌝ }
+{
+    if year % 4 == 0 {
+        return 30;
     }
-    if day - 6 < start {
-        return start;
+    29
+}
+
+// The days of a year after six times eight weeks.
+fn rest_days(closed: &[u8; 736], k: u16, length: u64) -> u64
+    requires { ⌜ (k < 16) × (length ≤ 32) ⌝ }
+    ensures { λ r. ⌜ Shows (now (closed .entry)) (368 * k + 336) length r × (r < 2 ^ length) ⌝ }
+{
+    day_words::rest_of(closed, k) >> (32 - length)
+}
+
+// The last days of the year before year k, of which eight count; none before the cover.
+fn days_before(cover: Cover, closed: &[u8; 736], k: u16) -> u64
+    requires { ⌜ (k < cover .years) × (validCover cover ≡ true) ⌝ }
+    ensures { λ r. ⌜ Ends (calendarWith cover (now (closed .entry))) (yearStart (cover .«first_year» + k)) 8 r ⌝ }
+{
+    if k == 0 {
+        return 0;
     }
-    day - 6
+    let first = cover.first_year;
+    rest_days(closed, k - 1, rest_length(first + (k - 1)))
 }
 
-// The day after the last of them.
-fn runs_to(end: u16, day: u16) -> u16
-    requires { ⌜ day ≤ 40000 ⌝ }
-    ensures { λ r. ⌜ (r ≤ end) × ((x : ℕ) → x + 7 ≤ end → x ≤ day + 7 → x + 7 ≤ r) ⌝ }
+// The runs that end in the rest of year k.
+fn rest_trades(cover: Cover, closed: &[u8; 736], k: u16, window: u64) -> bool
+    requires { ⌜ (k < cover .years) × (validCover cover ≡ true) × Ends (calendarWith cover (now closed)) (yearStart (cover .«first_year» + k) + 336) 8 window ⌝ }
+    ensures { λ r. ⌜ (r ≡ true → TradesUntil (calendarWith cover (now (closed .entry))) (yearStart (cover .«first_year» + k) + 336) → TradesUntil (calendarWith cover (now (closed .entry))) (yearStart (cover .«first_year» + k + 1))) ⌝ }
 {
-    if end < day + 14 {
-        return end;
-    }
-    day + 14
+    let year = cover.first_year + k;
+    let length = rest_length(year);
+    let next = rest_days(closed, k, length);
+    let end = days::year_start(year + 1);
+    day_words::no_seven(
+        day_words::moved_on(window, next, length) | day_words::weekends_from(end + 6),
+    )
 }
 
-// The runs that have one of eight days of the cover.
-fn runs_trade(cover: Cover, closed: &[u8], day: u16) -> bool
-    requires { ⌜ day ≤ 40000 ⌝ }
-    ensures { λ r. ⌜ (r ≡ true → (x : ℕ) → coverStart cover ≤ x → x + 7 ≤ coverEnd cover → day ≤ x + 6 → x ≤ day + 7 → someTrades (calendarWith cover (now (closed .entry))) x 7 ≡ true) ⌝ }
+// The runs that end in year k: a window of 64 days, the last eight of them known, moves on by eight weeks at a time, so that the weekends stay at their bits.
+fn year_trades(cover: Cover, closed: &[u8; 736], k: u16) -> bool
+    requires { ⌜ (k < cover .years) × (validCover cover ≡ true) ⌝ }
+    ensures { λ r. ⌜ (r ≡ true → TradesUntil (calendarWith cover (now (closed .entry))) (yearStart (cover .«first_year» + k)) → TradesUntil (calendarWith cover (now (closed .entry))) (yearStart (cover .«first_year» + k + 1))) ⌝ }
 {
-    let from = runs_from(calendar::cover_start(cover), day);
-    let to = runs_to(calendar::cover_end(cover), day);
-    if to < from {
-        return false;
-    }
-    weeks_trade(cover, closed, from, to)
-}
-
-// Eight bytes of the maps as one number, the first byte the highest: 64 days as bits.
-fn word_at(closed: &[u8; 736], at: usize) -> u64
-    requires { ⌜ at + 8 ≤ 736 ⌝ }
-    ensures { λ r. ⌜ r ≡ bytesFrom (now (closed .entry)) at 8 ⌝ }
-{
-    0x100000000000000 * wide(closed[at])
-        + 0x1000000000000 * wide(closed[at + 1])
-        + 0x10000000000 * wide(closed[at + 2])
-        + 0x100000000 * wide(closed[at + 3])
-        + 0x1000000 * wide(closed[at + 4])
-        + 0x10000 * wide(closed[at + 5])
-        + 0x100 * wide(closed[at + 6])
-        + wide(closed[at + 7])
-}
-
-// The Saturdays and Sundays of the 64 days that begin with a weekday, as bits of a number.
-fn weekends_from(weekday: u16) -> u64
-    ensures { λ r. ⌜ every 64 (weekendBit weekday r) ≡ true ⌝ }
-{
-    match weekday {
-        0 => 0x060C183060C18306,
-        1 => 0x0C183060C183060C,
-        2 => 0x183060C183060C18,
-        3 => 0x3060C183060C1830,
-        4 => 0x60C183060C183060,
-        5 => 0xC183060C183060C1,
-        6 => 0x83060C183060C183,
-        _ => 0xFFFFFFFFFFFFFFFF,
-    }
-}
-
-// Whether no seven bits in a row are 1.
-fn no_seven(x: u64) -> bool
-    ensures { λ r. ⌜ (r ≡ true → SevenFree x) ⌝ }
-{
-    let two = x & (x >> 1);
-    let four = two & (two >> 2);
-    four & (four >> 3) == 0
-}
-
-// Whether of the 64 days from a byte on no seven in a row are closed or weekend days.
-fn word_trades(closed: &[u8; 736], at: usize, idle: u64) -> bool
-    requires { ⌜ at + 8 ≤ 736 ⌝ }
-    ensures { λ r. ⌜ (r ≡ true → SevenFree (bitOr (bytesFrom (now (closed .entry)) at 8) idle)) ⌝ }
-{
-    no_seven(word_at(closed, at) | idle)
-}
-
-// The same of the first 344 days of a year, 64 at a time: each part begins with the last eight days of the one before.
-fn words_trade(closed: &[u8; 736], first: usize, idle: u64) -> bool
-    requires { ⌜ first + 46 ≤ 736 ⌝ }
-    ensures { λ r. ⌜ (r ≡ true → (j : ℕ) → j < 6 → SevenFree (bitOr (bytesFrom (now (closed .entry)) (first + 7 * j) 8) idle)) ⌝ }
-{
-    let mut j: usize = 0;
+    let weekends = day_words::weekends_from(days::year_start(cover.first_year + k) + 6);
+    let mut window = days_before(cover, closed, k);
+    let mut j: u16 = 0;
     while j < 6 {
-        if !word_trades(closed, first + 7 * j, idle) {
+        window = day_words::moved_on(window, day_words::weeks_of(closed, k, j), 56);
+        if !day_words::no_seven(window | weekends) {
             return false;
         }
         j += 1;
     }
-    true
+    rest_trades(cover, closed, k, window)
 }
 
-// A quick look at the runs that begin in a year of the cover: those within it, and those across its first day.
-fn year_trades(cover: Cover, closed: &[u8; 736], k: u16) -> bool
-    requires { ⌜ (k < 16) × (k < cover .years) × (validCover cover ≡ true) ⌝ }
-    ensures { λ r. ⌜ (r ≡ true → YearHolds (calendarWith cover (now (closed .entry))) k) ⌝ }
-{
-    let first = 46 * (k as usize);
-    let start = days::year_start(cover.first_year + k);
-    if !words_trade(closed, first, weekends_from(days::weekday(start))) {
-        return false;
-    }
-    if !word_trades(
-        closed,
-        first + 38,
-        weekends_from(days::weekday(start + 304)),
-    ) {
-        return false;
-    }
-    runs_trade(cover, closed, start)
-}
-
-// The same of every year.
-fn all_weeks_fit(cover: Cover, closed: &[u8; 736]) -> bool
+// A quick look at all runs, in a valid cover: yes where no window has seven idle days in a row.
+fn years_trade(cover: Cover, closed: &[u8; 736]) -> bool
     requires { ⌜ validCover cover ≡ true ⌝ }
     ensures { λ r. ⌜ (r ≡ true → everyWeek (calendarWith cover (now (closed .entry))) ≡ true) ⌝ }
 {
@@ -420,19 +272,7 @@ fn all_weeks_fit(cover: Cover, closed: &[u8; 736]) -> bool
     true
 }
 
-// Every run, one after the other.
-fn all_weeks_trade(cover: Cover, closed: &[u8]) -> bool
-    ensures { λ r. ⌜ r ≡ everyWeek (calendarWith cover (now (closed .entry))) ⌝ }
-{
-    weeks_trade(
-        cover,
-        closed,
-        calendar::cover_start(cover),
-        calendar::cover_end(cover),
-    )
-}
-
-// Question 6: every run of seven days in the cover holds a trading day.
+// Question 6: every run of seven days in the cover holds a trading day. The quick look answers yes; the loop over the days answers the rest.
 pub fn every_week_trades(cal: Calendar) -> bool
     ensures { λ r. ⌜ r ≡ everyWeek cal ⌝ }
 {
@@ -440,7 +280,7 @@ pub fn every_week_trades(cal: Calendar) -> bool
     if !calendar::is_valid_cover(cover) {
         return all_weeks_trade(cover, &cal.closed);
     }
-    if all_weeks_fit(cover, &cal.closed) {
+    if years_trade(cover, &cal.closed) {
         return true;
     }
     all_weeks_trade(cover, &cal.closed)

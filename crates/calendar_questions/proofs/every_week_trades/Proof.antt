@@ -13,13 +13,13 @@ all-weeks-trade-requires c κs = tt
 returns : tie.Need-returns
 returns c = c .all-weeks-trade .ensures
 
-all-weeks-fit-requires : tie.Need-all-weeks-fit-requires
-all-weeks-fit-requires c κs =
+years-trade-requires : tie.Need-years-trade-requires
+years-trade-requires c κs =
     let at-else = c .before .before in
     said-yes (at-else .before .is-valid-cover .ensures) (at-else .if1 .left)
 
 returns-2 : tie.Need-returns-2
-returns-2 c = sym (c .before .all-weeks-fit .ensures (c .if2 .taken))
+returns-2 c = sym (c .before .years-trade .ensures (c .if2 .taken))
 
 all-weeks-trade-requires-2 : tie.Need-all-weeks-trade-requires-2
 all-weeks-trade-requires-2 c κs = tt
@@ -34,7 +34,7 @@ every-week-trades-spec =
     is-valid-cover-requires
     all-weeks-trade-requires
     returns
-    all-weeks-fit-requires
+    years-trade-requires
     returns-2
     all-weeks-trade-requires-2
     returns-3)

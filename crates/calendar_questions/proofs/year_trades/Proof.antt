@@ -1,96 +1,109 @@
-use Rattle.calendar_questions.proofs.Words.{year-within}
+use Rattle.day_words.proofs.Windows.{Next, next-first, next-weeks, year-in-cover}
 use Rattle.questions.proofs.Bools.{clash, said-yes}
 use Rattle.calendar.specs.Trading.{calendarWith}
 use Rattle.calendar.proofs.Covered.{years}
-use Rattle.days.specs.Gregorian.{weekdayOf}
-use Prim.Native.Nat.{ℕ, _+_, _-_}
+use mathlib.Core.Path.{_≡_, refl}
+use Prim.Native.Nat.{_-_, _*_, _≤_, _<_}
 use native.Mathlib.Omega.{arith}
-use mathlib.Core.Path.{refl, _∙_, ap}
-use borrow.Author.Needs.{needs}
 use Rattle.calendar_questions.proofs.year_trades.Statement.{statement}
 use Rattle.calendar_questions.proofs.year_trades.Tie as tie
+use Rattle.calendar_questions.proofs.days_before.Reads as days-before-reads
+use Rattle.calendar_questions.proofs.rest_trades.Reads as rest-trades-reads
+use Rattle.day_words.proofs.moved_on.Reads as moved-on-reads
+use Rattle.day_words.proofs.no_seven.Reads as no-seven-reads
+use Rattle.day_words.proofs.weekends_from.Reads as weekends-from-reads
+use Rattle.day_words.proofs.weeks_of.Reads as weeks-of-reads
+use Rattle.days.proofs.year_start.Reads as year-start-reads
 
-mul-first : tie.Need-mul-first
-mul-first c = omega arith
+abbrev Inv-loop : tie.InvT-loop
+Inv-loop cover closed k weekends window₀ j₀ window j = (j ≤ 6) × Next (calendarWith cover closed) k j window
 
-add-year-start : tie.Need-add-year-start
-add-year-start c = omega (arith, years _ (c .before .pre .2))
+abbrev μ-loop : tie.MeasureT-loop
+μ-loop cover closed k weekends window₀ j₀ window j = 6 - j
 
-year-start-requires : tie.Need-year-start-requires
+add-year-start : tie.Need-add-year-start Inv-loop μ-loop
+add-year-start c = omega (arith, year-in-cover (c .before .args .cover) (c .before .args .k) (c .before .pre .1) (c .before .pre .0))
+
+year-start-requires : tie.Need-year-start-requires Inv-loop μ-loop
 year-start-requires c κs = tt
 
-weekday-requires : tie.Need-weekday-requires
-weekday-requires c κs = tt
+add-weekends-from : tie.Need-add-weekends-from Inv-loop μ-loop
+add-weekends-from c = omega (arith, c .year-start .ensures)
 
-weekends-from-requires : tie.Need-weekends-from-requires
+weekends-from-requires : tie.Need-weekends-from-requires Inv-loop μ-loop
 weekends-from-requires c κs = tt
 
-words-trade-requires : tie.Need-words-trade-requires
-words-trade-requires c κs = omega (arith, c .before .before .before .before .pre .0)
+days-before-requires : tie.Need-days-before-requires Inv-loop μ-loop
+days-before-requires c κs = c .before .before .before .pre
 
-returns : tie.Need-returns
+loop-holds : tie.Need-loop-holds Inv-loop μ-loop
+loop-holds c = (omega arith, next-first _ _ _ (c .days-before .ensures))
+
+weeks-of-requires : tie.Need-weeks-of-requires Inv-loop μ-loop
+weeks-of-requires c κs = tt
+
+moved-on-requires : tie.Need-moved-on-requires Inv-loop μ-loop
+moved-on-requires c κs = tt
+
+no-seven-requires : tie.Need-no-seven-requires Inv-loop μ-loop
+no-seven-requires c κs = tt
+
+returns : tie.Need-returns Inv-loop μ-loop
 returns c = λ e. clash e refl
 
-add-word-trades : tie.Need-add-word-trades
-add-word-trades c = omega (arith, c .before .before .before .before .before .before .pre .0)
+add-j : tie.Need-add-j Inv-loop μ-loop
+add-j c = omega arith
 
-add-weekday : tie.Need-add-weekday
-add-weekday c = omega (arith, c .before .before .before .before .year-start .ensures .1)
+loop-less : tie.Need-loop-less Inv-loop μ-loop
+loop-less c = omega arith
 
-weekday-requires-2 : tie.Need-weekday-requires-2
-weekday-requires-2 c κs = tt
-
-weekends-from-requires-2 : tie.Need-weekends-from-requires-2
-weekends-from-requires-2 c κs = tt
-
-word-trades-requires : tie.Need-word-trades-requires
-word-trades-requires c κs = omega (arith, c .before .before .before .before .before .before .before .before .pre .0)
-
-returns-2 : tie.Need-returns-2
-returns-2 c = λ e. clash e refl
-
-runs-trade-requires : tie.Need-runs-trade-requires
-runs-trade-requires c κs = omega (arith, c .before .before .before .before .before .before .before .before .before .year-start .ensures .1)
-
-returns-3 : tie.Need-returns-3
-returns-3 c = λ e.
-    let at-if2 = c .before .before in
-    let at-word = at-if2 .before in
-    let at-late = at-word .before in
-    let at-weekday2 = at-late .before in
-    let at-if1 = at-weekday2 .before in
-    let at-words = at-if1 .before in
-    let at-idle = at-words .before in
-    let at-weekday = at-idle .before in
-    let at-year = at-weekday .before in
-    let start = at-year .before .before in
+loop-again : tie.Need-loop-again Inv-loop μ-loop
+loop-again c =
+    let at-moved = c .before .before in
+    let at-weeks = at-moved .before in
+    let at-loop = at-weeks .before .before in
+    let at-weekends = at-loop .before .before in
+    let start = at-weekends .before .before .before in
     let cal = calendarWith (start .args .cover) (start .args .closed .now) in
-    let y = at-year .year-start .ensures .0 in
-    record {
-      within = year-within cal (start .args .k) _ _ _ _ (start .pre .2) (start .pre .1)
-          (at-weekday .weekday .ensures ∙ ap weekdayOf y) (at-idle .weekends-from .ensures)
-          (at-weekday2 .weekday2 .ensures ∙ ap (λ (s : ℕ). weekdayOf (s + 304)) y) (at-late .weekends-from2 .ensures)
-          (at-words .words-trade .ensures (said-yes refl (at-if1 .if1 .left)))
-          (at-word .word-trades .ensures (said-yes refl (at-if2 .if2 .left)));
-      across = rw y at (c .runs-trade .ensures e);
-    }
+    let l = at-weeks .before .loop-test .taken in
+    let k : start .args .k < 16 = omega (arith, years (start .args .cover) (start .pre .1), start .pre .0) in (
+      omega arith,
+      next-weeks cal (start .args .k) (start .pre .1) (start .pre .0) (at-loop .loop .j) (at-loop .loop .window) (at-weeks .weeks-of .result) (at-moved .moved-on .result) (at-weekends .weekends-from .result) l
+          (at-loop .loop .inv .1) (at-weeks .weeks-of .ensures .0 k l) (at-moved .moved-on .ensures (omega arith) (at-weeks .weeks-of .ensures .1)) (rw (at-weekends .before .year-start .ensures .0) at (at-weekends .weekends-from .ensures)) (c .before .no-seven .ensures (said-yes refl (c .if1 .left))),
+    )
+
+rest-trades-requires : tie.Need-rest-trades-requires Inv-loop μ-loop
+rest-trades-requires c κs =
+    let at-loop = c .before in
+    let start = at-loop .before .before .before .before .before in
+    let cal = calendarWith (start .args .cover) (start .args .closed .now) in
+    let e : 56 * at-loop .loop .j ≡ 336 = omega (arith, c .loop-test .left) in
+    (start .pre .0, start .pre .1, rw e at (at-loop .loop .inv .1 .ends))
+
+returns-2 : tie.Need-returns-2 Inv-loop μ-loop
+returns-2 c = λ e u.
+    let at-loop = c .before .before in
+    let q : 56 * at-loop .loop .j ≡ 336 = omega (arith, c .before .loop-test .left) in
+    c .rest-trades .ensures e (rw q at (at-loop .loop .inv .1 .trades u))
 
 pub year-trades-spec : {M : Type 1} → statement M
 year-trades-spec =
     tie.close
     (tie.spec
-    mul-first
+    Inv-loop
+    μ-loop
     add-year-start
     year-start-requires
-    weekday-requires
+    add-weekends-from
     weekends-from-requires
-    words-trade-requires
+    days-before-requires
+    loop-holds
+    weeks-of-requires
+    moved-on-requires
+    no-seven-requires
     returns
-    add-word-trades
-    add-weekday
-    weekday-requires-2
-    weekends-from-requires-2
-    word-trades-requires
-    returns-2
-    runs-trade-requires
-    returns-3)
+    add-j
+    loop-less
+    loop-again
+    rest-trades-requires
+    returns-2)

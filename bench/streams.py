@@ -1,0 +1,118 @@
+"""Six streams of commands with their master files, made from a seed: opens, rolls
+and closes on 3 years with 15 records and on 16 years with 1,000.
+
+  python3 bench/streams.py FOLDER    a folder of FOLDER for each stream, with the
+                                     files master.bin and input
+"""
+import os
+import random
+import sys
+
+ROOT = os.path.dirname(os.path.dirname(os.path.abspath(__file__)))
+sys.path.insert(0, os.path.join(ROOT, 'tests'))
+
+import cases  # noqa: E402
+from second import listing, master, trading  # noqa: E402
+from second.terms import day_text  # noqa: E402
+
+SEED = 1
+FIRST_YEAR = 2008
+LINES = 600
+SIZES = ((3, 15), (16, 1000))  # years, records
+
+
+# A file of some years with the closures of the calendar in tests/data. A12 is an
+# option with 12 months, A13 a future, A24 an option with 24 months.
+def file_of(years, records=15):
+    with open(os.path.join(cases.DATA, 'closures-2000-2099.csv')) as lines:
+        calendar = master.calendar_from_csv(lines, FIRST_YEAR, years)
+    others = cases.many_products(1680)
+    products = [cases.item(b'A12'), cases.item(b'A13', group=b'FR01', kind=0), cases.item(b'A24', kind=2),
+                *others[-records + 3:]]
+    return master.build(calendar, sorted(products, key=lambda one: one.id))
+
+
+# The days of a file's cover on which the listing of a product is complete.
+def complete_days(calendar, item):
+    def complete(day):
+        return listing.listing_in_cover(calendar, item.group, item.kind, day)
+    first, end = trading.first_day(calendar), trading.last_day(calendar)
+    if not complete(first):
+        return range(0)
+    while first < end:  # the last of them, by halves
+        middle = (first + end + 1) // 2
+        first, end = (middle, end) if complete(middle) else (first, middle - 1)
+    return range(trading.first_day(calendar), first + 1)
+
+
+def line(letter, day, code=b''):
+    word = code.rstrip() + b' ' if code else b''
+    return letter + b' ' + word + day_text(day).encode() + b'\n'
+
+
+# Opens of any product on any day on which its listing is complete.
+def opens(file, rng, count):
+    calendar, items = master.contents(file)
+    kinds = {}
+    found = []
+    while len(found) < count:
+        item = rng.choice(list(items.values()))
+        key = (item.kind, item.group)
+        if key not in kinds:
+            kinds[key] = complete_days(calendar, item)
+        if kinds[key]:
+            found.append(line(b'O', rng.choice(kinds[key]), item.id))
+    return found
+
+
+# An open of a product on the first day, then rolls to later and later dates.
+def rolls(file, rng, count, code):
+    calendar, items = master.contents(file)
+    days = complete_days(calendar, items[code])
+    later = sorted(rng.choice(days) for _ in range(count - 1))
+    return [line(b'O', days[0], code)] + [line(b'R', day) for day in later]
+
+
+# An open of a product on the first day, then closes of any days of the cover, those
+# that can't be closed among them.
+def closes(file, rng, count, code):
+    calendar = master.contents(file)[0]
+    days = range(trading.first_day(calendar), trading.last_day(calendar) + 1)
+    return [line(b'O', days[0], code)] + [line(b'C', rng.choice(days)) for _ in range(count - 1)]
+
+
+# The same for each of some products, one after the other.
+def each(make, codes):
+    def made(file, rng, count):
+        return [one for code in codes for one in make(file, rng, count // len(codes), code)]
+    return made
+
+
+# How the lines of each stream are made. An open of 16 years costs many rolls, so
+# there is one.
+def makers(years):
+    codes = (b'A13 ', b'A12 ', b'A24 ') if years == 3 else (b'A13 ',)
+    return ('opens', opens), ('rolls', each(rolls, codes)), ('closes', each(closes, codes))
+
+
+# Each stream: its name, its file, its lines.
+def streams():
+    for years, records in SIZES:
+        file = file_of(years, records)
+        for name, make in makers(years):
+            count = LINES // 10 if (years, name) == (16, 'opens') else LINES
+            rng = random.Random(f'{SEED} {years} {name}')
+            yield f'{name}, {years} years, {records:,} records', file, make(file, rng, count)
+
+
+def main():
+    for name, file, lines in streams():
+        folder = os.path.join(sys.argv[1], name.split(' years')[0].replace(', ', '-'))
+        os.makedirs(folder, exist_ok=True)
+        for part, data in (('master.bin', file), ('input', b''.join(lines))):
+            with open(os.path.join(folder, part), 'wb') as out:
+                out.write(data)
+
+
+if __name__ == '__main__':
+    main()

@@ -1,0 +1,47 @@
+use Rattle.day_words.proofs.Words.{bytes-show}
+use Rattle.calendar.specs.Bits.{bitAt}
+use mathlib.Core.Path.{_≡_, _∙_, ap}
+use Prim.Native.Nat.{ℕ, _+_, _*_}
+use native.Mathlib.Omega.{arith}
+use borrow.Author.Needs.{needs}
+use Rattle.day_words.proofs.weeks_of.Statement.{statement}
+use Rattle.day_words.proofs.weeks_of.Tie as tie
+use Rattle.day_words.proofs.seven_at.Reads as seven-at-reads
+
+returns : tie.Need-returns
+returns c = (λ h. absurd (omega (arith, h, c .if1 .taken)), omega arith)
+
+returns-2 : tie.Need-returns-2
+returns-2 c = (λ h l. absurd (omega (arith, l, c .if2 .taken)), omega arith)
+
+mul-seven-at : tie.Need-mul-seven-at
+mul-seven-at c = search needs
+
+mul-seven-at-2 : tie.Need-mul-seven-at-2
+mul-seven-at-2 c = search needs
+
+add-seven-at : tie.Need-add-seven-at
+add-seven-at c = search needs
+
+seven-at-requires : tie.Need-seven-at-requires
+seven-at-requires c κs = search needs
+
+returns-3 : tie.Need-returns-3
+returns-3 c =
+    let start = c .before .before .before in
+    let b = start .args .maps .now in
+    let at = 46 * start .args .k + 7 * start .args .j in
+    let e : 8 * at ≡ 368 * start .args .k + 56 * start .args .j = omega arith in
+    (λ h l p q. rw (c .seven-at .ensures .0) (bytes-show b at 7 p q ∙ ap (λ (s : ℕ). bitAt b (s + p)) e), omega arith)
+
+pub weeks-of-spec : {M : Type 1} → statement M
+weeks-of-spec =
+    tie.close
+    (tie.spec
+    returns
+    returns-2
+    mul-seven-at
+    mul-seven-at-2
+    add-seven-at
+    seven-at-requires
+    returns-3)

@@ -1,0 +1,109 @@
+// Words of days: eight weeks of a year's map of closed days as one number, the first day the highest bit. The compiler reads the bytes of a word at once.
+ghost use mathlib.Core.Path.{_≡_};
+ghost use mathlib.Core.Bool.{true};
+ghost use Prim.Native.Nat.{_+_, _*_, _^_, _≤_, _<_};
+ghost use Rattle.questions.specs.Search.{every};
+ghost use Rattle.day_words.specs.Words.{Shows, bytesFrom, Weekends, weekendDay, Moved, SevenFree};
+
+fn wide(byte: u8) -> u64
+    ensures { λ r. ⌜ (r ≡ byte) × (r < 256) ⌝ }
+{
+    byte as u64
+}
+
+// Two bytes of the maps as one number.
+fn two_at(maps: &[u8; 736], at: usize) -> u64
+    requires { ⌜ at + 2 ≤ 736 ⌝ }
+    ensures { λ r. ⌜ (r ≡ bytesFrom (now (maps .entry)) at 2) × (r < 65536) ⌝ }
+{
+    0x100 * wide(maps[at]) + wide(maps[at + 1])
+}
+
+fn four_at(maps: &[u8; 736], at: usize) -> u64
+    requires { ⌜ at + 4 ≤ 736 ⌝ }
+    ensures { λ r. ⌜ (r ≡ bytesFrom (now (maps .entry)) at 4) × (r < 4294967296) ⌝ }
+{
+    0x1000000 * wide(maps[at])
+        + 0x10000 * wide(maps[at + 1])
+        + 0x100 * wide(maps[at + 2])
+        + wide(maps[at + 3])
+}
+
+fn three_at(maps: &[u8; 736], at: usize) -> u64
+    requires { ⌜ at + 3 ≤ 736 ⌝ }
+    ensures { λ r. ⌜ (r ≡ bytesFrom (now (maps .entry)) at 3) × (r < 16777216) ⌝ }
+{
+    0x100 * two_at(maps, at) + wide(maps[at + 2])
+}
+
+fn seven_at(maps: &[u8; 736], at: usize) -> u64
+    requires { ⌜ at + 7 ≤ 736 ⌝ }
+    ensures { λ r. ⌜ (r ≡ bytesFrom (now (maps .entry)) at 7) × (r < 72057594037927936) ⌝ }
+{
+    0x1000000 * four_at(maps, at) + three_at(maps, at + 4)
+}
+
+// Eight weeks of the map of year k, a word of 56 days: the j-th of six.
+pub fn weeks_of(maps: &[u8; 736], k: u16, j: u16) -> u64
+    ensures { λ r. ⌜ (k < 16 → j < 6 → Shows (now (maps .entry)) (368 * k + 56 * j) 56 r) × (r < 2 ^ 56) ⌝ }
+{
+    if 16 <= k {
+        return 0;
+    }
+    if 6 <= j {
+        return 0;
+    }
+    seven_at(maps, 46 * (k as usize) + 7 * (j as usize))
+}
+
+// The rest of the map of year k, after six times eight weeks: a word of 32 days, the last two or three of them after the year's end.
+pub fn rest_of(maps: &[u8; 736], k: u16) -> u64
+    ensures { λ r. ⌜ (k < 16 → Shows (now (maps .entry)) (368 * k + 336) 32 r) × (r < 2 ^ 32) ⌝ }
+{
+    if 16 <= k {
+        return 0;
+    }
+    four_at(maps, 46 * (k as usize) + 42)
+}
+
+// The Saturdays and Sundays of the 64 days that begin with a weekday.
+fn weekends_on(weekday: u16) -> u64
+    requires { ⌜ weekday < 7 ⌝ }
+    ensures { λ r. ⌜ every 64 (weekendDay weekday r) ≡ true ⌝ }
+{
+    match weekday {
+        0 => 0x060C183060C18306,
+        1 => 0x0C183060C183060C,
+        2 => 0x183060C183060C18,
+        3 => 0x3060C183060C1830,
+        4 => 0x60C183060C183060,
+        5 => 0xC183060C183060C1,
+        _ => 0x83060C183060C183,
+    }
+}
+
+// The Saturdays and Sundays of the 64 days from a day on.
+pub fn weekends_from(day: u16) -> u64
+    ensures { λ r. ⌜ Weekends day r ⌝ }
+{
+    weekends_on(days::weekday(day))
+}
+
+// A window of 64 days moved on by w days.
+pub fn moved_on(window: u64, next: u64, w: u64) -> u64
+    ensures { λ r. ⌜ (w < 64 → next < 2 ^ w → Moved window next w r) ⌝ }
+{
+    if 64 <= w {
+        return next;
+    }
+    (window << w) | next
+}
+
+// Whether no seven days in a row have their bit. A bit of `two` is one of two in a row, a bit of `four` of four, and two of these three days apart are seven.
+pub fn no_seven(x: u64) -> bool
+    ensures { λ r. ⌜ (r ≡ true → SevenFree x) ⌝ }
+{
+    let two = x & (x >> 1);
+    let four = two & (two >> 2);
+    four & (four >> 3) == 0
+}
