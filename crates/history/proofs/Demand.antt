@@ -21,7 +21,7 @@ use Rattle.table.specs.declared.Outcome.{Outcome}
 use Rattle.places.specs.Numbering.{isListed, numberOf, unnumbered}
 use Rattle.table.specs.Table.{listedIn, sound, openedTable}
 use Rattle.history.specs.Book.{Call, Book, bookOpened, bookAfter, bookRun, bookReplies}
-use Rattle.history.specs.History.{tableCall, tableRun, tableReplies, calendarWith, dateWith, opens, Demand3}
+use Rattle.history.specs.History.{tableCall, tableRun, tableReplies, calendarOfCalls, dateOfCalls, opens, Demand3}
 use Rattle.history.proofs.Gone.{once-apart}
 use Rattle.history.proofs.Moves.{fresh, now, present-is, number-is, given-most, numbersFirst}
 use Rattle.history.proofs.Soundness.{Opened, opened}
@@ -136,16 +136,16 @@ module _ (p : Product) (cal : Calendar) (date : ℕ) (o : Opened p cal date) whe
   listed-are : (cs : List Call) → listedIn (table cs) ≡ book cs .maturities
   listed-are cs = ap listedIn (table-is cs) ∙ table-lists p (book cs) (at cs .nu′) (at cs .inv)
 
-  calendar-at : (cs : List Call) → table cs .calendar ≡ calendarWith cal cs (tableReplies (openedTable p cal date) cs)
+  calendar-at : (cs : List Call) → table cs .calendar ≡ calendarOfCalls cal cs (tableReplies (openedTable p cal date) cs)
   unfolding bookOpened
-  calendar-at cs = ap (λ (t : Table). t .calendar) (table-is cs) ∙ calendar-run p cs start ∙ ap (calendarWith cal cs) (sym (replies-are cs))
+  calendar-at cs = ap (λ (t : Table). t .calendar) (table-is cs) ∙ calendar-run p cs start ∙ ap (calendarOfCalls cal cs) (sym (replies-are cs))
 
-  date-at : (cs : List Call) → table cs .date ≡ dateWith date cs (tableReplies (openedTable p cal date) cs)
+  date-at : (cs : List Call) → table cs .date ≡ dateOfCalls date cs (tableReplies (openedTable p cal date) cs)
   unfolding bookOpened
-  date-at cs = ap (λ (t : Table). t .date) (table-is cs) ∙ date-run p cs start ∙ ap (dateWith date cs) (sym (replies-are cs))
+  date-at cs = ap (λ (t : Table). t .date) (table-is cs) ∙ date-run p cs start ∙ ap (dateOfCalls date cs) (sym (replies-are cs))
 
   fresh-at : (cs : List Call) → unnumbered (listedIn (table cs))
-      ≡ freshOf (calendarWith cal cs (tableReplies (openedTable p cal date) cs)) (p .kind) (p .group) (dateWith date cs (tableReplies (openedTable p cal date) cs))
+      ≡ freshOf (calendarOfCalls cal cs (tableReplies (openedTable p cal date) cs)) (p .kind) (p .group) (dateOfCalls date cs (tableReplies (openedTable p cal date) cs))
   fresh-at cs =
       rw (listed-are cs, ← calendar-at cs, ← date-at cs, table-is cs, at cs .inv .numbered .listing)
       (unnumbered-is (ruleIn p (book cs)) (book cs .calendar) (at cs .nu′) (freshKeys (ruleIn p (book cs)) (book cs .calendar) (book cs .date)))

@@ -13,7 +13,7 @@ use Rattle.table.specs.declared.Table.{Table}
 use Rattle.table.specs.declared.Outcome.{Outcome}
 use Rattle.table.specs.Table.{listedIn, sound, moved, refusedWith, answered, rollCall, closeCall, openedTable}
 use Rattle.history.specs.Book.{Call, roll, close, Reply, Book, calendarAfter, dateAfter, bookOpened, bookAsks, bookMoved, bookCounts, bookAfter, bookReply, bookRun, bookReplies}
-use Rattle.history.specs.History.{tableCall, tableRun, replyOf, tableReplies, calendarWith, dateWith}
+use Rattle.history.specs.History.{tableCall, tableRun, replyOf, tableReplies, calendarOfCalls, dateOfCalls}
 use Rattle.history.proofs.Soundness.{tableOf, holds, is-sound}
 use Rattle.history.proofs.Runs.{Inv, turn-later}
 
@@ -98,19 +98,19 @@ module _ (p : Product) where
       go true e = (refl, refl)
       go false e = (rw e, rw e)
 
-  pub calendar-run : (cs : List Call) (b : Book) → bookRun (p .kind) (p .group) b cs .calendar ≡ calendarWith (b .calendar) cs (bookReplies (p .kind) (p .group) b cs)
-  unfolding bookRun bookReplies calendarWith
+  pub calendar-run : (cs : List Call) (b : Book) → bookRun (p .kind) (p .group) b cs .calendar ≡ calendarOfCalls (b .calendar) cs (bookReplies (p .kind) (p .group) b cs)
+  unfolding bookRun bookReplies calendarOfCalls
   calendar-run [] b = refl
   calendar-run (c ∷ cs) b =
       calendar-run cs (bookAfter (p .kind) (p .group) b c)
-      ∙ ap (λ (x : Calendar). calendarWith x cs (bookReplies (p .kind) (p .group) (bookAfter (p .kind) (p .group) b c) cs)) (settles b c .0)
+      ∙ ap (λ (x : Calendar). calendarOfCalls x cs (bookReplies (p .kind) (p .group) (bookAfter (p .kind) (p .group) b c) cs)) (settles b c .0)
 
-  pub date-run : (cs : List Call) (b : Book) → bookRun (p .kind) (p .group) b cs .date ≡ dateWith (b .date) cs (bookReplies (p .kind) (p .group) b cs)
-  unfolding bookRun bookReplies dateWith
+  pub date-run : (cs : List Call) (b : Book) → bookRun (p .kind) (p .group) b cs .date ≡ dateOfCalls (b .date) cs (bookReplies (p .kind) (p .group) b cs)
+  unfolding bookRun bookReplies dateOfCalls
   date-run [] b = refl
   date-run (c ∷ cs) b =
       date-run cs (bookAfter (p .kind) (p .group) b c)
-      ∙ ap (λ (x : ℕ). dateWith x cs (bookReplies (p .kind) (p .group) (bookAfter (p .kind) (p .group) b c) cs)) (settles b c .1)
+      ∙ ap (λ (x : ℕ). dateOfCalls x cs (bookReplies (p .kind) (p .group) (bookAfter (p .kind) (p .group) b c) cs)) (settles b c .1)
 
   -- the opened table holds what the opened book holds
   pub opened-in : (cal : Calendar) (date : ℕ) → openedTable p cal date ≡ tableIn p (bookOpened (p .kind) (p .group) cal date)

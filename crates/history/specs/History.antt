@@ -41,16 +41,16 @@ tableReplies t [] = []
 tableReplies t (c ∷ cs) = replyOf (tableCall t c) ∷ tableReplies (tableCall t c .table) cs
 
 -- 'the file's calendar with the accepted closures'
-unfoldable pub calendarWith : Calendar → List Call → List Reply → Calendar
-calendarWith cal [] rs = cal
-calendarWith cal (c ∷ cs) [] = cal
-calendarWith cal (c ∷ cs) (r ∷ rs) = calendarWith (cond (eqb (r .refusal) 0) (calendarAfter cal c) cal) cs rs
+unfoldable pub calendarOfCalls : Calendar → List Call → List Reply → Calendar
+calendarOfCalls cal [] rs = cal
+calendarOfCalls cal (c ∷ cs) [] = cal
+calendarOfCalls cal (c ∷ cs) (r ∷ rs) = calendarOfCalls (cond (eqb (r .refusal) 0) (calendarAfter cal c) cal) cs rs
 
 -- 'the date of the last accepted roll (or the opening)'
-unfoldable pub dateWith : ℕ → List Call → List Reply → ℕ
-dateWith date [] rs = date
-dateWith date (c ∷ cs) [] = date
-dateWith date (c ∷ cs) (r ∷ rs) = dateWith (cond (eqb (r .refusal) 0) (dateAfter date c) date) cs rs
+unfoldable pub dateOfCalls : ℕ → List Call → List Reply → ℕ
+dateOfCalls date [] rs = date
+dateOfCalls date (c ∷ cs) [] = date
+dateOfCalls date (c ∷ cs) (r ∷ rs) = dateOfCalls (cond (eqb (r .refusal) 0) (dateAfter date c) date) cs rs
 
 -- what an accepted open leaves: 7 holds of the product, the cover has '1 to 16 years from 2000 to 2099', and 5, 6, 11 and 16 are answered yes
 unfoldable pub opens : Product → Calendar → ℕ → Bool
@@ -79,11 +79,11 @@ module _ (p : Product) (cal : Calendar) (date : ℕ) where
 
   -- 'the file's calendar with the accepted closures'
   abbrev pub calendarThen : List Call → Calendar
-  calendarThen cs = calendarWith cal cs (answers cs)
+  calendarThen cs = calendarOfCalls cal cs (answers cs)
 
   -- 'the date of the last accepted roll (or the opening)'
   abbrev pub dateThen : List Call → ℕ
-  dateThen cs = dateWith date cs (answers cs)
+  dateThen cs = dateOfCalls date cs (answers cs)
 
   -- a month is listed after some calls
   abbrev pub listedThen : List Call → ℕ → Bool
