@@ -132,3 +132,13 @@ closeAsks t day =
 -- 'Close marks one day closed'
 unfoldable pub closeCall : Table → ℕ → Outcome
 closeCall t day = answered t (closeAsks t day) (moved t (closeDay (t .calendar) day) (t .date))
+
+-- only the code needs it: the same table on another date, no month entered or left
+abbrev pub keptOn : Table → ℕ → Outcome
+keptOn t date =
+    record {
+      refusal = 0;
+      table = record { product = t .product; calendar = t .calendar; date = date; maturities = t .maturities; given = t .given };
+      entered = 0;
+      left = 0;
+    }

@@ -5,10 +5,12 @@ use product::Product;
 ghost use mathlib.Core.Path.{_≡_};
 ghost use mathlib.Core.Bool.{_&&_, cond};
 ghost use Prim.Native.Nat.{_≤_};
-ghost use lib.ListN.{take};
+ghost use lib.ListN.{length, take};
 ghost use Rattle.places.specs.Numbering.{isListed};
-ghost use Rattle.listing.specs.Months.{placesOfKind, allInCover};
-ghost use Rattle.table.specs.Table.{listedIn, listsFresh, listingSound, sound, movedTo, moved, refusedWith, zeroTable, openedWith, openCall, rollCall, closeCall};
+ghost use lib.Dec.{eqb};
+ghost use Rattle.listing.specs.Rules.{front};
+ghost use Rattle.listing.specs.Months.{placesOfKind, ruleOf, allInCover};
+ghost use Rattle.table.specs.Table.{listedIn, listsFresh, listingSound, sound, movedTo, moved, keptOn, refusedWith, zeroTable, openedWith, openCall, rollCall, closeCall};
 
 // A product, its calendar, a date, up to 15 maturities by rising month, and the count of numbers given.
 pub struct Table {
@@ -193,6 +195,37 @@ fn relisted(t: Table, cal: Calendar, date: u16) -> Outcome
     moved_to(t, cal, date, fresh)
 }
 
+// Whether the front month is the same on a date as on the table's date.
+fn front_stays(t: Table, date: u16) -> bool
+    ensures { λ r. ⌜ r ≡ eqb (front (ruleOf (t .calendar) (t .product .kind) (t .product .group)) (t .calendar) (t .date)) (front (ruleOf (t .calendar) (t .product .kind) (t .product .group)) (t .calendar) date) ⌝ }
+{
+    let p = t.product;
+    let group = p.group;
+    listing::front_month(t.calendar, group, t.date) == listing::front_month(t.calendar, group, date)
+}
+
+// The same table on another date: no month entered or left.
+fn kept(t: Table, date: u16) -> Outcome
+    ensures { λ r. ⌜ (r ≡ keptOn t date) × (length (t .maturities) ≡ 15) ⌝ }
+{
+    let p = t.product;
+    let cal = t.calendar;
+    let maturities = t.maturities;
+    let table = Table {
+        product: p,
+        calendar: cal,
+        date: date,
+        maturities: maturities,
+        given: t.given,
+    };
+    Outcome {
+        refusal: 0,
+        table: table,
+        entered: 0,
+        left: 0,
+    }
+}
+
 impl Table {
     // The table of the product with an id, on a date. What stood in the table before plays no part.
     pub fn open(self, file: &[u8], id: [u8; 4], date: u16) -> Outcome
@@ -221,6 +254,9 @@ impl Table {
         }
         if date < self.date {
             return refused(self, 12);
+        }
+        if front_stays(self, date) {
+            return kept(self, date);
         }
         relisted(self, self.calendar, date)
     }
