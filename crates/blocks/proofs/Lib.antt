@@ -1,2 +1,3 @@
 pub mod Files
 pub mod Counting
+pub mod Zeros

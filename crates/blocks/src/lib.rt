@@ -1,6 +1,7 @@
 // The blocks of a master file, their checks and their headers: questions 1 to 3.
 ghost use mathlib.Core.Path.{_≡_};
-ghost use Prim.Native.Nat.{_<_};
+ghost use Prim.Native.Nat.{_+_, _≤_, _<_};
+ghost use lib.Dec.{eqb};
 ghost use lib.ListN.{length, getD};
 ghost use Rattle.blocks.specs.Blocks.{blockCount, blockOf, numberAt, zeros, weightedSum, checkRight, blockKindRight, headerRight, lengthRight, checksRight, headersRight};
 
@@ -28,8 +29,8 @@ pub fn number_at(bytes: &[u8], at: u16) -> usize
     256 * wide(byte_at(bytes, first)) + wide(byte_at(bytes, first + 1))
 }
 
-// Whether n bytes from a byte on are zero.
-pub fn are_zero(bytes: &[u8], at: u16, n: u16) -> bool
+// Whether bytes are zero, each by itself; one past the end counts as 0.
+fn each_zero(bytes: &[u8], at: u16, n: u16) -> bool
     ensures { λ r. ⌜ r ≡ zeros (now (bytes .entry)) at n ⌝ }
 {
     let first = at as usize;
@@ -42,6 +43,32 @@ pub fn are_zero(bytes: &[u8], at: u16, n: u16) -> bool
         i += 1;
     }
     true
+}
+
+// The bits that some bytes have together; the compiler reads many bytes at once.
+fn bits_of(bytes: &[u8], first: usize, count: usize) -> u8
+    requires { ⌜ first + count ≤ length (now bytes) ⌝ }
+    ensures { λ r. ⌜ eqb r 0 ≡ zeros (now (bytes .entry)) first count ⌝ }
+{
+    let mut bits: u8 = 0;
+    let mut i: usize = 0;
+    while i < count {
+        bits = bits | bytes[first + i];
+        i += 1;
+    }
+    bits
+}
+
+// Whether n bytes from a byte on are zero.
+pub fn are_zero(bytes: &[u8], at: u16, n: u16) -> bool
+    ensures { λ r. ⌜ r ≡ zeros (now (bytes .entry)) at n ⌝ }
+{
+    let first = at as usize;
+    let count = n as usize;
+    if bytes.len() < first + count {
+        return each_zero(bytes, at, n);
+    }
+    bits_of(bytes, first, count) == 0
 }
 
 // A block of the file; no bytes where the file has no such block.

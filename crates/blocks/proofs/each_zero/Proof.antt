@@ -8,8 +8,8 @@ use lib.Dec.{eqb}
 use Rattle.questions.specs.Search.{every}
 use Rattle.questions.proofs.Search.{every-none, every-more, every-not}
 use Rattle.blocks.specs.Blocks.{zeros}
-use Rattle.blocks.proofs.are_zero.Statement.{statement}
-use Rattle.blocks.proofs.are_zero.Tie as tie
+use Rattle.blocks.proofs.each_zero.Statement.{statement}
+use Rattle.blocks.proofs.each_zero.Tie as tie
 
 abbrev Inv-loop : tie.InvT-loop
 Inv-loop bytes at n first count i₀ i = (i ≤ n) × (every i (λ j. eqb (getD bytes (at + j) 0) 0) ≡ true)
@@ -45,8 +45,8 @@ returns-2 c =
     let e : c .before .loop .i ≡ c .before .before .before .args .n = omega arith in
     sym (rw e at (c .before .loop .inv .1))
 
-pub are-zero-spec : {M : Type 1} → statement M
-are-zero-spec =
+pub each-zero-spec : {M : Type 1} → statement M
+each-zero-spec =
     tie.close
     (tie.spec
     Inv-loop
