@@ -55,10 +55,10 @@ fn id_rises(a: [u8; 4], b: [u8; 4]) -> bool
 }
 
 // Whether a place holds no record, or no record comes before it, or its id is greater than that of the last record before it.
-fn follows(file: &[u8], p: usize, last: usize) -> bool
-    ensures { λ r. ⌜ r ≡ (not (isRecord (now (file .entry)) p) || leb (placeCount (now (file .entry))) last || idRises (idAt (now (file .entry)) last) (idAt (now (file .entry)) p)) ⌝ }
+fn follows(file: &[u8], p: usize, last: usize, holds: bool) -> bool
+    ensures { λ r. ⌜ r ≡ (not holds || leb (placeCount (now (file .entry))) last || idRises (idAt (now (file .entry)) last) (idAt (now (file .entry)) p)) ⌝ }
 {
-    if !is_record(file, p) {
+    if !holds {
         return true;
     }
     if 15 * (file.len() / 512) <= last {
@@ -68,10 +68,10 @@ fn follows(file: &[u8], p: usize, last: usize) -> bool
 }
 
 // The last place with a record after one more place was walked.
-fn last_record(file: &[u8], p: usize, last: usize) -> usize
-    ensures { λ r. ⌜ r ≡ cond (isRecord (now (file .entry)) p) p last ⌝ }
+fn last_record(p: usize, last: usize, holds: bool) -> usize
+    ensures { λ r. ⌜ r ≡ cond holds p last ⌝ }
 {
-    if is_record(file, p) {
+    if holds {
         return p;
     }
     last
@@ -85,10 +85,11 @@ pub fn ids_rise(file: &[u8]) -> bool
     let mut last = places;
     let mut p: usize = 0;
     while p < places {
-        if !follows(file, p, last) {
+        let holds = is_record(file, p);
+        if !follows(file, p, last, holds) {
             return false;
         }
-        last = last_record(file, p, last);
+        last = last_record(p, last, holds);
         p += 1;
     }
     true

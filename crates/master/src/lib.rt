@@ -1,4 +1,5 @@
 // The master file: questions 1 to 9, and the products that it holds.
+use calendar::Calendar;
 use product::Kind;
 use product::KindAnswer;
 use product::Product;
@@ -7,7 +8,7 @@ ghost use mathlib.Core.Bool.{true};
 ghost use Prim.Native.Nat.{_+_, _*_, _≤_, _<_};
 ghost use Rattle.questions.specs.Questions.{firstNo};
 ghost use Rattle.blocks.specs.Blocks.{blockCount};
-ghost use Rattle.years.specs.Calendars.{orderRight, calendarsClean};
+ghost use Rattle.years.specs.Calendars.{orderRight, calendarOf, calendarsClean};
 ghost use Rattle.master.specs.Products.{sameId, kindOr, productFrom, productAt};
 ghost use Rattle.master.specs.Load.{loadAsks, loadCall, loadAnswer, hasId, placeFrom, placeOf, foundAt, findCall, findAnswer};
 
@@ -42,13 +43,12 @@ pub enum Found {
     Nothing,
 }
 
-// Question 5, of a file that 4 accepts: its calendar is clean, and what follows the maps is zero.
-fn calendars_clean(file: &[u8]) -> bool
-    requires { ⌜ orderRight (now file) ≡ true ⌝ }
+// Question 5, of a file that 4 accepts and its calendar: the calendar is clean, and what follows the maps is zero.
+fn calendars_clean(file: &[u8], cal: Calendar) -> bool
+    requires { ⌜ (orderRight (now file) ≡ true) × (cal ≡ calendarOf (now file)) ⌝ }
     ensures { λ r. ⌜ r ≡ calendarsClean (now (file .entry)) ⌝ }
 {
-    calendar_questions::is_clean(years::calendar_of(file))
-        & years::tails_zero(file, years::year_count(file))
+    calendar_questions::is_clean(cal) & years::tails_zero(file, years::year_count(file))
 }
 
 // The number of the first of questions 1 to 8 answered no, 0 where there is none.
@@ -67,10 +67,11 @@ fn first_refusal(file: &[u8]) -> u8
     if !years::order_right(file) {
         return 4;
     }
-    if !calendars_clean(file) {
+    let cal = years::calendar_of(file);
+    if !calendars_clean(file, cal) {
         return 5;
     }
-    if !years::weeks_right(file) {
+    if !calendar_questions::every_week_trades(cal) {
         return 6;
     }
     if !records::products_right(file) {

@@ -1,15 +1,11 @@
 use Prim.Native.Nat.{_-_}
-use borrow.Author.Tests.{le-leb, lt-leb}
-use Rattle.questions.proofs.Bools.{said-no, said-yes}
+use borrow.Author.Tests.{not-true, not-false, le-leb, lt-leb}
 use borrow.Author.Needs.{needs}
 use Rattle.ids.proofs.follows.Statement.{statement}
 use Rattle.ids.proofs.follows.Tie as tie
 
-is-record-requires : tie.Need-is-record-requires
-is-record-requires c κs = tt
-
 returns : tie.Need-returns
-returns c = simp (said-no (c .before .is-record .ensures) (c .if1 .taken))
+returns c = simp (not-true (c .before .before .args .holds) (c .if1 .taken))
 
 mul-if2 : tie.Need-mul-if2
 mul-if2 c = search needs
@@ -17,7 +13,7 @@ mul-if2 c = search needs
 returns-2 : tie.Need-returns-2
 returns-2 c =
     let d = c .before in
-    simp (said-yes (d .before .is-record .ensures) (d .if1 .left), le-leb _ _ (c .if2 .taken))
+    simp (not-false (d .before .before .args .holds) (d .if1 .left), le-leb _ _ (c .if2 .taken))
 
 id-at-requires : tie.Need-id-at-requires
 id-at-requires c κs = tt
@@ -32,13 +28,12 @@ returns-3 : tie.Need-returns-3
 returns-3 c =
     let e = c .before .before .before in
     let d = e .before in
-    simp (said-yes (d .before .is-record .ensures) (d .if1 .left), lt-leb _ _ (e .if2 .left), c .id-rises .ensures, c .before .id-at2 .ensures, c .before .before .id-at .ensures)
+    simp (not-false (d .before .before .args .holds) (d .if1 .left), lt-leb _ _ (e .if2 .left), c .id-rises .ensures, c .before .id-at2 .ensures, c .before .before .id-at .ensures)
 
 pub follows-spec : {M : Type 1} → statement M
 follows-spec =
     tie.close
     (tie.spec
-    is-record-requires
     returns
     mul-if2
     returns-2

@@ -19,12 +19,17 @@ mul-places c = omega arith
 loop-holds : tie.Need-loop-holds Inv-loop μ-loop
 loop-holds c = walk-start _ _
 
+is-record-requires : tie.Need-is-record-requires Inv-loop μ-loop
+is-record-requires c κs = tt
+
 follows-requires : tie.Need-follows-requires Inv-loop μ-loop
 follows-requires c κs = tt
 
 returns : tie.Need-returns Inv-loop μ-loop
 unfolding idsRise
-returns c = sym (walk-fails _ _ _ _ (c .before .before .before .loop .inv) (omega arith) (said-no (c .before .follows .ensures) (c .if1 .taken)))
+returns c =
+    let at-is-record = c .before .before in
+    sym (walk-fails _ _ _ _ (at-is-record .before .before .loop .inv) (omega arith) (rw (at-is-record .is-record .ensures) at (said-no (c .before .follows .ensures) (c .if1 .taken))))
 
 last-record-requires : tie.Need-last-record-requires Inv-loop μ-loop
 last-record-requires c κs = tt
@@ -37,8 +42,10 @@ loop-less c = omega arith
 
 loop-again : tie.Need-loop-again Inv-loop μ-loop
 loop-again c =
-    walk-step _ _ _ _ (c .before .before .before .before .loop .inv) (omega arith) _ (c .last-record .ensures)
-    (said-yes (c .before .before .follows .ensures) (c .before .if1 .left))
+    let at-is-record = c .before .before .before in
+    let e = at-is-record .is-record .ensures in
+    walk-step _ _ _ _ (at-is-record .before .before .loop .inv) (omega arith) _ (rw e at (c .last-record .ensures))
+    (rw e at (said-yes (c .before .before .follows .ensures) (c .before .if1 .left)))
 
 returns-2 : tie.Need-returns-2 Inv-loop μ-loop
 unfolding idsRise
@@ -52,6 +59,7 @@ ids-rise-spec =
     μ-loop
     mul-places
     loop-holds
+    is-record-requires
     follows-requires
     returns
     last-record-requires
