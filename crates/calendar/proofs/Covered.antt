@@ -1,12 +1,12 @@
 -- What a day in the cover gives: its year, and the slot of its bit.
 -- Assumes nothing.
 use mathlib.Core.Path.{_≡_, _∙_, sym, ap}
-use mathlib.Core.Bool.{true, false}
+use mathlib.Core.Bool.{true, false, _&&_}
 use Prim.Native.Nat.{ℕ, _+_, _-_, _/_, _%_, _≤_, _<_}
 use native.Mathlib.Omega.{arith}
-use lib.Dec.{ltb}
-use borrow.Author.Tests.{leb-true, ltb-true, lt-ltb, le-ltb}
-use Rattle.questions.proofs.Bools.{both}
+use lib.Dec.{leb, ltb}
+use borrow.Author.Tests.{leb-true, le-leb, ltb-true, lt-ltb, le-ltb}
+use Rattle.questions.proofs.Bools.{is-false, same-test, both, and-both}
 use Rattle.days.specs.Gregorian.{weekdayOf}
 use Rattle.days.specs.Dates.{yearOf, yearStart, dayInYear}
 use Rattle.days.proofs.Years.{in-year, in-year-below, year-from, year-until, year-start-le, year-start-most, year-start-past, year-started}
@@ -94,3 +94,24 @@ slot-same c d e v w q =
     let s : yearStart (yearOf d) ≡ yearStart (yearOf e) = ap yearStart y in
     let n : d - yearStart (yearOf d) ≡ e - yearStart (yearOf e) = sym (slot-day c d v) ∙ ap (λ (s : ℕ). s % 368) q ∙ slot-day c e w in
     omega (arith, year-started d, year-started e)
+
+-- a day is in the cover by its year
+pub covers-past : (c : Cover) (d : ℕ) → 36525 ≤ d → inCover c d ≡ false
+covers-past c d h = is-false (inCover c d) (λ e. absurd (omega (arith, h, covered c d e .day)))
+
+pub covers-early : (c : Cover) (d : ℕ) → yearOf d < c .«first_year» → inCover c d ≡ false
+covers-early c d h = is-false (inCover c d) (λ e. absurd (omega (arith, h, covered c d e .year-low)))
+
+pub covers-is : (c : Cover) (d : ℕ) → d < 36525 → c .«first_year» ≤ yearOf d → ltb (yearOf d - c .«first_year») (c .years) ≡ inCover c d
+unfolding inCover coverStart coverEnd
+covers-is c d l h =
+    same-test _ _
+    (λ e.
+    let y : yearOf d - c .«first_year» < c .years = ltb-true (yearOf d - c .«first_year») (c .years) e in
+    let v = in-year d l in
+    and-both (le-leb (yearStart (c .«first_year»)) d (omega (arith, v .start, year-start-le (c .«first_year») (yearOf d) h)))
+    (lt-ltb d (yearStart (c .«first_year» + c .years)) (omega (arith, v .end, year-start-le (yearOf d + 1) (c .«first_year» + c .years) (omega arith)))))
+    (λ e. let v = covered c d (fold e) in lt-ltb (yearOf d - c .«first_year») (c .years) (omega (arith, v .year-high, v .year-low)))
+  where
+    fold : (leb (yearStart (c .«first_year»)) d && ltb d (yearStart (c .«first_year» + c .years))) ≡ true → inCover c d ≡ true
+    fold e = e

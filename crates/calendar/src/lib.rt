@@ -103,11 +103,26 @@ pub fn is_closed(cal: Calendar, day: u16) -> bool
     (byte >> (7 - slot % 8)) % 2 == 1
 }
 
+// The same by the day's year, which its slot needs too.
+fn has_year_of(cover: Cover, day: u16) -> bool
+    ensures { λ r. ⌜ r ≡ inCover cover day ⌝ }
+{
+    if 36525 <= day {
+        return false;
+    }
+    let year = days::year_of(day);
+    let first = cover.first_year;
+    if year < first {
+        return false;
+    }
+    year - first < cover.years
+}
+
 // Whether a day is a trading day, by the cover and the lent maps.
 pub fn is_trading_day_in(cover: Cover, closed: &[u8], day: u16) -> bool
     ensures { λ r. ⌜ r ≡ tradingDay (calendarWith cover (now (closed .entry))) day ⌝ }
 {
-    if !in_cover(cover, day) {
+    if !has_year_of(cover, day) {
         return false;
     }
     if 5 <= days::weekday(day) {

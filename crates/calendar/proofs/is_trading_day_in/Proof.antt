@@ -10,19 +10,19 @@ use borrow.Author.Needs.{needs}
 use Rattle.calendar.proofs.is_trading_day_in.Statement.{statement}
 use Rattle.calendar.proofs.is_trading_day_in.Tie as tie
 
-in-cover-requires : tie.Need-in-cover-requires
-in-cover-requires c κs = tt
+has-year-of-requires : tie.Need-has-year-of-requires
+has-year-of-requires c κs = tt
 
 returns : tie.Need-returns
 unfolding tradingDay
-returns c = simp (said-no (c .before .in-cover .ensures) (c .if1 .taken))
+returns c = simp (said-no (c .before .has-year-of .ensures) (c .if1 .taken))
 
 weekday-requires : tie.Need-weekday-requires
 weekday-requires c κs = tt
 
 returns-2 : tie.Need-returns-2
 unfolding tradingDay
-returns-2 c = simp (said-yes (c .before .before .before .in-cover .ensures) (c .before .before .if1 .left), le-ltb _ _ (rw (c .before .weekday .ensures) at (c .if2 .taken)))
+returns-2 c = simp (said-yes (c .before .before .before .has-year-of .ensures) (c .before .before .if1 .left), le-ltb _ _ (rw (c .before .weekday .ensures) at (c .if2 .taken)))
 
 slot-of-requires : tie.Need-slot-of-requires
 slot-of-requires c κs = tt
@@ -34,7 +34,7 @@ returns-3 c =
     let at-if1 = at-if2 .before .before in
     let start = at-if1 .before .before .before in
     simp (
-      said-yes (at-if1 .before .in-cover .ensures) (at-if1 .if1 .left),
+      said-yes (at-if1 .before .has-year-of .ensures) (at-if1 .if1 .left),
       lt-ltb _ _ (rw (at-if2 .before .weekday .ensures) at (at-if2 .if2 .left)),
       bit-past (start .args .closed .now) (slotOf (start .args .cover) (start .args .day)) (omega (arith, c .before .slot-of .ensures)),
     )
@@ -56,13 +56,13 @@ unfolding tradingDay closedOn bitAt
 returns-4 c =
     let at-if2 = c .before .before .before in
     let at-if1 = at-if2 .before .before in
-    simp (said-yes (at-if1 .before .in-cover .ensures) (at-if1 .if1 .left), lt-ltb _ _ (rw (at-if2 .before .weekday .ensures) at (at-if2 .if2 .left)), sym (c .before .before .slot-of .ensures))
+    simp (said-yes (at-if1 .before .has-year-of .ensures) (at-if1 .if1 .left), lt-ltb _ _ (rw (at-if2 .before .weekday .ensures) at (at-if2 .if2 .left)), sym (c .before .before .slot-of .ensures))
 
 pub is-trading-day-in-spec : {M : Type 1} → statement M
 is-trading-day-in-spec =
     tie.close
     (tie.spec
-    in-cover-requires
+    has-year-of-requires
     returns
     weekday-requires
     returns-2
