@@ -91,14 +91,21 @@ pub fn length_right(file: &[u8]) -> bool
     (n % 512 == 0) & (1024 <= n) & (n <= 65536)
 }
 
-// The sum of each of the first 510 bytes times its place from 1.
-fn weighted_sum(bytes: &[u8]) -> usize
+fn weight(byte: u8) -> u32
+    ensures { λ r. ⌜ (r ≡ byte) × (r < 256) ⌝ }
+{
+    byte as u32
+}
+
+// The sum of each of the first 510 bytes of a block times its place from 1.
+fn weighted_sum(bytes: &[u8]) -> u32
+    requires { ⌜ length (now bytes) ≡ 512 ⌝ }
     ensures { λ r. ⌜ r ≡ weightedSum (now (bytes .entry)) 510 ⌝ }
 {
-    let mut sum: usize = 0;
-    let mut i: usize = 0;
+    let mut sum: u32 = 0;
+    let mut i: u32 = 0;
     while i < 510 {
-        let byte = wide(byte_at(bytes, i));
+        let byte = weight(bytes[i as usize]);
         sum += (i + 1) * byte;
         i += 1;
     }
@@ -107,10 +114,11 @@ fn weighted_sum(bytes: &[u8]) -> usize
 
 // Whether the check of a block is right.
 fn check_right(file: &[u8], k: usize) -> bool
+    requires { ⌜ k < blockCount (now file) ⌝ }
     ensures { λ r. ⌜ r ≡ checkRight (blockOf (now (file .entry)) k) ⌝ }
 {
     let b = block_at(file, k);
-    weighted_sum(b) % 65521 == number_at(b, 510)
+    (weighted_sum(b) % 65521) as usize == number_at(b, 510)
 }
 
 // Question 2.

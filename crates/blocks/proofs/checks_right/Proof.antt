@@ -20,7 +20,7 @@ loop-holds : tie.Need-loop-holds Inv-loop μ-loop
 loop-holds c = (omega arith, every-none _)
 
 check-right-requires : tie.Need-check-right-requires Inv-loop μ-loop
-check-right-requires c κs = tt
+check-right-requires c κs = c .loop-test .taken
 
 returns : tie.Need-returns Inv-loop μ-loop
 unfolding checksRight

@@ -5,6 +5,7 @@ use Rattle.blocks.specs.Blocks.{weightedSum}
 use Rattle.blocks.proofs.Files.{term-most, weighted-more}
 use Rattle.blocks.proofs.weighted_sum.Statement.{statement}
 use Rattle.blocks.proofs.weighted_sum.Tie as tie
+use Rattle.blocks.proofs.weight.Reads as weight-reads
 
 abbrev Inv-loop : tie.InvT-loop
 Inv-loop bytes sum₀ i₀ sum i = (i ≤ 510) × (sum ≤ 130050 * i) × (sum ≡ weightedSum bytes i)
@@ -12,18 +13,21 @@ Inv-loop bytes sum₀ i₀ sum i = (i ≤ 510) × (sum ≤ 130050 * i) × (sum �
 abbrev μ-loop : tie.MeasureT-loop
 μ-loop bytes sum₀ i₀ sum i = 510 - i
 
-small : (c : tie.After-wide Inv-loop μ-loop) → (c .before .before .before .loop .i + 1) * c .wide .result ≤ 130050
+small : (c : tie.After-weight Inv-loop μ-loop) → (c .before .before .before .loop .i + 1) * c .weight .result ≤ 130050
 small c = term-most _ _ (omega arith) (omega arith)
 
 loop-holds : tie.Need-loop-holds Inv-loop μ-loop
 unfolding weightedSum
 loop-holds c = (omega arith, omega arith, refl)
 
-byte-at-requires : tie.Need-byte-at-requires Inv-loop μ-loop
-byte-at-requires c κs = tt
+cast-weight : tie.Need-cast-weight Inv-loop μ-loop
+cast-weight c = omega arith
 
-wide-requires : tie.Need-wide-requires Inv-loop μ-loop
-wide-requires c κs = tt
+shared-slice-read-weight : tie.Need-shared-slice-read-weight Inv-loop μ-loop
+shared-slice-read-weight c = omega (arith, c .before .before .before .before .pre)
+
+weight-requires : tie.Need-weight-requires Inv-loop μ-loop
+weight-requires c κs = tt
 
 add-sum : tie.Need-add-sum Inv-loop μ-loop
 add-sum c = omega arith
@@ -43,7 +47,7 @@ loop-less c = omega arith
 loop-again : tie.Need-loop-again Inv-loop μ-loop
 loop-again c =
     let l = c .before .before .before .loop in
-    (omega arith, omega (arith, small c), rw (weighted-more, ← l .inv .2, c .wide .ensures .0, c .before .byte-at .ensures))
+    (omega arith, omega (arith, small c), rw (weighted-more, ← l .inv .2, c .weight .ensures .0))
 
 returns : tie.Need-returns Inv-loop μ-loop
 returns c =
@@ -57,8 +61,9 @@ weighted-sum-spec =
     Inv-loop
     μ-loop
     loop-holds
-    byte-at-requires
-    wide-requires
+    cast-weight
+    shared-slice-read-weight
+    weight-requires
     add-sum
     mul-sum
     add-sum-2
