@@ -164,7 +164,7 @@ fn moved_to(t: Table, cal: Calendar, date: u16, fresh: [Maturity; 15]) -> Outcom
     let entered = places::count_missing(fresh, old, kind);
     let left = places::count_missing(old, fresh, kind);
     let maturities = places::renumber(old, fresh, kind, t.given);
-    let table = Table {
+    let moved = Table {
         product: p,
         calendar: cal,
         date: date,
@@ -173,7 +173,7 @@ fn moved_to(t: Table, cal: Calendar, date: u16, fresh: [Maturity; 15]) -> Outcom
     };
     Outcome {
         refusal: 0,
-        table: table,
+        table: moved,
         entered: entered,
         left: left,
     }
