@@ -333,8 +333,8 @@ def field_cases():
 # 7: "Is every record, and all that must be zero in its block, as stated?"
 def record_cases():
     for place, block in PRODUCTS:
-        yield f'q7-first-record-of-{place}-products', six(('bytes', block, 28, b'\4'))
-        yield f'q7-last-record-of-{place}-products', six(('bytes', block, 60, b'\4'))
+        yield f'q7-first-record-of-{place}-products', six(('bytes', block, 28, b'\xff'))
+        yield f'q7-last-record-of-{place}-products', six(('bytes', block, 60, b'\xff'))
         yield f'q7-unused-record-of-{place}-products', six(('bytes', block, 80, b'\1'))
         yield f'q7-byte-509-of-{place}-products', six(('bytes', block, 509, b'\1'))
     for offset in (495, 496):
@@ -421,12 +421,36 @@ def many_fault_cases():
         yield f'q{low}-to-8', six(*damages, *([LENGTH] if low == 1 else []))
 
 
+# ---- Futures of 2005 ----
+
+# 02, note 1: "The [..] group digit of kind 4 [is that] of a future; question 7 now
+# admits 4." Kind 5 and the digits 1 and 2 of kind 4 are refused.
+def kind_4_cases():
+    futures = [item(b'A', group=b'FR01', kind=4), item(b'AXA', group=b'IT01', kind=4),
+               item(b'B', group=b'AA00', kind=4), item(b'B1', group=b'ZZ09', kind=4, size=65535)]
+    yield 'ok-kind-4', small(products=futures)
+    yield 'ok-kind-4-among-others', master.build(
+        Calendar(2008, 3, GOOD_FRIDAY), [*SMALL_PRODUCTS, *(replace(one, id=b'Z%c  ' % one.id[0])
+                                                             for one in futures[1:3])], 2)
+    for place, block in PRODUCTS:
+        yield f'ok-kind-4-in-{place}-products', six(('bytes', block, 20, b'FR01'),
+                                                    ('bytes', block, 28, b'\4'))
+    for group in (b'FR11', b'IT11', b'FR21', b'FR/1', b'FR0:'):
+        yield (f'q7-kind-4-group-{group.hex()}',
+               small(products=[item(b'A', group=group, kind=4)]))
+    for group in (b'FR01', b'FR11'):
+        for kind in (5, 255):
+            yield (f'q7-kind-{kind}-group-{group.hex()}',
+                   small(products=[item(b'A', group=group, kind=kind)]))
+
+
 # ---- All cases ----
 
 # Every case in turn: (name, file).
 def cases():
     for part in (accepted, length_cases, check_cases, header_cases, order_cases, clean_cases,
-                 week_cases, field_cases, record_cases, id_cases, pair_cases, many_fault_cases):
+                 week_cases, field_cases, record_cases, id_cases, pair_cases, many_fault_cases,
+                 kind_4_cases):
         yield from part()
 
 

@@ -227,7 +227,7 @@ def last_day_lines(calendar, group):
 # not, then month, day and number 0 for each of 15 places.
 def listing_lines(calendar, group, kind):
     for date in range(trading.first_day(calendar), trading.last_day(calendar) + 1, 41):
-        front = listing.front_month(calendar, group, date)
+        front = listing.front_month(calendar, group, kind, date)
         fresh = listing.fresh_listing(calendar, group, kind, date)
         complete = listing.listing_in_cover(calendar, group, kind, date)
         places = [f'{month} {day} 0' for month, day in fresh] + ['0 0 0'] * (15 - len(fresh))
@@ -242,7 +242,7 @@ def listing_section():
             yield f'S {first_year} {years} {number}'
             for group in (b'FR11', b'IT01'):
                 yield from last_day_lines(calendar, group)
-                for kind in range(4):
+                for kind in product.KINDS:
                     yield from listing_lines(calendar, group, kind)
 
 

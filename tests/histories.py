@@ -11,8 +11,10 @@ from pathlib import Path
 
 from second import dates, product, trading
 from second.book import Book
-from tables.damages import damaged_tables, date_before_cover, every_call_on_zeros
-from tables.files import (EXAMPLE, ONE_YEAR, SEED, SEVEN_YEARS, SIXTEEN_YEARS, THREE_YEARS, TWO_YEARS,
+from tables.damages import (damaged_tables, damaged_tables_of_2005, date_before_cover,
+                            every_call_on_zeros)
+from tables.files import (EXAMPLE, FUTURES_2005, ONE_YEAR, ONE_YEAR_2005, SEED, SEVEN_YEARS, SIXTEEN_YEARS,
+                          SIXTEEN_YEARS_2005, THREE_YEARS, THREE_YEARS_2005, TWO_YEARS, TWO_YEARS_2005,
                           Numbers, accepted_files, all_files, calendar_of, easter_sunday, file_name,
                           first_date, last_date, openable, product_of, refused_files)
 from tables.moments import PRICES, push_calls, some_calls, some_value
@@ -262,6 +264,59 @@ def odd_histories(script, numbers):
     script.history_without_open(EXAMPLE, b'NONE', 3000, calls)
 
 
+# ---- Futures of 2005 ----
+
+# 02, note 1, by its own months: only 21 March 2008 is closed. In a cover of 2008
+# alone question 16 accepts 20 March and refuses 21 March, which lists March 2009.
+def months_of_2005(script):
+    day = dates.day_of(2008, 3, 20)
+    for number in (ONE_YEAR_2005, THREE_YEARS_2005):
+        script.open(number, b'AXA5', first_date(number))
+        make(script, (('R', day), ('R', day + 1), ('R', dates.day_of(2008, 7, 19))))
+        for date in (first_date(number) + 1, day, day + 1, dates.day_of(2008, 7, 19)):
+            script.open(number, b'AXA5', date)
+    for date in (*range(day - 2, day + 3), dates.day_of(2008, 7, 17), dates.day_of(2008, 7, 18)):
+        script.open(THREE_YEARS_2005, b'FIA5', date)
+
+
+# Rolls to the end, front months pushed out and many closures of futures of 2005.
+def histories_of_2005(script, numbers):
+    for number, code, step in ((TWO_YEARS_2005, b'FIA5', 25), (THREE_YEARS_2005, b'AXA5', 30),
+                               (SIXTEEN_YEARS_2005, b'VOD5', 160)):
+        roll_to_the_end(script, numbers, number, code, step)
+    for number, code, date in ((THREE_YEARS_2005, b'AXA5', 2930), (THREE_YEARS_2005, b'FIA5', 2930),
+                               (SIXTEEN_YEARS_2005, b'IT05', 30700)):
+        push_often(script, number, code, date)
+    for code in (b'AXA5', b'FIA5'):
+        script.open(ONE_YEAR_2005, code, last_date(ONE_YEAR_2005, code) - 20)
+        make(script, push_calls(script.book))
+    many_closures(script, numbers, SIXTEEN_YEARS_2005, b'FIA5', 33000, 50)
+
+
+# 02, note 1: "The due day, cash and group digit of kind 4 are those of a future".
+def values_of_2005(script):
+    for item in FUTURES_2005:
+        script.open(SIXTEEN_YEARS_2005, item.id, 33000)
+        due_calls(script)
+        month_calls(script)
+        tick_calls(script)
+        cash_calls(script)
+
+
+# 02, note 1: "A table of kind 4 owes the same history of numbers as any other."
+def all_of_2005(script, numbers):
+    months_of_2005(script)
+    histories_of_2005(script, numbers)
+    for number in (THREE_YEARS_2005, SIXTEEN_YEARS_2005):
+        for item in FUTURES_2005:
+            mixed_history(script, numbers, number, item.id, first_date(number) + numbers.below(400), 15)
+    values_of_2005(script)
+    damaged_tables_of_2005(script)
+    for number, code, date, length in ((THREE_YEARS_2005, b'AXA5', 2923, 120),
+                                       (SIXTEEN_YEARS_2005, b'FIA5', 30700, 256)):
+        script.history(number, code, date, calls_of(numbers, number, code, date, length))
+
+
 # ---- The whole script ----
 
 # 01, Questions: the numbers that each call can give back.
@@ -306,6 +361,7 @@ def whole_script():
     every_call_on_zeros(script)
     whole_histories(script, numbers)
     odd_histories(script, numbers)
+    all_of_2005(script, Numbers(SEED + 3))
     if wanted() - script.seen:
         raise ValueError(f'the script has no {sorted(wanted() - script.seen)}')
     return script

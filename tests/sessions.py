@@ -101,7 +101,7 @@ def cases(seed, count=COUNT):
 # 01, Questions: the refusals of open, roll and close. 10 can't come: the program
 # holds no table that is not sound. Opens of every kind, by the count of months
 # listed; rolls and closes with which a month left.
-WANTED = frozenset((b'O 6', b'O 8', b'O 12', b'O 15', b'R', b'C', b'R left', b'C left', b'BAD',
+WANTED = frozenset((b'O 6', b'O 7', b'O 8', b'O 12', b'O 15', b'R', b'C', b'R left', b'C left', b'BAD',
                     *(b'NO %d' % number for number in range(1, 17) if number != 10)))
 
 

@@ -2,13 +2,13 @@
 with two; files of other lengths; no readable file at all (01, "Master file",
 questions 1 to 9; the program `terms`)."""
 
-from dataclasses import dataclass
+from dataclasses import dataclass, replace
 from functools import lru_cache
 
 import cases
 from runs.case import FILE, FOLDER, LINK, LOCKED, MISSING, Master, with_file
 from runs.lines import day_word, text_of
-from second import dates, master, trading
+from second import dates, master, product, trading
 from second.master import BLOCK, FILE_AT_MOST, RECORD, RECORDS_AT_MOST, two_bytes
 from second.trading import BYTES_PER_YEAR, YEARS_AT_MOST, Calendar
 from tables.files import closable
@@ -53,10 +53,13 @@ def some_calendar(chance, years):
     return Calendar(first_year, years, closable(chance.sample(days, chance.randrange(12 * years))))
 
 
-# As many products as a file can hold, by rising id.
+# As many products as a file can hold, by rising id. Every third future is one of
+# 2005.
 @lru_cache(maxsize=1)
 def all_products():
-    return cases.many_products(RECORDS_AT_MOST * (SIZES[-1] - 1))
+    products = cases.many_products(RECORDS_AT_MOST * (SIZES[-1] - 1))
+    return [replace(one, kind=product.FUTURE_2005) if product.is_future(one) and k % 3 == 0 else one
+            for k, one in enumerate(products)]
 
 
 # A file's parts for a number of blocks.
@@ -147,7 +150,7 @@ def week_fault(chance, layout):
 
 # Values of fields that are wrong in a record of any kind.
 WRONG = [(offset, value) for _, offset, values in cases.OUTSIDE for value in values
-         if (offset, value) not in ((4, b'FR01'), (12, b'\0'))]
+         if (offset, value) not in ((4, b'FR01'), (12, b'\0'), (12, b'\4'))] + [(12, b'\5')]
 
 
 # 7: "Is every record, and all that must be zero in its block, as stated?"

@@ -6,7 +6,7 @@ from runs.case import with_file
 from runs.lines import OTHER_LINES, day_word, text_of
 from second import dates, listing, master, trading
 from second.book import Book
-from tables.files import PRODUCTS, clustered, product_from
+from tables.files import FUTURES_2005, PRODUCTS, by_id, clustered, product_from
 from tables.moments import push_calls, some_calls
 from tables.script import book_call
 
@@ -14,9 +14,8 @@ COVERS = (1, 2, 3, 5, 7, 16)
 
 # 01, Last trading day: "for the groups IT01 and IT11 the day before that". All
 # kinds, these groups and others that begin with IT.
-ITEMS = sorted((*PRODUCTS, product_from('FIA2 IT02 XMIL 0 500 1 EUR'),
-                product_from('ENI2 IT12 XMIL 1 500 1 EUR'), product_from('IT IT10 XMIL 3 500 1 EUR')),
-               key=lambda item: item.id)
+ITEMS = by_id(*PRODUCTS, *FUTURES_2005, product_from('FIA2 IT02 XMIL 0 500 1 EUR'),
+              product_from('ENI2 IT12 XMIL 1 500 1 EUR'), product_from('IT IT10 XMIL 3 500 1 EUR'))
 
 
 # The lines written so far and the book that they leave.

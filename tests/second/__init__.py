@@ -1,5 +1,6 @@
-"""The second program: document 01 written once more, in Python, for comparison.
+"""The second program: document 01 and note 1 of document 02 written once more, in
+Python, for comparison.
 
-It shares no code with the proved program. Every module is written from
-document 01; "01" in the comments is that document.
+It shares no code with the proved program. Every module is written from these
+documents; "01" and "02" in the comments are those.
 """

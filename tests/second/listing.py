@@ -1,5 +1,5 @@
 """Last trading days and listed months (01, "Last trading day", "Listed
-months", question 16)."""
+months", question 16; 02, note 1)."""
 
 from functools import lru_cache
 
@@ -21,6 +21,13 @@ COUNTS = (
     (3, 3, 2, 0),
     (3, 3, 4, 2),
 )
+
+# 02, note 1: "the next four of March, June, September, December, and with them
+# the next April, May and July": names of months, and how many of them are taken.
+PARTS_2005 = (((3, 6, 9, 12), 4), ((4,), 1), ((5,), 1), ((7,), 1))
+
+# 02, note 1: "those seven names".
+NAMES_2005 = frozenset(name for names, _ in PARTS_2005 for name in names)
 
 
 # 01, Last trading day: the "third Friday" of a month: the Friday from the 15th
@@ -52,14 +59,20 @@ def is_beyond(calendar, month):
     return month > trading.last_month(calendar)
 
 
+# The names of the months that a kind lists.
+def names_of(kind):
+    return NAMES_2005 if kind == product.FUTURE_2005 else SETS[0]
+
+
 # 01, Listed months: "The front month on a date is the first month, from the
-# date's own month on, whose last trading day is not before the date." The
-# answer may be the month after the cover's last one.
-def front_month(calendar, group, date):
+# date's own month on, whose last trading day is not before the date." 02, note 1:
+# "the first month of those seven names whose last trading day is not before the
+# date". The answer may be the month after the cover's last one.
+def front_month(calendar, group, kind, date):
     month = dates.month_of(date)
     while not is_beyond(calendar, month):
         day = last_trading_day(calendar, group, month)
-        if day is not None and day >= date:
+        if month % 12 + 1 in names_of(kind) and day is not None and day >= date:
             return month
         month += 1
     return month
@@ -68,12 +81,10 @@ def front_month(calendar, group, date):
 # 01, Listed months: "Step one takes the front month and those after it; each
 # later step takes the next months of its set that follow the last month taken.
 # Listing stops [..] as soon as a month lies beyond the cover". The answer: the
-# months taken, and whether no month lay beyond the cover. A call asks for the same
-# listing several times, so the last ones are kept.
-@lru_cache(maxsize=64)
-def listed_months(calendar, group, kind, date):
+# months taken, and whether no month lay beyond the cover.
+def months_by_steps(calendar, group, kind, date):
     taken = []
-    month = front_month(calendar, group, date)
+    month = front_month(calendar, group, kind, date)
     for months_of_set, count in zip(SETS, COUNTS[kind]):
         left = count
         while left > 0:
@@ -84,6 +95,36 @@ def listed_months(calendar, group, kind, date):
                 left -= 1
             month += 1
     return tuple(taken), True
+
+
+# The next months of some names from a month on, so many of them; those beyond the
+# cover are left out.
+def next_months(calendar, names, count, month):
+    taken = []
+    while len(taken) < count and not is_beyond(calendar, month):
+        if month % 12 + 1 in names:
+            taken.append(month)
+        month += 1
+    return taken
+
+
+# 02, note 1: "the next four of March, June, September, December, and with them
+# the next April, May and July. All count from the front". The answer: the months
+# that are in the cover, and whether all of them are.
+def months_of_2005(calendar, group, date):
+    front = front_month(calendar, group, product.FUTURE_2005, date)
+    taken = [month for names, count in PARTS_2005
+             for month in next_months(calendar, names, count, front)]
+    return tuple(sorted(taken)), len(taken) == sum(count for _, count in PARTS_2005)
+
+
+# The months that a kind lists on a date, and whether all of them are in the
+# cover. A call asks for the same listing several times, so the last ones are kept.
+@lru_cache(maxsize=64)
+def listed_months(calendar, group, kind, date):
+    if kind == product.FUTURE_2005:
+        return months_of_2005(calendar, group, date)
+    return months_by_steps(calendar, group, kind, date)
 
 
 # 01, The table: "the fresh listing": pairs of month and last trading day by

@@ -1,5 +1,5 @@
 """Kinds, product fields, settlement days, tick and cash (01, "Master file",
-"Due day, tick, cash", question 7)."""
+"Due day, tick, cash", question 7; 02, note 1)."""
 
 from dataclasses import dataclass
 
@@ -7,7 +7,9 @@ FUTURE = 0
 OPTION_12 = 1
 OPTION_24 = 2
 OPTION_60 = 3
-KINDS = (FUTURE, OPTION_12, OPTION_24, OPTION_60)
+FUTURE_2005 = 4
+KINDS = (FUTURE, OPTION_12, OPTION_24, OPTION_60, FUTURE_2005)
+FUTURES = (FUTURE, FUTURE_2005)
 
 LETTERS = frozenset(b'ABCDEFGHIJKLMNOPQRSTUVWXYZ')
 DIGITS = frozenset(b'0123456789')
@@ -34,9 +36,9 @@ NO_PRODUCT = Product(bytes(4), bytes(4), bytes(4), 0, 0, 0, bytes(3))
 
 
 # 01, Listed months: "A product's kind is either a future or an option with one
-# of three terms." Question 21.
+# of three terms." 02, note 1: "kind 4, a future of 2005". Question 21.
 def is_future(product):
-    return product.kind == FUTURE
+    return product.kind in FUTURES
 
 
 # 01, Master file: "product id, 1 to 4 of A–Z and 0–9, then spaces".
@@ -47,11 +49,12 @@ def id_is_right(code):
 
 
 # 01, Master file: "group, two letters A–Z and two digits, the first digit 0 for
-# futures and 1 for options".
+# futures and 1 for options". 02, note 1: the "group digit of kind 4" is that "of
+# a future".
 def group_is_right(group, kind):
     return (len(group) == 4
             and group[0] in LETTERS and group[1] in LETTERS
-            and group[2:3] == (b'0' if kind == FUTURE else b'1')
+            and group[2:3] == (b'0' if kind in FUTURES else b'1')
             and group[3] in DIGITS)
 
 
@@ -60,7 +63,8 @@ def market_is_right(market):
     return len(market) == 4 and all(byte in LETTERS for byte in market)
 
 
-# 01, question 7, for the fields of one product.
+# 01, question 7, for the fields of one product. 02, note 1: "question 7 now admits
+# 4".
 def fields_are_right(product):
     return (id_is_right(product.id)
             and product.kind in KINDS

@@ -1,15 +1,16 @@
 """Damaged tables: one field of a sound table changed, and every call on it (01,
-"A table is sound if")."""
+"A table is sound if"; 02, note 1)."""
 
 from second import dates, listing, product, table, trading
-from tables.files import EXAMPLE, SEVEN_YEARS, SIXTEEN_YEARS, ONE_YEAR, first_date
+from tables.files import (EXAMPLE, ONE_YEAR, SEVEN_YEARS, SIXTEEN_YEARS, SIXTEEN_YEARS_2005,
+                          THREE_YEARS_2005, first_date)
 from tables.script import (CLOSED, CURRENCY, DATE, DAY, FIRST_YEAR, GIVEN, GROUP, ID, KIND, MARKET,
                            MONTH, NUMBER, SIZE, TICK, YEARS)
 
 
 # 01, The table: "its product fields [..] satisfy [..] 7", each field in turn.
 def product_damages(item):
-    other = 48 if item.kind else 49
+    other = 49 if product.is_future(item) else 48
     return [(ID, 0, 32), (ID, 0, 97), (ID, 1, 0), (ID, 3, 33),
             (GROUP, 0, 97), (GROUP, 1, 48), (GROUP, 2, other), (GROUP, 2, 50), (GROUP, 3, 58),
             (MARKET, 0, 32), (MARKET, 2, 48), (MARKET, 3, 97),
@@ -159,7 +160,12 @@ BASES = ((EXAMPLE, b'AXA ', 3000, 100), (EXAMPLE, b'AXAF', 2930, 45), (SEVEN_YEA
 
 # The damages and the harmless changes of each of these tables.
 def damaged_tables(script):
-    for number, code, date, later in BASES:
+    damage_each(script, BASES)
+
+
+# The same for some tables.
+def damage_each(script, bases):
+    for number, code, date, later in bases:
         script.open(number, code, date)
         script.roll(date + later)
         script.close(script.book.maturities[1][1])
@@ -176,6 +182,37 @@ def date_before_cover(script):
         script.open(EXAMPLE, name, start)
         script.save()
         try_damage(script, (DATE, 0, start - 1))
+
+
+# 02, note 1: tables of futures of 2005 after a roll and a closure.
+BASES_2005 = ((THREE_YEARS_2005, b'AXA5', 2923, 100), (SIXTEEN_YEARS_2005, b'FIA5', 31000, 3100))
+
+# 02, note 1: dates on which the front month is not the first one whose last trading
+# day is not before the date, or not the first of the cover's seven names.
+BOUNDS_2005 = ((2008, 1, 2), (2008, 7, 19), (2009, 9, 19), (2010, 1, 1))
+
+
+# 01, The table: "given − listed is [..] at most the number of cover months before
+# the front month", all of them and not only those of the seven names: the largest
+# count given, and one above.
+def given_of_2005(script):
+    for date in BOUNDS_2005:
+        script.open(THREE_YEARS_2005, b'AXA5', dates.day_of(*date))
+        script.save()
+        now = script.saved
+        most = 7 + now.places[0][0] - trading.first_month(now.calendar)
+        for given in (most - 1, most):
+            script.restore()
+            script.damage(GIVEN, 0, given)
+            if 10 in every_call(script):
+                raise ValueError(f'{given} numbers given on {date} do not leave the table sound')
+        try_damage(script, (GIVEN, 0, most + 1))
+
+
+# The damages and the harmless changes of tables of futures of 2005.
+def damaged_tables_of_2005(script):
+    damage_each(script, BASES_2005)
+    given_of_2005(script)
 
 
 # The table of zeros that a refused open gives back is not sound.

@@ -106,9 +106,23 @@ PRODUCTS = tuple(product_from(line) for line in (
 ))
 
 
+# 02, note 1: "kind 4, a future of 2005", with an Italian group and with others.
+FUTURES_2005 = tuple(product_from(line) for line in (
+    'AXA5 FR01 XPAR 4 100 100 EUR',
+    'FIA5 IT01 XMIL 4 500 1 EUR',
+    'IT05 IT02 XMIL 4 1 5 EUR',
+    'VOD5 GB09 XLON 4 65535 10 GBX',
+))
+
+
 # The products with these ids, by rising id.
 def products_of(*names):
     return [item for item in PRODUCTS if item.id.rstrip().decode() in names]
+
+
+# Products by rising id.
+def by_id(*items):
+    return sorted(items, key=lambda item: item.id)
 
 
 # The accepted files: covers of 1, 2, 3, 7 and 16 years, and 01's example.
@@ -155,10 +169,27 @@ def refused_files():
     ]
 
 
+# Files with futures of 2005: one year in which only 21 March 2008 is closed, three
+# such years, and covers of 2 and 16 years.
+def files_of_2005():
+    numbers = Numbers(SEED + 2)
+    easter = frozenset((dates.day_of(2008, 3, 21),))
+    return [
+        master.build(Calendar(2008, 1, easter), list(FUTURES_2005)),
+        master.build(Calendar(2008, 3, easter), by_id(*products_of('AXA', 'AXAF'), *FUTURES_2005)),
+        master.build(clustered(numbers, 2007, 2), list(FUTURES_2005)),
+        master.build(clustered(numbers, 2084, 16), list(FUTURES_2005), per_block=1),
+    ]
+
+
 # All master files in the order of their numbers.
 @lru_cache(maxsize=1)
 def all_files():
-    return [*accepted_files(), *(file for _, file in refused_files())]
+    return [*accepted_files(), *(file for _, file in refused_files()), *files_of_2005()]
+
+
+# The numbers of the files with futures of 2005.
+ONE_YEAR_2005, THREE_YEARS_2005, TWO_YEARS_2005, SIXTEEN_YEARS_2005 = range(20, 24)
 
 
 # A file's name in the folder.

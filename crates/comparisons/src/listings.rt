@@ -39,7 +39,7 @@ fn listing_line(cal: Calendar, kind: Kind, group: [u8; 4], date: u16) {
     let maturities = l.maturities;
     start_line(b'L');
     put(date);
-    put(listing::front_month(cal, group, date));
+    put(listing::front_month(cal, kind, group, date));
     put_answer(l.complete);
     put_maturities(maturities);
     end_line();
@@ -63,6 +63,7 @@ fn group_lines(cal: Calendar, group: [u8; 4]) {
     kind_lines(cal, 1, group);
     kind_lines(cal, 2, group);
     kind_lines(cal, 3, group);
+    kind_lines(cal, 4, group);
 }
 
 fn cover(first_year: u16, years: u16) {

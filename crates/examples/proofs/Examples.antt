@@ -1,4 +1,4 @@
--- Every worked example marked P holds: one test over the table, computed.
+-- Every worked example holds: one test over the table, computed.
 -- Assumes nothing.
 use mathlib.Core.Path.{_≡_, refl}
 use mathlib.Core.Bool.{true}
@@ -17,8 +17,8 @@ use Rattle.listing.specs.Months.{inSet, placesOf, monthly}
 use Rattle.places.specs.Numbering.{isListed, numberOf, renumbered, numbersRight}
 use Rattle.table.specs.Table.{listsFresh, sound, openedTable}
 use Rattle.prices.specs.Prices.{tickCall, cashAsks, cashCall}
-use Rattle.examples.specs.Examples.{rows, allHold, only21, also20, monthsOn, axaFuture, futureTable}
+use Rattle.examples.specs.Examples.{rows, allHold, only21, also20, monthsOn, futuresOn, axaFuture, futureTable}
 
 pub examples-hold : allHold rows ≡ true
-unfolding rows only21 also20 monthsOn axaFuture futureTable some validCover clean mayBeClosed mayClose everyWeek idOf idRight groupRight marketRight tickRight currencyRight fieldsRight productRight complete places15 isListed numberOf renumbered numbersRight listsFresh countFrom monthsBefore sound openedTable tickCall cashAsks cashCall dayCall answer firstNo validDate dayOf leapYear lengthIn monthLength lengthOf firstDay every oneOf latest firstFrom monthFrom monthOf firstOf yearOf yearStart dayInYear bitAt setBit coverStart coverEnd inCover slotOf closedOn tradingDay closeDay isCode oneOfCodes italian lastDay front taken freshKeys thirdFriday anchorOf lastTradingDay inSet placesOf monthly
+unfolding rows only21 also20 monthsOn futuresOn axaFuture futureTable some validCover clean mayBeClosed mayClose everyWeek idOf idRight groupRight marketRight tickRight currencyRight fieldsRight productRight complete places15 isListed numberOf renumbered numbersRight listsFresh countFrom monthsBefore sound openedTable tickCall cashAsks cashCall dayCall answer firstNo validDate dayOf leapYear lengthIn monthLength lengthOf firstDay every oneOf latest firstFrom monthFrom monthOf firstOf yearOf yearStart dayInYear bitAt setBit coverStart coverEnd inCover slotOf closedOn tradingDay closeDay isCode oneOfCodes italian lastDay front taken freshKeys thirdFriday anchorOf lastTradingDay inSet placesOf monthly
 examples-hold = refl

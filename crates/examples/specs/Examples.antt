@@ -1,4 +1,4 @@
--- The worked examples marked P, as one table of tests (01, March 2008 and its neighbours).
+-- The worked examples marked P, as one table of tests (01, March 2008 and its neighbours), and months of futures of 2005 (02, note 1).
 -- Assumes nothing.
 use Prim.Native.Nat.{ℕ}
 use mathlib.Core.Bool.{Bool, true, false, _&&_}
@@ -12,6 +12,7 @@ use Rattle.days.specs.Dates.{dayCall, dayOf}
 use Rattle.calendar.specs.declared.Calendar.{Calendar}
 use Rattle.calendar.specs.Trading.{closeDay}
 use Rattle.product.specs.declared.Kind.the-variants.{Future, Option}
+use Rattle.product.specs.declared.Text.the-variants.{Of2008, Of2005}
 use Rattle.product.specs.declared.Term.the-variants.{Months12}
 use Rattle.product.specs.declared.Product.{Product}
 use Rattle.product.specs.Fields.{EUR}
@@ -47,6 +48,10 @@ pays a amount = eqb (a .refusal) 0 && isAmount (a .value) amount
 abbrev pub FR11 : List ℕ
 FR11 = groupCode (70 ∷ 82 ∷ []) 11
 
+-- the group FR01
+abbrev pub FR01 : List ℕ
+FR01 = groupCode (70 ∷ 82 ∷ []) 1
+
 -- the group IT11
 abbrev pub IT11 : List ℕ
 IT11 = groupCode IT 11
@@ -67,14 +72,18 @@ also20 = closeDay only21 (dayOf 2008 3 20)
 unfoldable pub monthsOn : ℕ → List ℕ
 monthsOn date = freshKeys (ruleOf only21 (Option Months12) FR11) only21 date
 
+-- 'kind 4, a future of 2005' (02, note 1), of FR01, on a date
+unfoldable pub futuresOn : ℕ → List ℕ
+futuresOn date = freshKeys (ruleOf only21 (Future Of2005) FR01) only21 date
+
 -- a future of 100 shares with tick 5
 unfoldable pub axaFuture : Product
 axaFuture =
     record {
       id = 65 ∷ 88 ∷ 65 ∷ 70 ∷ [];
-      group = groupCode (70 ∷ 82 ∷ []) 1;
+      group = FR01;
       market = 88 ∷ 80 ∷ 65 ∷ 82 ∷ [];
-      kind = Future;
+      kind = Future Of2008;
       size = 100;
       tick = 5;
       currency = EUR;
@@ -108,6 +117,15 @@ rows =
     -- 'on 21 March: Apr, May, Jun, Sep, Dec, Mar 2009'
     sameList (monthsOn (dayOf 2008 3 21))
     (monthNumber 2008 4 ∷ monthNumber 2008 5 ∷ monthNumber 2008 6 ∷ monthNumber 2008 9 ∷ monthNumber 2008 12 ∷ monthNumber 2009 3 ∷ []) ∷
+    -- 02, note 1, with only 21 March closed: on 20 March 2008 Mar, Apr, May, Jun, Jul, Sep, Dec
+    sameList (futuresOn (dayOf 2008 3 20))
+    (monthNumber 2008 3 ∷ monthNumber 2008 4 ∷ monthNumber 2008 5 ∷ monthNumber 2008 6 ∷ monthNumber 2008 7 ∷ monthNumber 2008 9 ∷ monthNumber 2008 12 ∷ []) ∷
+    -- on 21 March: Apr, May, Jun, Jul, Sep, Dec, Mar 2009
+    sameList (futuresOn (dayOf 2008 3 21))
+    (monthNumber 2008 4 ∷ monthNumber 2008 5 ∷ monthNumber 2008 6 ∷ monthNumber 2008 7 ∷ monthNumber 2008 9 ∷ monthNumber 2008 12 ∷ monthNumber 2009 3 ∷ []) ∷
+    -- on 19 July 2008: Sep, Dec, and of 2009 Mar, Apr, May, Jun, Jul
+    sameList (futuresOn (dayOf 2008 7 19))
+    (monthNumber 2008 9 ∷ monthNumber 2008 12 ∷ monthNumber 2009 3 ∷ monthNumber 2009 4 ∷ monthNumber 2009 5 ∷ monthNumber 2009 6 ∷ monthNumber 2009 7 ∷ []) ∷
     -- '3 contracts of 100, agreed 12.3400, final 12.5000: +480,000'
     pays (cashCall futureTable 3 123400 125000) 480000 ∷
     -- 'Price 5 with tick 5 passes, 6 gets 20'

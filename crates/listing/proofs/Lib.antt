@@ -5,3 +5,4 @@ pub mod Walks
 pub mod Places
 pub mod Lawful
 pub mod Monthly
+pub mod Text2005

@@ -19,10 +19,13 @@ use Rattle.calendar.specs.Trading.{validCover, coverStart, coverEnd, inCover, t
 use Rattle.calendar.proofs.Covered.{years, cover-facts}
 use Rattle.calendar.proofs.Weeks.{within-six}
 use Rattle.product.specs.declared.Kind.{Kind}
+use Rattle.product.specs.declared.Kind.the-variants.{Future, Option}
+use Rattle.product.specs.declared.Text.the-variants.{Of2008, Of2005}
+use Rattle.product.specs.declared.Term.the-variants.{Months12, Months24, Months60}
 use Rattle.product.specs.Settlement.{italian}
 use Rattle.listing.specs.Rules.{front, freshKeys}
 use Rattle.expiry.specs.LastDays.{thirdFriday, anchorOf, lastTradingDay}
-use Rattle.listing.specs.Months.{monthSets, inSet, placesOf, rowOf, placesOfKind, monthly, ruleOf}
+use Rattle.listing.specs.Months.{quarters, monthSets, names2005, inSet, placesOf, rowOf, setsOf, placesOfKind, monthly, ruleOf}
 use Rattle.expiry.proofs.Fridays.{third-is, last-is}
 use Rattle.listing.proofs.Places.{Nested, nested-wider, nested-first}
 use Rattle.listing.proofs.Lawful.{Lawful, risen, front-from, key-at, keys-rise}
@@ -41,33 +44,42 @@ names-inside names others e m t =
     go false b h t = clash t refl
 
 -- each set lies inside the one before it, the first inside p
-abbrev Chain : (ℕ → Bool) → List (List ℕ) → Type 0
+abbrev Chain : (ℕ → Bool) → List (ℕ → Bool) → Type 0
 Chain p [] = Unit {0}
-Chain p (names ∷ sets) = ((m : ℕ) → inSet names m ≡ true → p m ≡ true) × Chain (inSet names) sets
+Chain p (set ∷ sets) = ((m : ℕ) → set m ≡ true → p m ≡ true) × Chain set sets
 
 nested-step : (p q : ℕ → Bool) (rest : List (ℕ → Bool)) → ((m : ℕ) → q m ≡ true → p m ≡ true) → Nested q rest → (n : ℕ) → Nested p (replicate n q ++ rest)
 nested-step p q rest h s zero = nested-wider p q rest h s
 nested-step p q rest h s (suc n) = (h, nested-step q q rest (λ m e. e) s n)
 
 -- so the places of any row of counts are nested
-nested-row : (p : ℕ → Bool) (row : List ℕ) (sets : List (List ℕ)) → Chain p sets → Nested p (placesOf row sets)
+nested-row : (p : ℕ → Bool) (row : List ℕ) (sets : List (ℕ → Bool)) → Chain p sets → Nested p (placesOf row sets)
 unfolding placesOf
 nested-row p [] sets c = tt
 nested-row p (count ∷ row) [] c = tt
-nested-row p (count ∷ row) (names ∷ sets) c = nested-step p (inSet names) (placesOf row sets) (c .0) (nested-row (inSet names) row sets (c .1)) count
+nested-row p (count ∷ row) (set ∷ sets) c = nested-step p set (placesOf row sets) (c .0) (nested-row set row sets (c .1)) count
 
-month-sets : Chain (λ m. true) monthSets
+month-chain : Chain (λ m. true) monthSets
 unfolding every oneOf
-month-sets = (
+month-chain = (
   λ m e. refl,
   (
-    names-inside (getD monthSets 1 []) (getD monthSets 0 []) refl,
-    (
-      names-inside (getD monthSets 2 []) (getD monthSets 1 []) refl,
-      (names-inside (getD monthSets 3 []) (getD monthSets 2 []) refl, tt),
-    ),
+    names-inside quarters (1 ∷ 2 ∷ 3 ∷ 4 ∷ 5 ∷ 6 ∷ 7 ∷ 8 ∷ 9 ∷ 10 ∷ 11 ∷ 12 ∷ []) refl,
+    (names-inside (6 ∷ 12 ∷ []) quarters refl, (names-inside (12 ∷ []) (6 ∷ 12 ∷ []) refl, tt)),
   ),
 )
+
+-- one set for all steps
+same-chain : (set : ℕ → Bool) → Chain (λ m. true) (replicate 4 set)
+same-chain set = (λ m e. refl, (λ m e. e, (λ m e. e, (λ m e. e, tt))))
+
+-- the sets of every kind's row
+chain-of : (kind : Kind) → Chain (λ m. true) (setsOf kind)
+chain-of (Future Of2008) = month-chain
+chain-of (Future Of2005) = same-chain (inSet names2005)
+chain-of (Option Months12) = month-chain
+chain-of (Option Months24) = month-chain
+chain-of (Option Months60) = month-chain
 
 -- the next month starts at least 28 days later, until 2099 ends
 first-next : (k : ℕ) → k < 1200 → firstOf k + 28 ≤ firstOf (suc k)
@@ -178,7 +190,7 @@ module _ (c : Cover) (kind : Kind) (group : List ℕ) where
   pub monthly-lawful : Lawful (monthly c kind group)
   unfolding monthly
   monthly-lawful = record {
-    nested = nested-first (λ m. true) (placesOf (rowOf kind) monthSets) (nested-row (λ m. true) (rowOf kind) monthSets month-sets);
+    nested = nested-first (λ m. true) (placesOf (rowOf kind) (setsOf kind)) (nested-row (λ m. true) (rowOf kind) (setsOf kind) (chain-of kind));
     rising = anchor-rises group;
     own = anchor-own group;
     counts = λ k e. refl;

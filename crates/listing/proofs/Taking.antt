@@ -1,7 +1,7 @@
 -- The laws by which the two loops of `list` follow the definition of the listing.
 -- Assumes nothing.
 use mathlib.Core.Path.{_≡_, refl, _∙_, sym, ap}
-use mathlib.Core.Bool.{Bool, true, false, not, cond}
+use mathlib.Core.Bool.{Bool, true, false, not, _||_, cond}
 use mathlib.Core.List.{List, [], _∷_, _++_, map}
 use Prim.Native.Nat.{ℕ, zero, suc, _+_, _-_, _%_, _≤_, _<_}
 use native.Mathlib.Nat.{zero-add, sub-zero}
@@ -15,60 +15,70 @@ use Rattle.questions.specs.Search.{every, oneOf}
 use Rattle.questions.proofs.Search.{every-at}
 use Rattle.product.specs.declared.Kind.{Kind}
 use Rattle.product.specs.declared.Kind.the-variants.{Future, Option}
+use Rattle.product.specs.declared.Text.the-variants.{Of2008, Of2005}
 use Rattle.product.specs.declared.Term.the-variants.{Months12, Months24, Months60}
 use Rattle.product.specs.Fields.{kindNumber}
 use Rattle.listing.specs.declared.Maturity.{Maturity}
 use Rattle.listing.specs.declared.Listing.{Listing}
 use Rattle.listing.specs.Rules.{nextOf, taken, unused, places15}
-use Rattle.listing.specs.Months.{monthSets, counts, inSet, placesOf}
+use Rattle.listing.specs.Months.{quarters, monthSets, names2005, counts, stepSets, setAt, inSet, placesOf}
 
 -- the places of the steps from s on, of row k
 unfoldable pub rest : ℕ → ℕ → List (ℕ → Bool)
-rest k s = placesOf (drop s (getD counts k [])) (drop s monthSets)
-
--- the set of step s
-abbrev pub setOf : ℕ → ℕ → Bool
-setOf s = inSet (getD monthSets s [])
+rest k s = placesOf (drop s (getD counts k [])) (drop s (getD stepSets k []))
 
 -- a row has four counts, of at most fifteen months
-row-length : (k : ℕ) → k < 4 → length (getD counts k []) ≡ 4
+row-length : (k : ℕ) → k < 5 → length (getD counts k []) ≡ 4
 row-length zero h = refl
 row-length (suc zero) h = refl
 row-length (suc (suc zero)) h = refl
 row-length (suc (suc (suc zero))) h = refl
-row-length (suc (suc (suc (suc k)))) h = absurd (omega arith)
+row-length (suc (suc (suc (suc zero)))) h = refl
+row-length (suc (suc (suc (suc (suc k))))) h = absurd (omega arith)
 
-pub kind-below : (kind : Kind) → kindNumber kind < 4
-kind-below Future = lit< tt
+-- and four sets
+sets-length : (k : ℕ) → k < 5 → length (getD stepSets k []) ≡ 4
+sets-length zero h = refl
+sets-length (suc zero) h = refl
+sets-length (suc (suc zero)) h = refl
+sets-length (suc (suc (suc zero))) h = refl
+sets-length (suc (suc (suc (suc zero)))) h = refl
+sets-length (suc (suc (suc (suc (suc k))))) h = absurd (omega arith)
+
+pub kind-below : (kind : Kind) → kindNumber kind < 5
+kind-below (Future Of2008) = lit< tt
+kind-below (Future Of2005) = lit< tt
 kind-below (Option Months12) = lit< tt
 kind-below (Option Months24) = lit< tt
 kind-below (Option Months60) = lit< tt
 
 pub rest-room : (kind : Kind) → length (rest (kindNumber kind) 0) ≤ 15
 unfolding rest placesOf
-rest-room Future = lit≤ tt
+rest-room (Future Of2008) = lit≤ tt
+rest-room (Future Of2005) = lit≤ tt
 rest-room (Option Months12) = lit≤ tt
 rest-room (Option Months24) = lit≤ tt
 rest-room (Option Months60) = lit≤ tt
 
 -- the steps from s on are the step s and those after it
-rest-step : (k s : ℕ) → k < 4 → s < 4 → rest k s ≡ replicate (getD (getD counts k []) s 0) (setOf s) ++ rest k (s + 1)
+rest-step : (k s : ℕ) → k < 5 → s < 4 → rest k s ≡ replicate (getD (getD counts k []) s 0) (setAt k s) ++ rest k (s + 1)
 unfolding rest placesOf
 rest-step k s hk hs =
     let l : s < length (getD counts k []) = rw row-length hs in
-    rw (drop-cons (getD counts k []) s 0 l, drop-cons monthSets s [] hs, add-one)
+    let m : s < length (getD stepSets k []) = rw sets-length hs in
+    rw (drop-cons (getD counts k []) s 0 l, drop-cons (getD stepSets k []) s (λ m. false) m, add-one)
 
-rest-none : (k s : ℕ) → k < 4 → 4 ≤ s → rest k s ≡ []
+rest-none : (k s : ℕ) → k < 5 → 4 ≤ s → rest k s ≡ []
 unfolding rest placesOf
 rest-none k s hk hs =
     let l : length (getD counts k []) ≤ s = rw row-length hs in
     rw (drop-of-length-le (getD counts k []) l)
 
 -- the sum of the counts, step by step
-pub rest-count : (k s : ℕ) → k < 4 → s < 4 → length (rest k s) ≡ getD (getD counts k []) s 0 + length (rest k (s + 1))
+pub rest-count : (k s : ℕ) → k < 5 → s < 4 → length (rest k s) ≡ getD (getD counts k []) s 0 + length (rest k (s + 1))
 rest-count k s hk hs = ap length (rest-step k s hk hs) ∙ simp (length-append, length-replicate)
 
-pub rest-zero : (k s : ℕ) → k < 4 → 4 ≤ s → length (rest k s) ≡ 0
+pub rest-zero : (k s : ℕ) → k < 5 → 4 ≤ s → length (rest k s) ≡ 0
 rest-zero k s hk hs = ap length (rest-none k s hk hs)
 
 -- the listing once the places ps are filled from the key f on, after n places of a; it is complete if they make t
@@ -104,7 +114,7 @@ step-done c j p r h = let q : c - j ≡ 0 = omega arith in rw q
 
 -- the walk with the places ps still to fill: the listing that they complete is the whole one
 pub record Walking (mat : ℕ → Maturity) (e k front : ℕ) (a : List Maturity) (n from : ℕ) (complete : Bool) (ps : List (ℕ → Bool)) : Type 0 where
-  pub row : k < 4
+  pub row : k < 5
   pub ends : e ≤ 1200
   pub so-far : complete ≡ true
   pub few : n + length ps ≡ length (rest k 0)
@@ -118,7 +128,7 @@ starts mat e kind k front q h =
 module _ {mat : ℕ → Maturity} {e k front : ℕ} {a : List Maturity} {n from : ℕ} {complete : Bool} where
   -- a step begins
   pub enters : (s : ℕ) → s < 4 → Walking mat e k front a n from complete (rest k s)
-      → Walking mat e k front a n from complete (replicate (getD (getD counts k []) s 0 - 0) (setOf s) ++ rest k (s + 1))
+      → Walking mat e k front a n from complete (replicate (getD (getD counts k []) s 0 - 0) (setAt k s) ++ rest k (s + 1))
       × (getD (getD counts k []) s 0 ≤ 255)
   enters s h w = (
     rw (sub-zero, ← rest-step k s (w .row) h) w,
@@ -206,24 +216,47 @@ same-is true false e = sym e
 same-is false true e = e
 same-is false false e = refl
 
-module _ (s : ℕ) (test : ℕ → Bool) (right : every 12 (λ j. same (test (j + 1)) (oneOf (getD monthSets s []) (j + 1))) ≡ true) where
-  set-by : (m : ℕ) → test (m % 12 + 1) ≡ setOf s m
+module _ (names : List ℕ) (test : ℕ → Bool) (right : every 12 (λ j. same (test (j + 1)) (oneOf names (j + 1))) ≡ true) where
+  set-by : (m : ℕ) → test (m % 12 + 1) ≡ inSet names m
   unfolding inSet
-  set-by m = same-is (test (m % 12 + 1)) (oneOf (getD monthSets s []) (m % 12 + 1)) (every-at (λ j. same (test (j + 1)) (oneOf (getD monthSets s []) (j + 1))) 12 (m % 12) right (omega arith))
+  set-by m = same-is (test (m % 12 + 1)) (oneOf names (m % 12 + 1)) (every-at (λ j. same (test (j + 1)) (oneOf names (j + 1))) 12 (m % 12) right (omega arith))
 
 -- every month, quarters, half years, Decembers
-pub set-all : (m : ℕ) → true ≡ setOf 0 m
+pub set-all : (m : ℕ) → true ≡ getD monthSets 0 (λ m. false) m
 unfolding every oneOf same
-set-all = set-by 0 (λ name. true) refl
+set-all = set-by (1 ∷ 2 ∷ 3 ∷ 4 ∷ 5 ∷ 6 ∷ 7 ∷ 8 ∷ 9 ∷ 10 ∷ 11 ∷ 12 ∷ []) (λ name. true) refl
 
-pub set-quarters : (m : ℕ) → eqb ((m % 12 + 1) % 3) 0 ≡ setOf 1 m
+pub set-quarters : (m : ℕ) → eqb ((m % 12 + 1) % 3) 0 ≡ getD monthSets 1 (λ m. false) m
 unfolding every oneOf same
-set-quarters = set-by 1 (λ name. eqb (name % 3) 0) refl
+set-quarters = set-by quarters (λ name. eqb (name % 3) 0) refl
 
-pub set-halves : (m : ℕ) → eqb ((m % 12 + 1) % 6) 0 ≡ setOf 2 m
+pub set-halves : (m : ℕ) → eqb ((m % 12 + 1) % 6) 0 ≡ getD monthSets 2 (λ m. false) m
 unfolding every oneOf same
-set-halves = set-by 2 (λ name. eqb (name % 6) 0) refl
+set-halves = set-by (6 ∷ 12 ∷ []) (λ name. eqb (name % 6) 0) refl
 
-pub set-decembers : (m : ℕ) → eqb (m % 12 + 1) 12 ≡ setOf 3 m
+pub set-decembers : (m : ℕ) → eqb (m % 12 + 1) 12 ≡ getD monthSets 3 (λ m. false) m
 unfolding every oneOf same
-set-decembers = set-by 3 (λ name. eqb name 12) refl
+set-decembers = set-by (12 ∷ []) (λ name. eqb name 12) refl
+
+-- the seven names of 2005
+pub set-2005 : (m : ℕ) → (eqb ((m % 12 + 1) % 3) 0 || (eqb (m % 12 + 1) 4 || (eqb (m % 12 + 1) 5 || eqb (m % 12 + 1) 7))) ≡ inSet names2005 m
+unfolding every oneOf same
+set-2005 = set-by names2005 (λ name. eqb (name % 3) 0 || (eqb name 4 || (eqb name 5 || eqb name 7))) refl
+
+-- the set of a row's step is that of the table's head, or that of the seven names
+pub row-months : (k s : ℕ) → k < 4 → setAt k s ≡ getD monthSets s (λ m. false)
+row-months zero s h = refl
+row-months (suc zero) s h = refl
+row-months (suc (suc zero)) s h = refl
+row-months (suc (suc (suc zero))) s h = refl
+row-months (suc (suc (suc (suc k)))) s h = absurd (omega arith)
+
+same-four : (p : ℕ → Bool) (s : ℕ) → s < 4 → getD (replicate 4 p) s (λ m. false) ≡ p
+same-four p zero h = refl
+same-four p (suc zero) h = refl
+same-four p (suc (suc zero)) h = refl
+same-four p (suc (suc (suc zero))) h = refl
+same-four p (suc (suc (suc (suc s)))) h = absurd (omega arith)
+
+pub row-2005 : (k s : ℕ) → k ≡ 4 → s < 4 → setAt k s ≡ inSet names2005
+row-2005 k s q h = rw q (same-four (inSet names2005) s h)

@@ -1,7 +1,7 @@
--- Monthly maturities: the month sets and the rows of counts (01, Listed months; 002, 1.6.3; 000, 2.6.4).
+-- Monthly maturities: the month sets and the rows of counts (01, Listed months; 002, 1.6.3; 000, 2.6.4; 02, note 1, with 003).
 -- Assumes nothing.
 use Prim.Native.Nat.{ℕ}
-use mathlib.Core.Bool.{Bool, true}
+use mathlib.Core.Bool.{Bool, true, false}
 use mathlib.Core.List.{List, [], _∷_, _++_, map}
 use lib.ListN.{length, getD, replicate}
 use Rattle.questions.specs.Search.{oneOf}
@@ -17,42 +17,67 @@ use Rattle.listing.specs.declared.Maturity.{Maturity}
 use Rattle.expiry.specs.LastDays.{anchorOf}
 use Rattle.listing.specs.Rules.{Rule, freshKeys, complete, maturity, places15}
 
--- the head of the table of counts: 'every month', 'Mar Jun Sep Dec', 'Jun Dec', 'Dec', as month names
-abbrev pub monthSets : List (List ℕ)
-monthSets =
-    (1 ∷ 2 ∷ 3 ∷ 4 ∷ 5 ∷ 6 ∷ 7 ∷ 8 ∷ 9 ∷ 10 ∷ 11 ∷ 12 ∷ [])
-    ∷ (3 ∷ 6 ∷ 9 ∷ 12 ∷ [])
-    ∷ (6 ∷ 12 ∷ [])
-    ∷ (12 ∷ [])
-    ∷ []
-
--- 'the counts stand in four rows of four'
-abbrev pub counts : List (List ℕ)
-counts = (13 ∷ 0 ∷ 0 ∷ 2 ∷ []) ∷ (3 ∷ 3 ∷ 0 ∷ 0 ∷ []) ∷ (3 ∷ 3 ∷ 2 ∷ 0 ∷ []) ∷ (3 ∷ 3 ∷ 4 ∷ 2 ∷ []) ∷ []
-
 -- a month of one of the names
 unfoldable pub inSet : List ℕ → ℕ → Bool
 inSet names m = oneOf names (monthName m)
 
+-- the names of 'Mar Jun Sep Dec'
+abbrev pub quarters : List ℕ
+quarters = 3 ∷ 6 ∷ 9 ∷ 12 ∷ []
+
+-- the head of the table of counts: 'every month', 'Mar Jun Sep Dec', 'Jun Dec', 'Dec'
+abbrev pub monthSets : List (ℕ → Bool)
+monthSets =
+    inSet (1 ∷ 2 ∷ 3 ∷ 4 ∷ 5 ∷ 6 ∷ 7 ∷ 8 ∷ 9 ∷ 10 ∷ 11 ∷ 12 ∷ [])
+    ∷ inSet quarters
+    ∷ inSet (6 ∷ 12 ∷ [])
+    ∷ inSet (12 ∷ [])
+    ∷ []
+
+-- 'those seven names' (02, note 1): March, April, May, June, July, September, December
+abbrev pub names2005 : List ℕ
+names2005 = 3 ∷ 4 ∷ 5 ∷ 6 ∷ 7 ∷ 9 ∷ 12 ∷ []
+
+-- 'the counts stand in four rows of four'; a row for kind 4, 'the next seven months of that set' (02, note 1)
+abbrev pub counts : List (List ℕ)
+counts =
+    (13 ∷ 0 ∷ 0 ∷ 2 ∷ [])
+    ∷ (3 ∷ 3 ∷ 0 ∷ 0 ∷ [])
+    ∷ (3 ∷ 3 ∷ 2 ∷ 0 ∷ [])
+    ∷ (3 ∷ 3 ∷ 4 ∷ 2 ∷ [])
+    ∷ (7 ∷ 0 ∷ 0 ∷ 0 ∷ [])
+    ∷ []
+
+-- the sets of each row's steps: the head of the table; kind 4 takes from one set
+abbrev pub stepSets : List (List (ℕ → Bool))
+stepSets = monthSets ∷ monthSets ∷ monthSets ∷ monthSets ∷ replicate 4 (inSet names2005) ∷ []
+
+-- the set of a row's step
+abbrev pub setAt : ℕ → ℕ → ℕ → Bool
+setAt row step = getD (getD stepSets row []) step (λ m. false)
+
 -- a step takes so many months of its set: so many places
-unfoldable pub placesOf : List ℕ → List (List ℕ) → List (ℕ → Bool)
+unfoldable pub placesOf : List ℕ → List (ℕ → Bool) → List (ℕ → Bool)
 placesOf [] sets = []
 placesOf (count ∷ counts) [] = []
-placesOf (count ∷ counts) (names ∷ sets) = replicate count (inSet names) ++ placesOf counts sets
+placesOf (count ∷ counts) (set ∷ sets) = replicate count set ++ placesOf counts sets
 
--- the row of counts of a kind
+-- the row of counts of a kind, and the sets of its steps
 abbrev pub rowOf : Kind → List ℕ
 rowOf kind = getD counts (kindNumber kind) []
 
+abbrev pub setsOf : Kind → List (ℕ → Bool)
+setsOf kind = getD stepSets (kindNumber kind) []
+
 -- how many months a complete listing of a kind has, and so how many places of a table are used: as many as its row of counts sums to
 abbrev pub placesOfKind : Kind → ℕ
-placesOfKind kind = length (placesOf (rowOf kind) monthSets)
+placesOfKind kind = length (placesOf (rowOf kind) (setsOf kind))
 
 -- the rule of a product with monthly maturities: the months of its cover, every one of them counted
 unfoldable pub monthly : Cover → Kind → List ℕ → Rule
 monthly cover kind group =
     record {
-      places = placesOf (rowOf kind) monthSets;
+      places = placesOf (rowOf kind) (setsOf kind);
       anchor = anchorOf group;
       start = monthOf;
       first = monthOf (coverStart cover);

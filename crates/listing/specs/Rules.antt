@@ -37,7 +37,7 @@ abbrev pub widest : List (ℕ → Bool) → ℕ → Bool
 widest [] k = true
 widest (set ∷ rest) k = set k
 
--- 'The front month on a date is the first month, from the date's own month on, whose last trading day is not before the date'; the first key beyond the cover where the cover has none. Only keys that the first place may take are looked at: in the base that is every month
+-- 'The front month on a date is the first month, from the date's own month on, whose last trading day is not before the date'; the first key beyond the cover where the cover has none. Only keys that the first place may take are looked at: for kinds 0 to 3 every month, for kind 4 'the first month of those seven names' (02, note 1)
 unfoldable pub front : Rule → Calendar → ℕ → ℕ
 front r cal date =
     firstFrom (λ k. widest (r .places) k && alive r cal date k) (r .beyond) (r .beyond - r .start date) (r .start date)

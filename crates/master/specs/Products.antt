@@ -8,6 +8,7 @@ use lib.Dec.{eqb}
 use Rattle.product.specs.Fields.{kindOf}
 use Rattle.product.specs.declared.Kind.{Kind}
 use Rattle.product.specs.declared.Kind.the-variants.{Future}
+use Rattle.product.specs.declared.Text.the-variants.{Of2008}
 use Rattle.product.specs.declared.KindAnswer.{KindAnswer}
 use Rattle.product.specs.declared.KindAnswer.the-variants.{Is, NotAKind}
 use Rattle.product.specs.declared.Product.{Product}
@@ -21,7 +22,7 @@ sameId a b = eqb (getD a 0 0) (getD b 0 0) && eqb (getD a 1 0) (getD b 1 0) && e
 -- a kind that was looked up by its number; a future where the number is no kind, which 7 refuses
 abbrev pub kindOr : KindAnswer → Kind
 kindOr (Is kind) = kind
-kindOr NotAKind = Future
+kindOr NotAKind = Future Of2008
 
 -- the product that a record's bytes say
 unfoldable pub productFrom : List ℕ → Product

@@ -3,6 +3,7 @@ use calendar::Calendar;
 use product::Kind;
 use product::KindAnswer;
 use product::Product;
+use product::Text;
 ghost use mathlib.Core.Path.{_≡_};
 ghost use mathlib.Core.Bool.{true};
 ghost use Prim.Native.Nat.{_+_, _*_, _≤_, _<_};
@@ -112,7 +113,7 @@ fn kind_or_future(answer: KindAnswer) -> Kind
 {
     match answer {
         KindAnswer::Is(kind) => kind,
-        KindAnswer::NotAKind => Kind::Future,
+        KindAnswer::NotAKind => Kind::Future(Text::Of2008),
     }
 }
 

@@ -10,6 +10,7 @@ use Rattle.calendar.specs.Trading.{inCover}
 use Rattle.calendar.specs.declared.Calendar.{Calendar}
 use Rattle.product.specs.declared.Product.{Product}
 use Rattle.product.specs.declared.Kind.the-variants.{Future}
+use Rattle.product.specs.declared.Text.the-variants.{Of2008}
 use Rattle.listing.specs.Rules.{unused, places15}
 use Rattle.listing.specs.Months.{freshOf, allInCover}
 use Rattle.years.specs.Calendars.{calendarOf}
@@ -23,7 +24,7 @@ zeroProduct =
       id = replicate 4 0;
       group = replicate 4 0;
       market = replicate 4 0;
-      kind = Future;
+      kind = Future Of2008;
       size = 0;
       tick = 0;
       currency = replicate 3 0;

@@ -5,6 +5,7 @@ use listing::Maturity;
 use master::Found;
 use product::Kind;
 use product::Product;
+use product::Text;
 ghost use mathlib.Core.Path.{_≡_};
 ghost use Rattle.opening.specs.Opening.{zeroProduct, zeroCalendar, refusedOpening, openingOf};
 
@@ -24,7 +25,7 @@ pub fn zero_product() -> Product
         id: [0, 0, 0, 0],
         group: [0, 0, 0, 0],
         market: [0, 0, 0, 0],
-        kind: Kind::Future,
+        kind: Kind::Future(Text::Of2008),
         size: 0,
         tick: 0,
         currency: [0, 0, 0],

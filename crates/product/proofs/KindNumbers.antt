@@ -1,11 +1,13 @@
--- A kind and its number undo each other.
+-- A kind and its number undo each other; the first digit of a group, by the number.
 -- Assumes nothing.
 use mathlib.Core.Path.{_≡_, refl, ap, _∙_}
-use mathlib.Core.Bool.{Bool, true, false}
+use mathlib.Core.Bool.{Bool, true, false, _||_, cond}
 use Prim.Native.Nat.{ℕ, zero, suc, _<_}
 use native.Mathlib.Omega.{arith}
+use lib.Dec.{eqb}
 use borrow.Author.Tests.{ne-eqb, leb-true, leb-false}
-use Rattle.product.specs.Fields.{kindNumber, kindOf, kindRight, fieldsRight, productRight}
+use Rattle.product.specs.Fields.{kindNumber, kindOf, isFuture, firstDigit, kindRight, fieldsRight, productRight}
+use Rattle.product.specs.declared.Text.the-variants.{Of2008, Of2005}
 use Rattle.product.specs.declared.Term.the-variants.{Months12, Months24, Months60}
 use Rattle.product.specs.declared.Kind.{Kind}
 use Rattle.product.specs.declared.Kind.the-variants.{Future, Option}
@@ -14,7 +16,8 @@ use Rattle.product.specs.declared.KindAnswer.the-variants.{Is, NotAKind}
 
 pub kind-of-number : (kind : Kind) → kindOf (kindNumber kind) ≡ Is kind
 unfolding kindOf
-kind-of-number Future = refl
+kind-of-number (Future Of2008) = refl
+kind-of-number (Future Of2005) = refl
 kind-of-number (Option Months12) = refl
 kind-of-number (Option Months24) = refl
 kind-of-number (Option Months60) = refl
@@ -28,23 +31,25 @@ pub record KindOf (number : ℕ) : Type 0 where
 numbered : (kind : Kind) → KindOf (kindNumber kind)
 numbered kind = record { kind = kind; found = kind-of-number kind; has-number = refl }
 
--- each number from 0 to 3 has a kind, and no other
+-- each number from 0 to 4 has a kind, and no other
 pub kind-found : (number : ℕ) → kindRight number ≡ true → KindOf number
-kind-found zero right = numbered Future
+kind-found zero right = numbered (Future Of2008)
 kind-found (suc zero) right = numbered (Option Months12)
 kind-found (suc (suc zero)) right = numbered (Option Months24)
 kind-found (suc (suc (suc zero))) right = numbered (Option Months60)
-kind-found (suc (suc (suc (suc n)))) right = absurd (omega (arith, leb-true (suc (suc (suc (suc n)))) 3 right))
+kind-found (suc (suc (suc (suc zero)))) right = numbered (Future Of2005)
+kind-found (suc (suc (suc (suc (suc n))))) right = absurd (omega (arith, leb-true (suc (suc (suc (suc (suc n))))) 4 right))
 
 pub kind-missing : (number : ℕ) → kindRight number ≡ false → kindOf number ≡ NotAKind
 unfolding kindOf
 kind-missing number wrong =
-    let h : 3 < number = leb-false number 3 wrong in
+    let h : 4 < number = leb-false number 4 wrong in
     rw (
       ne-eqb number 0 (λ e. omega arith),
       ne-eqb number 1 (λ e. omega arith),
       ne-eqb number 2 (λ e. omega arith),
       ne-eqb number 3 (λ e. omega arith),
+      ne-eqb number 4 (λ e. omega arith),
     )
 
 pub number-of-kind : (number : ℕ) (kind : Kind) → kindOf number ≡ Is kind → kindNumber kind ≡ number
@@ -64,3 +69,18 @@ pub product-read : (number : ℕ) (p : Product) → kindOf number ≡ Is (p .kin
     → productRight p ≡ fieldsRight (p .id) (p .group) (p .market) number (p .size) (p .tick) (p .currency)
 unfolding productRight
 product-read number p e = rw (number-of-kind number (p .kind) e)
+
+-- 'the first digit 0 for futures and 1 for options': kinds 0 and 4 are futures
+pub future-digit : (kind : ℕ) → (eqb kind 0 || eqb kind 4) ≡ true → 48 ≡ firstDigit kind
+future-digit kind e = rw e
+
+pub option-digit : (kind : ℕ) → (eqb kind 0 || eqb kind 4) ≡ false → 49 ≡ firstDigit kind
+option-digit kind e = rw e
+
+-- the digit by a kind's number is the digit of a future or of an option
+pub digit-of-kind : (kind : Kind) → firstDigit (kindNumber kind) ≡ cond (isFuture kind) 48 49
+digit-of-kind (Future Of2008) = refl
+digit-of-kind (Future Of2005) = refl
+digit-of-kind (Option Months12) = refl
+digit-of-kind (Option Months24) = refl
+digit-of-kind (Option Months60) = refl

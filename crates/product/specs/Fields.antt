@@ -1,4 +1,4 @@
--- The kinds, and what question 7 says of each field of a product record (01, Listed months; Master file; Questions, 7).
+-- The kinds, and what question 7 says of each field of a product record (01, Listed months; Master file; Questions, 7; 02, note 1).
 -- Assumes nothing.
 use Prim.Native.Nat.{ℕ}
 use mathlib.Core.Bool.{Bool, true, false, _&&_, _||_, cond}
@@ -6,6 +6,8 @@ use mathlib.Core.List.{List, [], _∷_}
 use lib.ListN.{length, getD}
 use lib.Dec.{eqb, leb, ltb}
 use Rattle.questions.specs.Search.{every, oneOf}
+use Rattle.product.specs.declared.Text.{Text}
+use Rattle.product.specs.declared.Text.the-variants.{Of2008, Of2005}
 use Rattle.product.specs.declared.Term.{Term}
 use Rattle.product.specs.declared.Term.the-variants.{Months12, Months24, Months60}
 use Rattle.product.specs.declared.Kind.{Kind}
@@ -14,28 +16,34 @@ use Rattle.product.specs.declared.KindAnswer.{KindAnswer}
 use Rattle.product.specs.declared.KindAnswer.the-variants.{Is, NotAKind}
 use Rattle.product.specs.declared.Product.{Product}
 
+-- '0 future', of the text of 2008; 'kind 4, a future of 2005' (02, note 1)
+abbrev pub textNumber : Text → ℕ
+textNumber Of2008 = 0
+textNumber Of2005 = 4
+
 -- 'an option with one of three terms': '1 option, 12 months', '2 option, 24 months', '3 option, 60 months'
 abbrev pub termNumber : Term → ℕ
 termNumber Months12 = 1
 termNumber Months24 = 2
 termNumber Months60 = 3
 
--- 'A product's kind is either a future or an option with one of three terms': '0 future', else the term's number
+-- 'A product's kind is either a future or an option with one of three terms': the number of its text or of its term
 abbrev pub kindNumber : Kind → ℕ
-kindNumber Future = 0
+kindNumber (Future text) = textNumber text
 kindNumber (Option term) = termNumber term
 
--- the kind with a number, where there is one: '0 future', '1 option, 12 months', '2 option, 24 months', '3 option, 60 months'
+-- the kind with a number, where there is one: '0 future', '1 option, 12 months', '2 option, 24 months', '3 option, 60 months'; 'kind 4, a future of 2005' (02, note 1)
 unfoldable pub kindOf : ℕ → KindAnswer
 kindOf number =
-    cond (eqb number 0) (Is Future)
+    cond (eqb number 0) (Is (Future Of2008))
     (cond (eqb number 1) (Is (Option Months12))
     (cond (eqb number 2) (Is (Option Months24))
-    (cond (eqb number 3) (Is (Option Months60)) NotAKind)))
+    (cond (eqb number 3) (Is (Option Months60))
+    (cond (eqb number 4) (Is (Future Of2005)) NotAKind))))
 
--- 21 'Is it a future?'
+-- 21 'Is it a future?'; of either text: 'The due day, cash .. of kind 4 are those of a future' (02, note 1)
 abbrev pub isFuture : Kind → Bool
-isFuture Future = true
+isFuture (Future text) = true
 isFuture (Option term) = false
 
 -- 'A–Z', in ASCII
@@ -63,9 +71,9 @@ idOf id count = every 4 (λ i. idByte (ltb i count) (getD id i 0))
 unfoldable pub idRight : List ℕ → Bool
 idRight id = idOf id 1 || idOf id 2 || idOf id 3 || idOf id 4
 
--- 'the first digit 0 for futures and 1 for options', in ASCII, by the kind's number; a number that is no kind fails 'kind 0–3'
+-- 'the first digit 0 for futures and 1 for options', in ASCII, by the kind's number; 'the .. group digit of kind 4 [is that] of a future' (02, note 1)
 abbrev pub firstDigit : ℕ → ℕ
-firstDigit kind = cond (eqb kind 0) 48 49
+firstDigit kind = cond (eqb kind 0 || eqb kind 4) 48 49
 
 -- 'group, two letters A–Z and two digits, the first digit 0 for futures and 1 for options'
 unfoldable pub groupRight : List ℕ → ℕ → Bool
@@ -80,9 +88,9 @@ groupRight group kind =
 unfoldable pub marketRight : List ℕ → Bool
 marketRight market = every 4 (λ i. letter (getD market i 0))
 
--- 'kind 0–3'
+-- 'kind 0–3'; 'question 7 now admits 4' (02, note 1)
 abbrev pub kindRight : ℕ → Bool
-kindRight kind = leb kind 3
+kindRight kind = leb kind 4
 
 -- 'contract size in shares, 1–65,535'
 abbrev pub sizeRight : ℕ → Bool

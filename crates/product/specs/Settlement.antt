@@ -1,4 +1,4 @@
--- The Italian groups, and the days to settlement (01, Last trading day; Due day, tick, cash; 002, 1.6.6; 000, 2.6.2).
+-- The Italian groups, and the days to settlement (01, Last trading day; Due day, tick, cash; 002, 1.6.6; 000, 2.6.2; 02, note 1).
 -- Assumes nothing.
 use Prim.Native.Nat.{ℕ, _+_, _-_, _*_, _/_, _%_}
 use mathlib.Core.Bool.{Bool, _&&_, cond}
@@ -54,7 +54,7 @@ fourDays group =
 unfoldable pub optionDays : List ℕ → ℕ
 optionDays group = cond (twoDays group) 2 (cond (fourDays group) 4 3)
 
--- 'Futures: n = 1 (002, 1.6.6)'; options by their group
+-- 'Futures: n = 1 (002, 1.6.6)', of either text; options by their group
 unfoldable pub settlementDays : Kind → List ℕ → ℕ
-settlementDays Future group = 1
+settlementDays (Future text) group = 1
 settlementDays (Option term) group = optionDays group

@@ -15,6 +15,12 @@ const GB: u16 = 0x4742;
 
 const IE: u16 = 0x4945;
 
+// The text by which a future is listed.
+pub enum Text {
+    Of2008,
+    Of2005,
+}
+
 // An option's longest time to maturity.
 pub enum Term {
     Months12,
@@ -24,7 +30,7 @@ pub enum Term {
 
 // A product's kind.
 pub enum Kind {
-    Future,
+    Future(Text),
     Option(Term),
 }
 
@@ -50,7 +56,10 @@ pub fn kind_number(kind: Kind) -> u8
     ensures { λ r. ⌜ r ≡ kindNumber kind ⌝ }
 {
     match kind {
-        Kind::Future => 0,
+        Kind::Future(text) => match text {
+            Text::Of2008 => 0,
+            Text::Of2005 => 4,
+        },
         Kind::Option(term) => match term {
             Term::Months12 => 1,
             Term::Months24 => 2,
@@ -64,10 +73,11 @@ pub fn kind_of(number: u8) -> KindAnswer
     ensures { λ r. ⌜ r ≡ kindOf number ⌝ }
 {
     match number {
-        0 => KindAnswer::Is(Kind::Future),
+        0 => KindAnswer::Is(Kind::Future(Text::Of2008)),
         1 => KindAnswer::Is(Kind::Option(Term::Months12)),
         2 => KindAnswer::Is(Kind::Option(Term::Months24)),
         3 => KindAnswer::Is(Kind::Option(Term::Months60)),
+        4 => KindAnswer::Is(Kind::Future(Text::Of2005)),
         _ => KindAnswer::NotAKind,
     }
 }
@@ -77,7 +87,7 @@ pub fn is_future(kind: Kind) -> bool
     ensures { λ r. ⌜ r ≡ isFuture kind ⌝ }
 {
     match kind {
-        Kind::Future => true,
+        Kind::Future(_) => true,
         Kind::Option(_) => false,
     }
 }
@@ -139,7 +149,7 @@ pub fn id_right(id: [u8; 4]) -> bool
 fn first_digit(kind: u8) -> u8
     ensures { λ r. ⌜ r ≡ firstDigit kind ⌝ }
 {
-    if kind == 0 {
+    if (kind == 0) | (kind == 4) {
         return b'0';
     }
     b'1'
@@ -167,7 +177,7 @@ pub fn market_right(market: [u8; 4]) -> bool
 pub fn kind_right(kind: u8) -> bool
     ensures { λ r. ⌜ r ≡ kindRight kind ⌝ }
 {
-    kind <= 3
+    kind <= 4
 }
 
 // Question 7, the contract size.
@@ -302,7 +312,7 @@ pub fn settlement_days(kind: Kind, group: [u8; 4]) -> u8
     ensures { λ r. ⌜ r ≡ settlementDays kind group ⌝ }
 {
     match kind {
-        Kind::Future => 1,
+        Kind::Future(_) => 1,
         Kind::Option(_) => option_days(group),
     }
 }

@@ -104,7 +104,7 @@ sound-parts t e =
 pub given-most : (t : Table) → sound t ≡ true → t .given ≤ 60000
 given-most t e =
     let s = sound-parts t e in
-    omega (arith, s .most, before-most (t .calendar) (t .product .group) (t .date) (t .product .kind), places-most (t .product .kind))
+    omega (arith, s .most, before-most (t .calendar) (t .product .kind) (t .product .group) (t .date), places-most (t .product .kind))
 
 -- roll, by its first question answered no
 module _ (t : Table) (date : ℕ) where

@@ -63,7 +63,7 @@ fn is_listing_sound(t: Table) -> bool
     if t.given < n {
         return false;
     }
-    t.given - n <= listing::months_before(t.calendar, group, t.date)
+    t.given - n <= listing::months_before(t.calendar, kind, group, t.date)
 }
 
 // Question 10.
@@ -200,8 +200,10 @@ fn front_stays(t: Table, date: u16) -> bool
     ensures { λ r. ⌜ r ≡ eqb (front (ruleOf (t .calendar) (t .product .kind) (t .product .group)) (t .calendar) (t .date)) (front (ruleOf (t .calendar) (t .product .kind) (t .product .group)) (t .calendar) date) ⌝ }
 {
     let p = t.product;
+    let kind = p.kind;
     let group = p.group;
-    listing::front_month(t.calendar, group, t.date) == listing::front_month(t.calendar, group, date)
+    let now = listing::front_month(t.calendar, kind, group, t.date);
+    now == listing::front_month(t.calendar, kind, group, date)
 }
 
 // The same table on another date: no month entered or left.

@@ -1,6 +1,7 @@
 use Rattle.listing.proofs.Front.{found, front-is}
 use Rattle.listing.proofs.Fresh.{matOf, listing-is}
-use Rattle.listing.proofs.Taking.{rest, setOf, Walking, starts, enters, finishes, leaves, has-room, takes, stops, kind-below}
+use Rattle.listing.specs.Months.{setAt}
+use Rattle.listing.proofs.Taking.{rest, Walking, starts, enters, finishes, leaves, has-room, takes, stops, kind-below}
 use Rattle.calendar.specs.Trading.{calendarWith}
 use Rattle.listing.specs.Rules.{taken, complete}
 use lib.ListN.{replicate}
@@ -13,14 +14,14 @@ use Rattle.listing.proofs.list_in.Tie as tie
 
 abbrev Inv-loop : tie.InvT-loop
 Inv-loop cover closed group date row end maturities₀ listed₀ from₀ complete₀ step count j₀ maturities listed from complete j =
-    Walking (matOf (calendarWith cover closed) group) end row (found (calendarWith cover closed) group date) maturities listed from complete (replicate (count - j) (setOf step) ++ rest row (step + 1)) × (count ≤ 255)
+    Walking (matOf (calendarWith cover closed) group) end row (found (calendarWith cover closed) row group date) maturities listed from complete (replicate (count - j) (setAt row step) ++ rest row (step + 1)) × (count ≤ 255)
 
 abbrev μ-loop : tie.MeasureT-loop
 μ-loop cover closed group date row end maturities₀ listed₀ from₀ complete₀ step count j₀ maturities listed from complete j = count - j
 
 abbrev Inv-steps : tie.InvT-steps
 Inv-steps cover closed group date row end maturities₀ listed₀ from₀ complete₀ step₀ maturities listed from complete step =
-    Walking (matOf (calendarWith cover closed) group) end row (found (calendarWith cover closed) group date) maturities listed from complete (rest row step)
+    Walking (matOf (calendarWith cover closed) group) end row (found (calendarWith cover closed) row group date) maturities listed from complete (rest row step)
 
 abbrev μ-steps : tie.MeasureT-steps
 μ-steps cover closed group date row end maturities₀ listed₀ from₀ complete₀ step₀ maturities listed from complete step = 4 - step
@@ -40,7 +41,7 @@ front-month-in-requires c κs = tt
 steps-holds : tie.Need-steps-holds Inv-loop μ-loop Inv-steps μ-steps
 steps-holds c =
     let start = c .before .before .before .before in
-    rw (c .front-month-in .ensures .0 (start .args .kind) ∙ front-is _ _ _ (start .args .kind))
+    rw (c .front-month-in .ensures .0, front-is _ (start .args .kind) _ _ _ (c .before .before .kind-number .ensures))
     (starts _ _ (start .args .kind) _ _ (c .before .before .kind-number .ensures) (c .before .end-month .ensures .1))
 
 mul-count : tie.Need-mul-count Inv-loop μ-loop Inv-steps μ-steps
@@ -56,7 +57,7 @@ loop-holds : tie.Need-loop-holds Inv-loop μ-loop Inv-steps μ-steps
 loop-holds c = enters (c .before .before .steps .step) (c .before .steps-test .taken) (c .before .before .steps .inv)
 
 next-in-set-requires : tie.Need-next-in-set-requires Inv-loop μ-loop Inv-steps μ-steps
-next-in-set-requires c κs = c .before .before .before .steps-test .taken
+next-in-set-requires c κs = (c .before .loop .inv .0 .row, c .before .before .before .steps-test .taken)
 
 last-trading-day-in-requires : tie.Need-last-trading-day-in-requires Inv-loop μ-loop Inv-steps μ-steps
 last-trading-day-in-requires c κs = tt
@@ -99,7 +100,7 @@ returns c =
     let at-kind-number = at-end-month .before in
     let start = at-kind-number .before .before in
     finishes (c .before .steps .step) (c .steps-test .left) (c .before .steps .inv) ∙
-    listing-is _ (start .args .kind) _ (start .args .date) _ _ _ (at-kind-number .kind-number .ensures) (at-end-month .end-month .ensures .0) (sym (front-is _ _ _ (start .args .kind)))
+    listing-is _ (start .args .kind) _ (start .args .date) _ _ _ (at-kind-number .kind-number .ensures) (at-end-month .end-month .ensures .0) (sym (front-is _ (start .args .kind) _ _ _ (at-kind-number .kind-number .ensures)))
 
 returns-2 : tie.Need-returns-2 Inv-loop μ-loop Inv-steps μ-steps
 returns-2 c =
@@ -108,7 +109,7 @@ returns-2 c =
     let at-kind-number = at-end-month .before in
     let start = at-kind-number .before .before in
     stops _ _ _ _ (at-loop .loop .inv .0) (c .before .next-in-set .result) (c .before .before .loop-test .taken) (c .before .next-in-set .ensures) (c .if1 .taken) ∙
-    listing-is _ (start .args .kind) _ (start .args .date) _ _ _ (at-kind-number .kind-number .ensures) (at-end-month .end-month .ensures .0) (sym (front-is _ _ _ (start .args .kind)))
+    listing-is _ (start .args .kind) _ (start .args .date) _ _ _ (at-kind-number .kind-number .ensures) (at-end-month .end-month .ensures .0) (sym (front-is _ (start .args .kind) _ _ _ (at-kind-number .kind-number .ensures)))
 
 pub list-in-spec : {M : Type 1} → statement M
 list-in-spec =

@@ -19,14 +19,14 @@ returns : tie.Need-returns
 returns c =
     let start = c .before .before .before .before in
     let m = c .before .month-of .ensures ∙ ap monthOf (c .before .before .cover-start .ensures .0) in
-    (λ kind. omega (arith, before-is (start .args .cal) (start .args .group) (start .args .date) kind, c .before .before .before .front-month .ensures .0 kind, m, c .if1 .taken), omega arith)
+    (omega (arith, before-is (start .args .cal) (start .args .kind) (start .args .group) (start .args .date), c .before .before .before .front-month .ensures .0, m, c .if1 .taken), omega arith)
 
 returns-2 : tie.Need-returns-2
 returns-2 c =
     let start = c .before .before .before .before in
     let f = c .before .before .before .front-month .ensures in
     let m = c .before .month-of .ensures ∙ ap monthOf (c .before .before .cover-start .ensures .0) in
-    (λ kind. omega (arith, before-is (start .args .cal) (start .args .group) (start .args .date) kind, f .0 kind, m), omega (arith, f .1))
+    (omega (arith, before-is (start .args .cal) (start .args .kind) (start .args .group) (start .args .date), f .0, m), omega (arith, f .1))
 
 pub months-before-spec : {M : Type 1} → statement M
 months-before-spec =

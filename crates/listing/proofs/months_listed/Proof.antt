@@ -1,5 +1,5 @@
 use Rattle.listing.proofs.Taking.{rest-count, rest-zero, rest, rest-room, kind-below}
-use Rattle.listing.specs.Months.{monthSets, placesOf, rowOf}
+use Rattle.listing.specs.Months.{placesOf, rowOf, setsOf}
 use lib.ListN.{length}
 use Prim.Native.Nat.{ℕ, _+_, _-_, _≤_, _<_}
 use native.Mathlib.Omega.{arith}
@@ -8,7 +8,7 @@ use Rattle.listing.proofs.months_listed.Statement.{statement}
 use Rattle.listing.proofs.months_listed.Tie as tie
 
 abbrev Inv-loop : tie.InvT-loop
-Inv-loop row sum₀ step₀ sum step = (step ≤ 4) × (row < 4) × (length (rest row 0) ≤ 15) × (sum + length (rest row step) ≡ length (rest row 0))
+Inv-loop row sum₀ step₀ sum step = (step ≤ 4) × (row < 5) × (length (rest row 0) ≤ 15) × (sum + length (rest row step) ≡ length (rest row 0))
 
 abbrev μ-loop : tie.MeasureT-loop
 μ-loop row sum₀ step₀ sum step = 4 - step
@@ -53,7 +53,7 @@ unfolding rest
 returns c =
     let k = c .before .before .before .args .kind in
     let z = rest-zero _ (c .before .loop .step) (c .before .loop .inv .1) (c .loop-test .left) in
-    let r : length (rest (c .before .before .kind-number .result) 0) ≡ length (placesOf (rowOf k) monthSets) = ap (λ (i : ℕ). length (rest i 0)) (c .before .before .kind-number .ensures) in
+    let r : length (rest (c .before .before .kind-number .result) 0) ≡ length (placesOf (rowOf k) (setsOf k)) = ap (λ (i : ℕ). length (rest i 0)) (c .before .before .kind-number .ensures) in
     (omega arith, omega arith)
 
 pub months-listed-spec : {M : Type 1} → statement M

@@ -1,5 +1,5 @@
 use Rattle.questions.proofs.Search.{search-none, search-here, search-next}
-use Rattle.listing.proofs.Taking.{setOf}
+use Rattle.listing.specs.Months.{setAt}
 use Rattle.questions.specs.Search.{firstFrom}
 use Prim.Native.Nat.{_-_}
 use native.Mathlib.Omega.{arith}
@@ -8,10 +8,10 @@ use Rattle.listing.proofs.next_in_set.Statement.{statement}
 use Rattle.listing.proofs.next_in_set.Tie as tie
 
 abbrev Inv-loop : tie.InvT-loop
-Inv-loop step from end month₀ month = firstFrom (setOf step) end (end - month) month ≡ firstFrom (setOf step) end (end - from) from
+Inv-loop row step from end month₀ month = firstFrom (setAt row step) end (end - month) month ≡ firstFrom (setAt row step) end (end - from) from
 
 abbrev μ-loop : tie.MeasureT-loop
-μ-loop step from end month₀ month = end - month
+μ-loop row step from end month₀ month = end - month
 
 loop-holds : tie.Need-loop-holds Inv-loop μ-loop
 loop-holds c = refl

@@ -1,12 +1,12 @@
-use borrow.Author.Tests.{ne-eqb}
+use Rattle.product.proofs.KindNumbers.{future-digit, option-digit}
 use Rattle.product.proofs.first_digit.Statement.{statement}
 use Rattle.product.proofs.first_digit.Tie as tie
 
 returns : tie.Need-returns
-returns c = rw (c .if1 .taken)
+returns c = future-digit (c .before .args .kind) (c .if1 .taken)
 
 returns-2 : tie.Need-returns-2
-returns-2 c = simp (ne-eqb _ _ (c .if1 .left))
+returns-2 c = option-digit (c .before .args .kind) (c .if1 .left)
 
 pub first-digit-spec : {M : Type 1} → statement M
 first-digit-spec = tie.close (tie.spec returns returns-2)

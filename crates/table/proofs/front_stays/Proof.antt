@@ -10,9 +10,7 @@ front-month-requires-2 : tie.Need-front-month-requires-2
 front-month-requires-2 c κs = tt
 
 returns : tie.Need-returns
-returns c =
-    let k = c .before .before .before .before .args .t .product .kind in
-    ap₂ eqb (c .before .front-month .ensures .0 k) (c .front-month2 .ensures .0 k)
+returns c = ap₂ eqb (c .before .front-month .ensures .0) (c .front-month2 .ensures .0)
 
 pub front-stays-spec : {M : Type 1} → statement M
 front-stays-spec = tie.close (tie.spec front-month-requires front-month-requires-2 returns)

@@ -49,7 +49,7 @@ returns-4 c =
     let start = at-is-fresh .before in
     let yes-is-fresh = said-yes (at-is-fresh .is-fresh .ensures) (at-if1 .if1 .left) in
     let t = start .args .t in
-    listing-rest t yes-is-fresh (said-yes (at-are-numbers-right .are-numbers-right .ensures) (at-if2 .if2 .left)) _ (at-months-listed .months-listed .ensures .0) _ (c .before .before .if3 .left) (c .months-before .ensures .0 (t .product .kind))
+    listing-rest t yes-is-fresh (said-yes (at-are-numbers-right .are-numbers-right .ensures) (at-if2 .if2 .left)) _ (at-months-listed .months-listed .ensures .0) _ (c .before .before .if3 .left) (c .months-before .ensures .0)
 
 pub is-listing-sound-spec : {M : Type 1} → statement M
 is-listing-sound-spec =

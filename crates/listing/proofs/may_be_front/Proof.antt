@@ -1,0 +1,21 @@
+use Prim.Native.Nat.{_-_}
+use native.Mathlib.Omega.{arith}
+use Rattle.questions.proofs.Bools.{said-no, said-yes}
+use Rattle.listing.proofs.may_be_front.Statement.{statement}
+use Rattle.listing.proofs.may_be_front.Tie as tie
+
+in-set-requires : tie.Need-in-set-requires
+in-set-requires c κs = (c .before .pre, omega arith)
+
+returns : tie.Need-returns
+returns c = rw (said-no (c .before .in-set .ensures) (c .if1 .taken))
+
+last-trading-day-in-requires : tie.Need-last-trading-day-in-requires
+last-trading-day-in-requires c κs = tt
+
+returns-2 : tie.Need-returns-2
+returns-2 c = rw (c .last-trading-day-in .ensures, said-yes (c .before .before .in-set .ensures) (c .before .if1 .left))
+
+pub may-be-front-spec : {M : Type 1} → statement M
+may-be-front-spec =
+    tie.close (tie.spec in-set-requires returns last-trading-day-in-requires returns-2)
