@@ -88,16 +88,17 @@ def test_calendars():
             yield Calendar(first_year, years, closed)
 
 
-# One line on a day: in the cover, closed, trading day, the latest trading day
-# at or before it, the first and the third trading day after it.
+# One line on a day: in the cover, closed, trading day, the latest trading day at
+# or before it (0 where there is none) and the days stepped back to it, the first
+# and the third trading day after it.
 def trading_line(calendar, day):
-    latest = trading.latest_trading_day(calendar, day)
+    latest = trading.latest_trading_day(calendar, day) or 0
     first = trading.nth_trading_day_after(calendar, day, 1)
     third = trading.nth_trading_day_after(calendar, day, 3)
     return (f'T {day} {trading.in_cover(calendar, day):d}'
             f' {trading.is_closed(calendar, day):d}'
             f' {trading.is_trading_day(calendar, day):d}'
-            f' {0 if latest is None else latest}'
+            f' {latest} {day - latest}'
             f' {NO_DAY if first is None else first}'
             f' {NO_DAY if third is None else third}')
 
@@ -216,21 +217,23 @@ def closed_by(first_year, years, pattern):
         day for day in days if dates.is_weekday(day) and pattern(cover, day)))
 
 
-# The third Friday and the last trading day of each month of the cover.
+# The third Friday and the last trading day of each month of the cover, and the
+# days stepped back.
 def last_day_lines(calendar, group):
     for month in range(trading.first_month(calendar), trading.last_month(calendar) + 1):
         last = listing.last_trading_day(calendar, group, month)
-        yield f'A {month} {listing.third_friday(month)} {0 if last is None else last}'
+        back = listing.days_back(calendar, group, month)
+        yield f'A {month} {listing.third_friday(month)} {last} {back}'
 
 
 # The front month and the listing on every 41st date of the cover: complete or
-# not, then month, day and number 0 for each of 15 places.
+# not, then month, day, days stepped back and number 0 for each of 15 places.
 def listing_lines(calendar, group, kind):
     for date in range(trading.first_day(calendar), trading.last_day(calendar) + 1, 41):
         front = listing.front_month(calendar, group, kind, date)
         fresh = listing.fresh_listing(calendar, group, kind, date)
         complete = listing.listing_in_cover(calendar, group, kind, date)
-        places = [f'{month} {day} 0' for month, day in fresh] + ['0 0 0'] * (15 - len(fresh))
+        places = [f'{month} {day} {back} 0' for month, day, back in fresh] + ['0 0 0 0'] * (15 - len(fresh))
         yield f'L {date} {front} {complete:d} ' + ' '.join(places)
 
 

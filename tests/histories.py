@@ -130,12 +130,25 @@ def closed_weeks(script, numbers):
         make(script, [('C', day) for day in (*range(monday, monday + 5), monday)])
 
 
+# 02, note 2: "0 to 6". The days up to the third Friday of August 2008 closed one
+# after the other, the earliest last: an Italian month steps back to the Friday
+# before, another one to Monday.
+def stepped_back(script):
+    august = dates.month_number(2008, 8)
+    friday = dates.day_of(2008, 8, 15)
+    for code, last in ((b'ENI ', friday - 1), (b'AXA ', friday), (b'AXAF', friday)):
+        script.open(EXAMPLE, code, friday - 14)
+        for day in range(last, last - 4, -1):
+            script.close(day)
+            script.last_trading_day(august)
+
+
 # Many closures one after the other, with a roll after each ten.
 def many_closures(script, numbers, number, code, date, count):
     script.open(number, code, date)
     for step in range(count):
         soon = script.book.date + 1 + numbers.below(30)
-        script.close(numbers.one_of([soon, *(day for _, day, _ in script.book.maturities)]))
+        script.close(numbers.one_of([soon, *(day for _, day, _, _ in script.book.maturities)]))
         if step % 10 == 9:
             script.roll(script.book.date + numbers.below(25))
 
@@ -331,11 +344,16 @@ ANSWERS = {
 }
 
 
-# What the script must have: every answer of every call, and closures that push
-# the front month out, for each kind, with an Italian group and with another.
+# What the script must have: every answer of every call, closures that push the
+# front month out, for each kind, with an Italian group and with another, and every
+# number of days stepped back: an Italian Thursday may pass Monday to the Friday
+# before, a Friday steps back to Monday at most.
 def wanted():
     answers = {(letter, number) for letter, given in ANSWERS.items() for number in given}
-    return answers | {('pushed', kind, italian) for kind in product.KINDS for italian in (False, True)}
+    pushed = {('pushed', kind, italian) for kind in product.KINDS for italian in (False, True)}
+    back = {('back', back, italian) for italian, steps in ((False, (0, 1, 2, 3, 4)), (True, (0, 1, 2, 3, 6)))
+            for back in steps}
+    return answers | pushed | back
 
 
 # The script with all its histories.
@@ -352,6 +370,7 @@ def whole_script():
     pushed_at_the_end(script)
     closed_week_at_the_end(script)
     closed_weeks(script, numbers)
+    stepped_back(script)
     closure_histories(script, numbers)
     rolls_to_the_end(script, numbers)
     mixed_histories(script, numbers)

@@ -18,17 +18,25 @@ COUNT = 400
 # 01, "March 2008 and its neighbours": the input of the example.
 EXAMPLE = b'O AXA 2008-03-20\nR 2008-03-21\nC 2008-03-20\n'
 
+# 02, note 2: "0 to 6". The days up to the third Friday of August 2008, the 15th,
+# closed one after the other: an Italian month steps back to the Friday before, six
+# days, another one to Monday, four. The last day of the week gets 15.
+STEPS = (b'O ENI 2008-08-01\nC 2008-08-14\nC 2008-08-13\nC 2008-08-12\nC 2008-08-11\nC 2008-08-15\n'
+         b'O AXA 2008-08-01\nC 2008-08-15\nC 2008-08-14\nC 2008-08-13\nC 2008-08-12\nC 2008-08-11\n')
+
 
 # ---- Families: each a list of functions from random choices to a run ----
 
-# 01's example, also in pieces, from a file and without the final line feed.
+# 01's example, also in pieces, from a file and without the final line feed; every
+# number of days stepped back.
 def examples():
     def example(commands, feed):
         name = f'the example of document 01, {feed}'
         return lambda chance: with_file(name, lines.EXAMPLE_FILE, commands, feed)
 
     return [example(EXAMPLE, WHOLE), example(EXAMPLE, PIECES), example(EXAMPLE, STORED),
-            example(EXAMPLE[:-1], WHOLE), example(b'', CLOSED), example(b'', UNREADABLE)]
+            example(EXAMPLE[:-1], WHOLE), example(b'', CLOSED), example(b'', UNREADABLE),
+            lambda chance: with_file('days stepped back', lines.FILE, STEPS)]
 
 
 # The shapes of an input. Short ones come in pieces too, as a pipe holds them whole.
@@ -100,13 +108,16 @@ def cases(seed, count=COUNT):
 
 # 01, Questions: the refusals of open, roll and close. 10 can't come: the program
 # holds no table that is not sound. Opens of every kind, by the count of months
-# listed; rolls and closes with which a month left.
+# listed; rolls and closes with which a month left. 02, note 2: the days stepped
+# back; 5 can't come, as a Friday steps back to Monday at most, and a Thursday that
+# passes Monday to the Friday before.
 WANTED = frozenset((b'O 6', b'O 7', b'O 8', b'O 12', b'O 15', b'R', b'C', b'R left', b'C left', b'BAD',
-                    *(b'NO %d' % number for number in range(1, 17) if number != 10)))
+                    *(b'NO %d' % number for number in range(1, 17) if number != 10),
+                    *(b'back %d' % back for back in (0, 1, 2, 3, 4, 6))))
 
 
-# What a line says: a refusal, BAD, or the kind of an accepted call. None for a
-# maturity's line.
+# What a line says: a refusal, BAD, the kind of an accepted call, or the days that
+# a maturity stepped back. None for what follows the last line feed.
 def answer_of(line):
     words = line.split(b' ')
     if words[0] in (b'NO', b'BAD'):
@@ -115,7 +126,7 @@ def answer_of(line):
         return b'O ' + words[2]
     if words[0] in (b'R', b'C'):
         return words[0] if words[3] == b'0' else words[0] + b' left'
-    return None
+    return b'back ' + words[3] if line else None
 
 
 # The answers of an output.

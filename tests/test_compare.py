@@ -28,8 +28,10 @@ EXAMPLE = with_file('example', lines.FILE, sessions.EXAMPLE)
 RIGHT = f'cat 2>/dev/null | {sys.executable} -S -E {SECOND}'
 WRONG = {
     'another day': (f'{RIGHT} | sed "s/2009-03-20/2009-03-19/"',
-                    ('output line 14 (input line 2) differs', "b'7 2009-03 2009-03-20\\n'",
-                     "b'7 2009-03 2009-03-19\\n'")),
+                    ('output line 14 (input line 2) differs', "b'7 2009-03 2009-03-20 0\\n'",
+                     "b'7 2009-03 2009-03-19 0\\n'")),
+    'a day moved unseen': (f'{RIGHT} | sed "s/03-20 1$/03-20 0/"',
+                           ('output line 2 (input line 1) differs', "b'1 2008-03 2008-03-20 1\\n'")),
     'another number': (f'{RIGHT} | sed "s/NO 13/NO 12/"', ('output line 15 (input line 3)', "b'NO 12\\n'")),
     'a line more': (f'{RIGHT}; echo', ('output line 16', "b'\\n'")),
     'a line less': (f'{RIGHT} | head -n 14', ('output line 15 (input line 3)', "program:        b''")),
@@ -125,6 +127,16 @@ class Sessions(unittest.TestCase):
         self.assertEqual(case.commands, SESSION_INPUT)
         self.assertEqual(terms.answers(case.master.data, case.commands), SESSION_OUTPUT)
 
+    # 02, note 2: August 2008 as its last days are closed, for an Italian option and
+    # for another.
+    def test_days_stepped_back(self):
+        printed = terms.answers(lines.FILE, sessions.STEPS).decode().splitlines()
+        august = [line.split()[2:] for line in printed if ' 2008-08 ' in line]
+        self.assertEqual(august, [[f'2008-08-{day:02d}', back] for day, back in (
+            (14, '0'), (13, '1'), (12, '2'), (11, '3'), (8, '6'),
+            (15, '0'), (14, '1'), (13, '2'), (12, '3'), (11, '4'))])
+        self.assertEqual([line for line in printed if line[0] == 'N'], ['NO 15', 'NO 15'])
+
     # The set holds every family whole.
     def test_count(self):
         makers = [*sessions.examples(), *sessions.inputs(), *sessions.states(), *sessions.sized_files(),
@@ -146,9 +158,9 @@ class Sessions(unittest.TestCase):
         self.assertEqual({blocks for blocks, _ in sessions.file_plan()}, set(range(2, 129)))
 
     def test_answers(self):
-        printed = (b'O 2008-03-20 6 0 6\n1 2008-03 2008-03-20\nR 2008-03-21 1 1 7\n'
+        printed = (b'O 2008-03-20 6 0 6\n1 2008-03 2008-03-20 1\nR 2008-03-21 1 1 7\n'
                    b'C 2008-03-21 0 0 7\nNO 13\nBAD\n')
-        self.assertEqual(sessions.answers_in(printed), {b'O 6', b'R left', b'C', b'NO 13', b'BAD'})
+        self.assertEqual(sessions.answers_in(printed), {b'O 6', b'back 1', b'R left', b'C', b'NO 13', b'BAD'})
 
 
 if __name__ == '__main__':

@@ -30,19 +30,19 @@ AXA = Product(b'AXA ', b'FR11', b'XPAR', 1, 100, 100, b'EUR')
 SESSION_INPUT = b'O AXA 2008-03-20\nR 2008-03-21\nC 2008-03-20\n'
 SESSION_OUTPUT = b"""\
 O 2008-03-20 6 0 6
-1 2008-03 2008-03-20
-2 2008-04 2008-04-18
-3 2008-05 2008-05-16
-4 2008-06 2008-06-20
-5 2008-09 2008-09-19
-6 2008-12 2008-12-19
+1 2008-03 2008-03-20 1
+2 2008-04 2008-04-18 0
+3 2008-05 2008-05-16 0
+4 2008-06 2008-06-20 0
+5 2008-09 2008-09-19 0
+6 2008-12 2008-12-19 0
 R 2008-03-21 1 1 7
-2 2008-04 2008-04-18
-3 2008-05 2008-05-16
-4 2008-06 2008-06-20
-5 2008-09 2008-09-19
-6 2008-12 2008-12-19
-7 2009-03 2009-03-20
+2 2008-04 2008-04-18 0
+3 2008-05 2008-05-16 0
+4 2008-06 2008-06-20 0
+5 2008-09 2008-09-19 0
+6 2008-12 2008-12-19 0
+7 2009-03 2009-03-20 0
 NO 13
 """
 
@@ -113,6 +113,14 @@ class Examples(unittest.TestCase):
             self.assertEqual(dates.date_of(listing.last_trading_day(both, group, march)),
                              (2008, 3, 19))
 
+    # 02, note 2: "March 2008 in the example shows 1 for FR11".
+    def test_days_back(self):
+        march = dates.month_number(2008, 3)
+        both = trading.close_day(EASTER, THURSDAY_20)
+        for calendar, group, back in ((PLAIN, b'FR11', 0), (PLAIN, b'IT11', 0), (EASTER, b'FR11', 1),
+                                      (EASTER, b'IT11', 0), (both, b'FR11', 2), (both, b'IT11', 1)):
+            self.assertEqual(listing.days_back(calendar, group, march), back)
+
     def test_third_friday(self):
         for month, day in ((8, 15), (3, 21)):
             friday = listing.third_friday(dates.month_number(2008, month))
@@ -124,7 +132,7 @@ class Examples(unittest.TestCase):
                             (21, [(2008, 4), (2008, 5), (2008, 6), (2008, 9), (2008, 12),
                                   (2009, 3)])):
             fresh = listing.fresh_listing(EASTER, b'FR11', 1, dates.day_of(2008, 3, day))
-            self.assertEqual([dates.year_and_month(month) for month, _ in fresh], months)
+            self.assertEqual([dates.year_and_month(month) for month, _, _ in fresh], months)
 
     def test_cash_and_tick(self):
         future = opened([item(b'F', b'FR01', 0)], Calendar(2008, 5, frozenset()), THURSDAY_20)
@@ -247,7 +255,7 @@ class Listings(unittest.TestCase):
         }
         for kind, months in expected.items():
             fresh = listing.fresh_listing(calendar, b'FR11', kind, date)
-            self.assertEqual([terms.month_text(month) for month, _ in fresh], months)
+            self.assertEqual([terms.month_text(month) for month, _, _ in fresh], months)
             self.assertTrue(listing.listing_in_cover(calendar, b'FR11', kind, date))
 
     def test_month_beyond_the_cover(self):
@@ -269,9 +277,19 @@ class Listings(unittest.TestCase):
                                  and dates.is_weekday(friday - k))
                 calendar = replace(PLAIN, closed=days)
                 if trading.every_week_trades(calendar):
-                    seen.add(listing.anchor(group, month)
-                             - listing.last_trading_day(calendar, group, month))
+                    seen.add(listing.days_back(calendar, group, month))
             self.assertEqual(seen, steps)
+
+    # 02, note 2: "0 to 6". Thursday's week closed up to it: an Italian month ends on
+    # the Friday before, six days back.
+    def test_italian_thursday_steps_back_6(self):
+        month = dates.month_number(2008, 8)
+        thursday = listing.third_friday(month) - 1
+        calendar = replace(PLAIN, closed=frozenset(range(thursday - 3, thursday + 1)))
+        self.assertTrue(trading.every_week_trades(calendar))
+        self.assertEqual(listing.last_trading_day(calendar, b'IT11', month), thursday - 6)
+        self.assertEqual(listing.days_back(calendar, b'IT11', month), 6)
+        self.assertEqual(listing.days_back(calendar, b'FR11', month), 0)
 
 
 class FuturesOf2005(unittest.TestCase):
@@ -281,7 +299,7 @@ class FuturesOf2005(unittest.TestCase):
 
     def months(self, calendar, year, month, day, group=b'FR01'):
         fresh = listing.fresh_listing(calendar, group, 4, dates.day_of(year, month, day))
-        return [terms.month_text(month) for month, _ in fresh]
+        return [terms.month_text(month) for month, _, _ in fresh]
 
     def test_examples(self):
         self.assertEqual(self.months(EASTER, 2008, 3, 20),
@@ -350,7 +368,7 @@ class FuturesOf2005(unittest.TestCase):
     def test_kind_0(self):
         fresh = listing.fresh_listing(Calendar(2008, 5, frozenset()), b'FR01', 0, THURSDAY_20)
         first = dates.month_number(2008, 3)
-        self.assertEqual([month for month, _ in fresh], [*range(first, first + 13), first + 21, first + 33])
+        self.assertEqual([month for month, _, _ in fresh], [*range(first, first + 13), first + 21, first + 33])
 
 
 class MasterFiles(unittest.TestCase):
@@ -552,9 +570,9 @@ class Tables(unittest.TestCase):
     def test_values(self):
         held = opened([AXA], EASTER, THURSDAY_20)
         march = dates.month_number(2008, 3)
-        self.assertEqual(table.last_trading_day(held, march), (0, THURSDAY_20))
+        self.assertEqual(table.last_trading_day(held, march), (0, THURSDAY_20, 1))
         for month in (march - 1, march + 4, 1200, 0):
-            self.assertEqual(table.last_trading_day(held, month), (18, 0))
+            self.assertEqual(table.last_trading_day(held, month), (18, 0, 0))
         self.assertEqual(table.due(held, THURSDAY_20), (0, dates.day_of(2008, 3, 26)))
         self.assertEqual(table.due(held, FRIDAY_21), (14, 0))
         self.assertEqual(table.due(held, 2921), (11, 0))
@@ -585,12 +603,12 @@ class Tables(unittest.TestCase):
             self.assertEqual(product.days_to_settlement(item(b'A', group, 0)), 1)
 
     def months_of(self, held):
-        return [terms.month_text(month) for month, _, _ in table.maturities(held)]
+        return [terms.month_text(month) for month, _, _, _ in table.maturities(held)]
 
     # 01, "Where loaders go astray", in its order.
     def test_where_loaders_go_astray(self):
         held = opened([AXA], EASTER, THURSDAY_20)
-        self.assertEqual(table.maturities(held)[0][:2], (dates.month_of(FRIDAY_21), THURSDAY_20))
+        self.assertEqual(table.maturities(held)[0], (dates.month_of(FRIDAY_21), THURSDAY_20, 1, 1))
         self.assertEqual(table.roll(held, THURSDAY_20)[2:], (0, 0))
         july = dates.month_number(2008, 7)
         thursday = listing.third_friday(july) - 1
@@ -603,7 +621,7 @@ class Tables(unittest.TestCase):
         later = table.roll(table.roll(held, FRIDAY_21)[1], dates.day_of(2008, 4, 19))[1]
         self.assertEqual(self.months_of(later),
                          ['2008-05', '2008-06', '2008-07', '2008-09', '2008-12', '2009-03'])
-        self.assertEqual([number for _, _, number in table.maturities(later)],
+        self.assertEqual([number for _, _, _, number in table.maturities(later)],
                          [3, 4, 8, 5, 6, 7])
         held = opened([AXA], replace(PLAIN, closed=frozenset([THURSDAY_20])), THURSDAY_20)
         number, held, entered, left = table.close(held, FRIDAY_21)
@@ -621,14 +639,15 @@ class Soundness(unittest.TestCase):
         def with_place(index, place):
             return replace(held, places=tuple(places[:index] + [place] + places[index + 1:]))
 
-        month, day, number = places[1]
+        month, day, back, number = places[1]
         bad = [
             replace(held, date=2921), replace(held, date=36525),
             replace(held, date=THURSDAY_20), replace(held, date=dates.day_of(2008, 4, 19)),
-            with_place(1, (month + 1, day, number)), with_place(1, (month, day + 1, number)),
-            with_place(1, (month, day, 0)), with_place(1, (month, day, 8)),
-            with_place(1, (month, day, places[0][2])), with_place(14, (0, 0, 1)),
-            with_place(6, (0, 1, 0)), replace(held, places=tuple(places[:14])),
+            with_place(1, (month + 1, day, back, number)), with_place(1, (month, day + 1, back, number)),
+            with_place(1, (month, day, back + 1, number)), with_place(1, (month, day - 1, back + 1, number)),
+            with_place(1, (month, day, back, 0)), with_place(1, (month, day, back, 8)),
+            with_place(1, (month, day, back, places[0][3])), with_place(14, (0, 0, 0, 1)),
+            with_place(6, (0, 1, 0, 0)), with_place(6, (0, 0, 1, 0)), replace(held, places=tuple(places[:14])),
             replace(held, given=6), replace(held, given=10),
             replace(held, calendar=replace(EASTER, closed=frozenset())),
             replace(held, calendar=replace(EASTER, closed=EASTER.closed | {dates.day_of(2008, 3, 22)})),
@@ -646,7 +665,7 @@ class Soundness(unittest.TestCase):
             self.assertFalse(table.is_sound(damaged), index)
             self.assertEqual(table.roll(damaged, damaged.date), (10, damaged, 0, 0))
             self.assertEqual(table.close(damaged, damaged.date + 1), (10, damaged, 0, 0))
-            self.assertEqual(table.last_trading_day(damaged, month), (10, 0))
+            self.assertEqual(table.last_trading_day(damaged, month), (10, 0, 0))
             self.assertEqual(table.due(damaged, damaged.date), (10, 0))
             self.assertEqual(table.tick(damaged, 0), 10)
             self.assertEqual(table.cash(damaged, 0, 0, 0), (10, 0))
@@ -839,7 +858,7 @@ class Expected(unittest.TestCase):
         self.assertEqual(len(heads), 20)
         self.assertEqual(heads[0], 'K 0 2000 1 1 1 1')
         self.assertEqual(heads[14], 'K 14 2084 16 1 1 0')
-        self.assertEqual(lines[1:3], ['T 0 1 0 0 0 2 4', 'T 5 1 0 1 5 6 10'])
+        self.assertEqual(lines[1:3], ['T 0 1 0 0 0 0 2 4', 'T 5 1 0 1 5 0 6 10'])
         self.assertEqual(lines[-1][0], 'X')
 
     def test_files(self):

@@ -1,10 +1,12 @@
-"""The book of demand 3 (01, "The table"). It knows nothing of table.py."""
+"""The book of demand 3 (01, "The table"; 02, note 2). It knows nothing of
+table.py."""
 
 from second import listing, trading
 
 
 # 01, The table: "It holds a calendar, a date, maturities (month, day, number),
-# the count given and the months that left."
+# the count given and the months that left." A maturity also has the days stepped
+# back: (month, day, days back, number).
 class Book:
 
     # 01, The table: "fed the opened product's kind and group, the file's
@@ -17,8 +19,8 @@ class Book:
         self.calendar = calendar
         self.date = date
         fresh = listing.fresh_listing(calendar, group, kind, date)
-        self.maturities = [(month, day, place + 1)
-                           for place, (month, day) in enumerate(fresh)]
+        self.maturities = [(month, day, back, place + 1)
+                           for place, (month, day, back) in enumerate(fresh)]
         self.given = len(fresh)
         self.left = []
 
@@ -33,15 +35,16 @@ class Book:
     # old one joins those that left." The accepted call's answer: (0, entered,
     # left).
     def _accept(self, calendar, date):
-        fresh = dict(listing.fresh_listing(calendar, self.group, self.kind, date))
-        numbers = {month: number for month, _, number in self.maturities}
+        fresh = {month: (day, back) for month, day, back
+                 in listing.fresh_listing(calendar, self.group, self.kind, date)}
+        numbers = {month: number for month, _, _, number in self.maturities}
         entered = sorted(fresh.keys() - numbers.keys())
         left = sorted(numbers.keys() - fresh.keys())
         for place, month in enumerate(entered):
             numbers[month] = self.given + 1 + place
         self.calendar = calendar
         self.date = date
-        self.maturities = [(month, fresh[month], numbers[month])
+        self.maturities = [(month, *fresh[month], numbers[month])
                            for month in sorted(fresh)]
         self.given += len(entered)
         self.left += left

@@ -1,5 +1,5 @@
 """Last trading days and listed months (01, "Last trading day", "Listed
-months", question 16; 02, note 1)."""
+months", question 16; 02, notes 1 and 2)."""
 
 from functools import lru_cache
 
@@ -52,6 +52,12 @@ def anchor(group, month):
 # day, else the latest trading day before it." The month lies in the cover.
 def last_trading_day(calendar, group, month):
     return trading.latest_trading_day(calendar, anchor(group, month))
+
+
+# 02, note 2: "the number of days it stepped back from the anchor, 0 to 6, equal
+# to anchor − day".
+def days_back(calendar, group, month):
+    return anchor(group, month) - last_trading_day(calendar, group, month)
 
 
 # Whether a month lies beyond the cover.
@@ -127,12 +133,13 @@ def listed_months(calendar, group, kind, date):
     return months_by_steps(calendar, group, kind, date)
 
 
-# 01, The table: "the fresh listing": pairs of month and last trading day by
-# rising month; months beyond the cover are left out.
+# 01, The table: "the fresh listing": month, last trading day and days stepped
+# back by rising month; months beyond the cover are left out.
 @lru_cache(maxsize=64)
 def fresh_listing(calendar, group, kind, date):
     months, _ = listed_months(calendar, group, kind, date)
-    return tuple((month, last_trading_day(calendar, group, month)) for month in months)
+    return tuple((month, last_trading_day(calendar, group, month), days_back(calendar, group, month))
+                 for month in months)
 
 
 # 01, question 16: "Are all months of the fresh listing in the cover?"

@@ -1,4 +1,5 @@
-"""The table of listed maturities and its calls (01, "The table", "Questions").
+"""The table of listed maturities and its calls (01, "The table", "Questions";
+02, note 2).
 
 Every call answers first the number of the question that refused it, or 0.
 """
@@ -10,12 +11,13 @@ from second.product import NO_PRODUCT, Product
 from second.trading import Calendar
 
 PLACES = 15
-UNUSED = (0, 0, 0)
+UNUSED = (0, 0, 0, 0)
 
 
 # 01, The table: "It holds the product's fields, the calendar, the date, up to
 # 15 maturities by rising month (month, last trading day, listing number; unused
-# places zero) and the count of numbers given."
+# places zero) and the count of numbers given." 02, note 2: "The table keeps [the
+# days stepped back] for each maturity". A place: month, day, days back, number.
 @dataclass(frozen=True)
 class Table:
     product: Product
@@ -51,17 +53,17 @@ def listing_in_cover(table):
 # month left if the old table had it and the new has not." The table comes with
 # its new calendar and date and its old maturities. (table, entered, left).
 def relist(table):
-    old = {month: number for month, _, number in maturities(table)}
+    old = {month: number for month, _, _, number in maturities(table)}
     fresh = fresh_listing(table)
     given = table.given
     places = []
-    for month, day in fresh:
+    for month, day, back in fresh:
         if month in old:
-            places.append((month, day, old[month]))
+            places.append((month, day, back, old[month]))
         else:
             given += 1
-            places.append((month, day, given))
-    left = len(set(old) - {month for month, _ in fresh})
+            places.append((month, day, back, given))
+    left = len(set(old) - {month for month, _, _ in fresh})
     entered = given - table.given
     places += [UNUSED] * (PLACES - len(places))
     return replace(table, places=tuple(places), given=given), entered, left
@@ -80,10 +82,11 @@ def fields_are_sound(table):
 
 
 # 01, The table: "its months and days are the fresh listing, all of it in the
-# cover, and unused places are zero".
+# cover, and unused places are zero"; of the days stepped back, 02, note 2: "a
+# sound table has it right".
 def places_are_sound(table):
     fresh = fresh_listing(table)
-    used = tuple((month, day) for month, day, _ in table.places[:len(fresh)])
+    used = tuple((month, day, back) for month, day, back, _ in table.places[:len(fresh)])
     unused = table.places[len(fresh):]
     return (len(table.places) == PLACES and listing_in_cover(table)
             and used == fresh and all(place == UNUSED for place in unused))
@@ -94,7 +97,7 @@ def places_are_sound(table):
 # month".
 def numbers_are_sound(table):
     fresh = fresh_listing(table)
-    numbers = [number for _, _, number in table.places[:len(fresh)]]
+    numbers = [number for _, _, _, number in table.places[:len(fresh)]]
     months_before = fresh[0][0] - trading.first_month(table.calendar)
     return (len(set(numbers)) == len(numbers)
             and all(1 <= number <= table.given for number in numbers)
@@ -160,14 +163,15 @@ def close(table, day):
 
 # ---- Calls that give values ----
 
-# 01, Questions: "Last trading day of a listed month: 10, 18." (number, day).
+# 01, Questions: "Last trading day of a listed month: 10, 18."; 02, note 2: with
+# the days stepped back. (number, day, days back).
 def last_trading_day(table, month):
     if not is_sound(table):
-        return 10, 0
-    for listed, day, _ in maturities(table):
+        return 10, 0, 0
+    for listed, day, back, _ in maturities(table):
         if listed == month:
-            return 0, day
-    return 18, 0
+            return 0, day, back
+    return 18, 0, 0
 
 
 # 01, Questions: "Due: 10, 11, 14, 17." "Due day: the n-th trading day after a

@@ -1,4 +1,4 @@
-"""The program `terms` (01, "March 2008 and its neighbours").
+"""The program `terms` (01, "March 2008 and its neighbours"; 02, note 2).
 
 python3 tests/second/terms.py reads master.bin in the current folder and
 commands from standard input, and prints the answers. It ends with status 0, or
@@ -87,11 +87,12 @@ def month_text(month):
 
 
 # 01: "It prints the call's letter, the table's date after the call, entered,
-# left, given; then number, month, last trading day for each maturity".
+# left, given; then number, month, last trading day for each maturity". 02, note
+# 2: it "prints [the days stepped back] as a fourth number on each maturity line".
 def report(letter, held, entered, left):
     lines = ['%s %s %d %d %d' % (letter, day_text(held.date), entered, left, held.given)]
-    for month, day, number in table.maturities(held):
-        lines.append('%d %s %s' % (number, month_text(month), day_text(day)))
+    for month, day, back, number in table.maturities(held):
+        lines.append('%d %s %s %d' % (number, month_text(month), day_text(day), back))
     return lines
 
 

@@ -1,11 +1,11 @@
 """Damaged tables: one field of a sound table changed, and every call on it (01,
-"A table is sound if"; 02, note 1)."""
+"A table is sound if"; 02, notes 1 and 2)."""
 
 from second import dates, listing, product, table, trading
 from tables.files import (EXAMPLE, ONE_YEAR, SEVEN_YEARS, SIXTEEN_YEARS, SIXTEEN_YEARS_2005,
                           THREE_YEARS_2005, first_date)
-from tables.script import (CLOSED, CURRENCY, DATE, DAY, FIRST_YEAR, GIVEN, GROUP, ID, KIND, MARKET,
-                           MONTH, NUMBER, SIZE, TICK, YEARS)
+from tables.script import (BACK, CLOSED, CURRENCY, DATE, DAY, FIRST_YEAR, GIVEN, GROUP, ID, KIND,
+                           MARKET, MONTH, NUMBER, SIZE, TICK, YEARS)
 
 
 # 01, The table: "its product fields [..] satisfy [..] 7", each field in turn.
@@ -61,8 +61,8 @@ def calendar_damages(now):
 def listing_damages(now):
     calendar = now.calendar
     used = len(table.maturities(now))
-    month, day, _ = now.places[0]
-    unused = [(MONTH + place % 3, place, 1) for place in range(used, table.PLACES)]
+    month, day, _, _ = now.places[0]
+    unused = [((MONTH, DAY, NUMBER)[place % 3], place, 1) for place in range(used, table.PLACES)]
     return [(DATE, 0, max(0, trading.first_day(calendar) - 1)), (DATE, 0, trading.last_day(calendar) + 1),
             (DATE, 0, trading.last_day(calendar)), (DATE, 0, 65535), (DATE, 0, day + 1),
             (MONTH, 0, month + 1), (MONTH, 0, month - 1), (MONTH, used - 1, 0),
@@ -71,16 +71,26 @@ def listing_damages(now):
             (DAY, used - 1, now.places[used - 2][1]), *unused]
 
 
+# 02, note 2: "a sound table has it right": the days stepped back of used places,
+# the second of which has stepped back, and of an unused one.
+def back_damages(now):
+    used = len(table.maturities(now))
+    back = now.places[1][2]
+    unused = [(BACK, used, 1), (BACK, table.PLACES - 1, 65535)] if used < table.PLACES else []
+    return [(BACK, 0, now.places[0][2] + 1), (BACK, 1, 0), (BACK, 1, back - 1), (BACK, 1, back + 1),
+            (BACK, used - 1, 65535), *unused]
+
+
 # 01, The table: "its numbers are distinct, from 1 to the count given; and given
 # − listed is at least 0 and at most the number of cover months before the front
 # month": doubled, zero, above given; given too small and too large.
 def number_damages(now):
     used = len(table.maturities(now))
     most = used + now.places[0][0] - trading.first_month(now.calendar)
-    return [(NUMBER, 0, now.places[1][2]), (NUMBER, used - 1, now.places[0][2]),
-            (NUMBER, 2, now.places[used - 1][2]), (NUMBER, 0, 0), (NUMBER, used - 1, 0),
+    return [(NUMBER, 0, now.places[1][3]), (NUMBER, used - 1, now.places[0][3]),
+            (NUMBER, 2, now.places[used - 1][3]), (NUMBER, 0, 0), (NUMBER, used - 1, 0),
             (NUMBER, 0, now.given + 1), (NUMBER, used - 1, now.given + 1), (NUMBER, 1, 65535),
-            (GIVEN, 0, used - 1), (GIVEN, 0, now.places[used - 1][2] - 1), (GIVEN, 0, 0),
+            (GIVEN, 0, used - 1), (GIVEN, 0, now.places[used - 1][3] - 1), (GIVEN, 0, 0),
             (GIVEN, 0, most + 1), (GIVEN, 0, 65535)]
 
 
@@ -134,7 +144,7 @@ def try_damage(script, change):
 # Every damage of a table.
 def damages_of(now):
     return (*product_damages(now.product), *calendar_damages(now),
-            *listing_damages(now), *number_damages(now))
+            *listing_damages(now), *back_damages(now), *number_damages(now))
 
 
 # The saved table damaged in each way.

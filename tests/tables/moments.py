@@ -20,7 +20,7 @@ def some_date(numbers, book):
 # A day to close: a last trading day or the day before, one soon after the date,
 # a Saturday, a day already closed, one not after the date, one outside the cover.
 def some_day(numbers, book):
-    _, last, _ = numbers.one_of(book.maturities)
+    _, last, _, _ = numbers.one_of(book.maturities)
     front = book.maturities[0][1]
     soon = book.date + 1 + numbers.below(60)
     return numbers.one_of((
@@ -62,14 +62,14 @@ CONTRACTS = (0, 1, 3, 100000, 100001, 4294967295)
 # A month for the call of a listed month: listed, just before and after the
 # listing, between two listed ones, out of range.
 def some_month(numbers, book):
-    month, _, _ = numbers.one_of(book.maturities)
+    month, _, _, _ = numbers.one_of(book.maturities)
     return numbers.one_of((month, month, max(0, month - 1), month + 1, 1200, 65535))
 
 
 # A day for the due day: near the date, a last trading day, near the cover's
 # end, outside the cover.
 def some_due_day(numbers, book):
-    _, last, _ = numbers.one_of(book.maturities)
+    _, last, _, _ = numbers.one_of(book.maturities)
     end = trading.last_day(book.calendar)
     return numbers.one_of((last, last, book.date + numbers.below(9), end - numbers.below(6),
                            end - numbers.below(6), end + 1 + numbers.below(400)))

@@ -1,5 +1,5 @@
 """A script of table calls: its records, the lines that they must print, and the
-table and the book that they leave (01, "The table", "Questions")."""
+table and the book that they leave (01, "The table", "Questions"; 02, note 2)."""
 
 from dataclasses import replace
 from functools import lru_cache
@@ -50,9 +50,9 @@ def words(*numbers):
 
 
 # The words on a table: date, given, first year, years, the two sums, then
-# month, day and number of all 15 places.
+# month, day, days stepped back and number of all 15 places.
 def table_words(item, calendar, date, places, given):
-    unused = [(0, 0, 0)] * (table.PLACES - len(places))
+    unused = [(0, 0, 0, 0)] * (table.PLACES - len(places))
     return (words(date, given, calendar.first_year, calendar.years,
                   calendar_sum(calendar), product_sum(item))
             + ''.join(words(*place) for place in [*places, *unused]))
@@ -62,7 +62,7 @@ def table_words(item, calendar, date, places, given):
 
 # The fields by number, as the record says them.
 (ID, GROUP, MARKET, KIND, SIZE, TICK, CURRENCY, FIRST_YEAR, YEARS, CLOSED, DATE,
- MONTH, DAY, NUMBER, GIVEN) = range(15)
+ MONTH, DAY, BACK, NUMBER, GIVEN) = range(16)
 CODES = {ID: 'id', GROUP: 'group', MARKET: 'market', CURRENCY: 'currency'}
 PLAIN = {KIND: 'kind', SIZE: 'size', TICK: 'tick'}
 
@@ -103,7 +103,7 @@ def damage(old, field, place, value):
         return replace(old, product=damage_product(old.product, field, place, value))
     if field in (FIRST_YEAR, YEARS, CLOSED):
         return replace(old, calendar=damage_calendar(old.calendar, field, place, value))
-    if field in (MONTH, DAY, NUMBER):
+    if field in (MONTH, DAY, BACK, NUMBER):
         return replace(old, places=damage_places(old.places, field, place, value))
     return replace(old, **{'date' if field == DATE else 'given': value})
 
@@ -143,6 +143,9 @@ class Script:
     def write_outcome(self, entry, outcome):
         refusal, self.table, entered, left = outcome
         now = self.table
+        if refusal == 0:
+            italian = product.is_italian(now.product.group)
+            self.seen |= {('back', back, italian) for _, _, back, _ in table.maturities(now)}
         self.write(entry, chr(entry[0]) + words(refusal, entered, left) + table_words(
             now.product, now.calendar, now.date, now.places, now.given), refusal)
         return refusal
@@ -163,7 +166,7 @@ class Script:
 
     # 01, The table: "the table's calendar, date, maturities (month, day,
     # number) and count given are the book's; so are every call's acceptance or
-    # refusal number and its two counts".
+    # refusal number and its two counts". Days stepped back are compared too.
     def compare_with_book(self, outcome, answer):
         book = self.book
         if book is None:
@@ -193,8 +196,8 @@ class Script:
 
     # 01, Questions: "Last trading day of a listed month: 10, 18."
     def last_trading_day(self, month):
-        refusal, day = table.last_trading_day(self.table, month)
-        self.write(record('L', number=month), 'L' + words(refusal, day), refusal)
+        refusal, day, back = table.last_trading_day(self.table, month)
+        self.write(record('L', number=month), 'L' + words(refusal, day, back), refusal)
         return refusal
 
     # 01, Questions: "Due: 10, 11, 14, 17."

@@ -1,7 +1,6 @@
 // The cover, its closed days and its trading days.
 ghost use mathlib.Core.Path.{_≡_};
 ghost use Prim.Native.Nat.{_-_, _≤_};
-ghost use Rattle.questions.specs.Search.{latest};
 ghost use Rattle.calendar.specs.Trading.{calendarWith, validCover, coverStart, coverEnd, inCover, slotOf, closedOn, tradingDay, nextTradingDay, nthTradingDay, closeDay};
 
 // A run of whole years.
@@ -142,28 +141,6 @@ pub fn is_trading_day(cal: Calendar, day: u16) -> bool
 {
     let cover = cal.cover;
     is_trading_day_in(cover, &cal.closed, day)
-}
-
-// The latest trading day at or before a day, by the cover and the lent maps; 0, a Saturday, where there is none.
-pub fn latest_trading_day_in(cover: Cover, closed: &[u8], day: u16) -> u16
-    ensures { λ r. ⌜ r ≡ latest (tradingDay (calendarWith cover (now (closed .entry)))) day ⌝ }
-{
-    let mut d = day;
-    while 0 < d {
-        if is_trading_day_in(cover, closed, d) {
-            return d;
-        }
-        d -= 1;
-    }
-    0
-}
-
-// The latest trading day at or before a day; 0, a Saturday, where there is none.
-pub fn latest_trading_day(cal: Calendar, day: u16) -> u16
-    ensures { λ r. ⌜ r ≡ latest (tradingDay cal) day ⌝ }
-{
-    let cover = cal.cover;
-    latest_trading_day_in(cover, &cal.closed, day)
 }
 
 // The first trading day after a day; 36,525 where the cover has none.

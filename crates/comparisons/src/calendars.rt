@@ -15,7 +15,9 @@ fn day_line(cal: Calendar, day: u16) {
     put_answer(calendar::in_cover(cal.cover, day));
     put_answer(calendar::is_closed(cal, day));
     put_answer(calendar::is_trading_day(cal, day));
-    put(calendar::latest_trading_day(cal, day));
+    let last = expiry::last_day(cal, day);
+    put(last.day);
+    put(last.back);
     put(calendar::nth_trading_day(cal, day, 1));
     put(calendar::nth_trading_day(cal, day, 3));
     end_line();

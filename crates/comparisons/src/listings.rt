@@ -11,7 +11,7 @@ use product::Kind;
 use product::KindAnswer;
 ghost use Prim.Native.Nat.{_<_};
 
-// The last trading day of each month of the cover.
+// The last trading day of each month of the cover, and the days stepped back.
 fn month_lines(cal: Calendar, group: [u8; 4]) {
     let first = days::month_of(calendar::cover_start(cal.cover));
     let end = days::month_of(calendar::cover_end(cal.cover));
@@ -19,7 +19,9 @@ fn month_lines(cal: Calendar, group: [u8; 4]) {
         start_line(b'A');
         put(month);
         put(expiry::third_friday(month));
-        put(expiry::last_trading_day(cal, group, month));
+        let last = expiry::last_trading_day(cal, group, month);
+        put(last.day);
+        put(last.back);
         end_line();
     }
 }
@@ -29,6 +31,7 @@ fn put_maturities(maturities: [Maturity; 15]) {
         let m = maturities[i];
         put(m.month);
         put(m.day);
+        put(m.back);
         put(m.number);
     }
 }

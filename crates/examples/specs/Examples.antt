@@ -18,7 +18,7 @@ use Rattle.product.specs.declared.Product.{Product}
 use Rattle.product.specs.Fields.{EUR}
 use Rattle.product.specs.Settlement.{IT, groupCode}
 use Rattle.listing.specs.Rules.{freshKeys}
-use Rattle.expiry.specs.LastDays.{thirdFriday, lastTradingDay}
+use Rattle.expiry.specs.LastDays.{thirdFriday, lastTradingDay, workedOut}
 use Rattle.listing.specs.Months.{ruleOf}
 use Rattle.table.specs.declared.Table.{Table}
 use Rattle.table.specs.Table.{openedTable}
@@ -108,6 +108,12 @@ rows =
     -- 'With 20 March closed too: 19 March for both'
     eqb (lastTradingDay also20 FR11 (monthNumber 2008 3)) (dayOf 2008 3 19) ∷
     eqb (lastTradingDay also20 IT11 (monthNumber 2008 3)) (dayOf 2008 3 19) ∷
+    -- 'March 2008 in the example shows 1 for FR11' (02, note 2), and 0 for IT11
+    eqb (workedOut only21 FR11 (monthNumber 2008 3) .back) 1 ∷
+    eqb (workedOut only21 IT11 (monthNumber 2008 3) .back) 0 ∷
+    -- with 20 March closed too 2 and 1
+    eqb (workedOut also20 FR11 (monthNumber 2008 3) .back) 2 ∷
+    eqb (workedOut also20 IT11 (monthNumber 2008 3) .back) 1 ∷
     -- 'A third Friday on the 15th (August 2008) and on the 21st (March 2008)'
     eqb (thirdFriday (monthNumber 2008 8)) (dayOf 2008 8 15) ∷
     eqb (thirdFriday (monthNumber 2008 3)) (dayOf 2008 3 21) ∷

@@ -1,4 +1,4 @@
--- The third Friday, the anchor and the last trading day (01, Last trading day; 002, 1.6.4).
+-- The third Friday, the anchor and the last trading day (01, Last trading day; 002, 1.6.4; 02, note 2).
 -- Assumes nothing.
 use Prim.Native.Nat.{ℕ, _+_, _-_}
 use mathlib.Core.Bool.{Bool, cond}
@@ -10,6 +10,7 @@ use Rattle.days.specs.Dates.{firstOf}
 use Rattle.calendar.specs.declared.Calendar.{Calendar}
 use Rattle.calendar.specs.Trading.{tradingDay}
 use Rattle.product.specs.Settlement.{italian}
+use Rattle.expiry.specs.declared.LastDay.{LastDay}
 
 -- a Friday
 abbrev pub friday : ℕ → Bool
@@ -30,3 +31,11 @@ lastDay cal anchor = cond (tradingDay cal anchor) anchor (latest (tradingDay cal
 -- the last trading day of a month
 unfoldable pub lastTradingDay : Calendar → List ℕ → ℕ → ℕ
 lastTradingDay cal group m = lastDay cal (anchorOf group m)
+
+-- a day with 'the number of days it stepped back from the anchor, .. equal to anchor − day' (02, note 2)
+abbrev pub steppedTo : ℕ → ℕ → LastDay
+steppedTo anchor day = record { day = day; back = anchor - day }
+
+-- 'The working-out of a last trading day now also returns the number of days it stepped back from the anchor' (02, note 2)
+unfoldable pub workedOut : Calendar → List ℕ → ℕ → LastDay
+workedOut cal group m = steppedTo (anchorOf group m) (lastTradingDay cal group m)

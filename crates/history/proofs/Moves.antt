@@ -12,7 +12,7 @@ use borrow.Author.Tests.{not-true}
 use Rattle.questions.proofs.Bools.{clash, both, is-false, lt-or-ge}
 use Rattle.calendar.specs.declared.Calendar.{Calendar}
 use Rattle.listing.specs.declared.Maturity.{Maturity}
-use Rattle.listing.specs.Rules.{Rule, lastDayOf, front, countFrom, monthsBefore, freshKeys, maturity}
+use Rattle.listing.specs.Rules.{Rule, lastOf, front, countFrom, monthsBefore, freshKeys, maturity}
 use Rattle.listing.proofs.Walks.{bit}
 use Rattle.listing.proofs.Places.{before-none}
 use Rattle.listing.proofs.Lawful.{Lawful, inListing, front-most, fresh-is, key-of, keys-stay}
@@ -66,10 +66,10 @@ module _ (r : Rule) (w : Lawful r) where
 
   module _ (cal : Calendar) (date : ℕ) (nu : ℕ → ℕ) where
     pub listed-now : (k : ℕ) → isListed (map (maturity r cal nu) (freshKeys r cal date)) k ≡ now r cal date k
-    listed-now k = rw (fresh-is r w cal date) (listed-is (lastDayOf r cal) nu (now r cal date) k (r .beyond) (below cal date k))
+    listed-now k = rw (fresh-is r w cal date) (listed-is (lastOf r cal) nu (now r cal date) k (r .beyond) (below cal date k))
 
     number-now : (k : ℕ) → numberOf (map (maturity r cal nu) (freshKeys r cal date)) k ≡ cond (now r cal date k) (nu k) 0
-    number-now k = number-of (lastDayOf r cal) nu (freshKeys r cal date) k ∙ rw (listed-now k)
+    number-now k = number-of (lastOf r cal) nu (freshKeys r cal date) k ∙ rw (listed-now k)
 
   module _ (cal : Calendar) (date : ℕ) (ms : List Maturity) (given : ℕ) (nu : ℕ → ℕ) (I : Numbered r cal date ms given nu) where
     -- a key is listed where the fresh listing has it, and then has its number
@@ -132,7 +132,7 @@ module _ (r : Rule) (w : Lawful r) where
 
       renumbered-now : renumbered ms given (fresh r cal′ date′) ≡ map (maturity r cal′ numbers-then) (freshKeys r cal′ date′)
       renumbered-now =
-          renumbered-is p p′ nu (lastDayOf r cal′) (λ k. 0) given ms present-is (λ k e. number-is k ∙ rw e) (freshKeys r cal′ date′)
+          renumbered-is p p′ nu (lastOf r cal′) (λ k. 0) given ms present-is (λ k e. number-is k ∙ rw e) (freshKeys r cal′ date′)
           (listing-rises r w cal′ date′ (λ k. 0)) (listed-now cal′ date′ (λ k. 0))
 
       listed-then : (k : ℕ) → isListed (renumbered ms given (fresh r cal′ date′)) k ≡ isListed (fresh r cal′ date′) k
@@ -237,7 +237,7 @@ module _ (r : Rule) (w : Lawful r) where
     first-listing : renumbered [] 0 (fresh r cal date) ≡ map (maturity r cal first-numbers) (freshKeys r cal date)
     unfolding isListed
     first-listing =
-        renumbered-is (λ k. false) (now r cal date) (λ k. 0) (lastDayOf r cal) (λ k. 0) 0 [] (λ k. refl) (λ k e. clash e refl) (freshKeys r cal date)
+        renumbered-is (λ k. false) (now r cal date) (λ k. 0) (lastOf r cal) (λ k. 0) 0 [] (λ k. refl) (λ k e. clash e refl) (freshKeys r cal date)
         (listing-rises r w cal date (λ k. 0)) (listed-now cal date (λ k. 0))
 
     first-count : 0 + countFrom (but (now r cal date) (λ k. false)) (r .beyond) 0 ≡ length (fresh r cal date)

@@ -10,6 +10,7 @@ use lib.Dec.{eqb}
 use borrow.Author.Tests.{eqb-true, eqb-false, eq-eqb}
 use Rattle.questions.specs.Search.{oneOf}
 use Rattle.questions.proofs.Bools.{clash, both, or-left, or-right, or-either, same-test}
+use Rattle.expiry.specs.declared.LastDay.{LastDay}
 use Rattle.listing.specs.declared.Maturity.{Maturity}
 use Rattle.listing.proofs.Walks.{bit, put, sift}
 use Rattle.places.specs.Numbering.{isListed, numberOf, renumbered}
@@ -18,9 +19,9 @@ use Rattle.listing.specs.Rules.{countFrom}
 use Rattle.places.proofs.Counting.{count-end, count-before}
 use Rattle.places.proofs.Renumbering.{with-numbers, number-with, with-same, number-in, renumbered-with}
 
--- a maturity by its key, with days and numbers
-abbrev pub mat : (ℕ → ℕ) → (ℕ → ℕ) → ℕ → Maturity
-mat dy nu k = record { month = k; day = dy k; number = nu k }
+-- a maturity by its key, with last trading days and numbers
+abbrev pub mat : (ℕ → LastDay) → (ℕ → ℕ) → ℕ → Maturity
+mat dy nu k = record { month = k; day = dy k .day; back = dy k .back; number = nu k }
 
 -- the keys of q that p has not
 abbrev pub but : (ℕ → Bool) → (ℕ → Bool) → ℕ → Bool
@@ -71,7 +72,7 @@ unfolding isListed oneOf
 listed-one [] x = refl
 listed-one (m ∷ ms) x = rw (eqb-either (m .month) x, listed-one ms x)
 
-module _ (dy nu : ℕ → ℕ) where
+module _ (dy : ℕ → LastDay) (nu : ℕ → ℕ) where
   months-of : (ks : List ℕ) → map (λ m. m .month) (map (mat dy nu) ks) ≡ ks
   months-of [] = refl
   months-of (k ∷ ks) = ap (_∷_ k) (months-of ks)
@@ -96,7 +97,7 @@ abbrev pub next : (ℕ → Bool) → ℕ → (ℕ → ℕ) → ℕ → ℕ
 next new given nu k = cond (new k) (suc (given + countFrom new k 0)) (nu k)
 
 -- so a listing is numbered
-module _ (p p′ : ℕ → Bool) (nu dy blank : ℕ → ℕ) (given : ℕ) (old : List Maturity) (listed : (k : ℕ) → isListed old k ≡ p k)
+module _ (p p′ : ℕ → Bool) (nu : ℕ → ℕ) (dy : ℕ → LastDay) (blank : ℕ → ℕ) (given : ℕ) (old : List Maturity) (listed : (k : ℕ) → isListed old k ≡ p k)
     (kept : (k : ℕ) → p k ≡ true → numberOf old k ≡ nu k) (ks : List ℕ) (rises : Rising (map (mat dy blank) ks))
     (fresh : (k : ℕ) → isListed (map (mat dy blank) ks) k ≡ p′ k) where
   number-next : (k : ℕ) → p′ k ≡ true → number-in old given (map (mat dy blank) ks) k ≡ next (but p′ p) given nu k

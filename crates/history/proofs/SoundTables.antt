@@ -1,7 +1,7 @@
--- Every call on a sound table gives a sound table, and no listing number passes 192.
+-- Every call on a sound table gives a sound table, no listing number passes 192, and no day stepped back more than six days.
 -- Assumes nothing.
 use mathlib.Core.Path.{_≡_, refl, sym, ap, _∙_}
-use mathlib.Core.Bool.{Bool, true, false, not, _||_, cond}
+use mathlib.Core.Bool.{Bool, true, false, not, _&&_, _||_, cond}
 use mathlib.Core.List.{List, [], _∷_, map}
 use mathlib.Core.Logic.{_⊎_, inl, inr}
 use Prim.Native.Nat.{ℕ, zero, suc, _-_, _≤_, _<_}
@@ -15,12 +15,14 @@ use Rattle.questions.specs.Questions.{firstNo}
 use Rattle.questions.specs.Search.{every}
 use Rattle.questions.proofs.Bools.{both, lt-or-ge}
 use Rattle.questions.proofs.Search.{every-at}
+use Rattle.expiry.specs.declared.LastDay.{LastDay}
+use Rattle.expiry.specs.LastDays.{lastTradingDay, workedOut}
 use Rattle.listing.specs.declared.Maturity.{Maturity}
-use Rattle.listing.specs.Rules.{Rule, lastDayOf, monthsBefore, freshKeys, maturity, unused, places15}
-use Rattle.listing.specs.Months.{placesOfKind, ruleOf}
-use Rattle.listing.proofs.Lawful.{Lawful, complete-length, keys-rise}
+use Rattle.listing.specs.Rules.{Rule, lastOf, monthsBefore, freshKeys, maturity, unused, places15}
+use Rattle.listing.specs.Months.{placesOfKind, monthly, ruleOf}
+use Rattle.listing.proofs.Lawful.{Lawful, complete-length, key-at, keys-rise}
 use Rattle.listing.proofs.Fresh.{places-most}
-use Rattle.listing.proofs.Monthly.{monthly-lawful, monthly-places, monthly-begins, monthly-most}
+use Rattle.listing.proofs.Monthly.{monthly-lawful, monthly-places, monthly-begins, monthly-most, six-back}
 use Rattle.table.specs.declared.Table.{Table}
 use Rattle.places.specs.Numbering.{isListed, numberOf, sameMaturity, numbersRight}
 use Rattle.places.proofs.Rising.{place-of, at-map}
@@ -107,14 +109,31 @@ module _ (t : Table) (s : Sound t) where
       at-used (fresh r (t .calendar) (t .date)) i (omega (arith, as-many, length-map (freshKeys r (t .calendar) (t .date)) (maturity r (t .calendar) (λ k. 0))))
       ∙ at-map (maturity r (t .calendar) (λ k. 0)) unused (freshKeys r (t .calendar) (t .date)) i (omega (arith, as-many))
 
-  -- the month and the day of the fresh listing
-  same-in : (i : ℕ) → i < n → (in-place i .month ≡ key i) × (in-place i .day ≡ lastDayOf r (t .calendar) (key i))
+  -- the last trading day of the month in a place, with the days stepped back
+  abbrev last : ℕ → LastDay
+  last i = lastOf r (t .calendar) (key i)
+
+  -- the month, the day and the days stepped back are the fresh listing's
+  same-in : (i : ℕ) → i < n → (in-place i .month ≡ key i) × (in-place i .day ≡ last i .day) × (in-place i .back ≡ last i .back)
   unfolding listsFresh
   same-in i h =
       let l : i < 15 = omega (arith, places-most (t .product .kind)) in
       let e : sameMaturity (in-place i) (getD (places15 (fresh r (t .calendar) (t .date))) i unused) ≡ true = both _ _ (every-at _ 15 i (s .lists) l) .0 in
-      let (a, b) = both (eqb (in-place i .month) (key i)) (eqb (in-place i .day) (lastDayOf r (t .calendar) (key i))) (rw (fresh-in i h) at e) in
-      (eqb-true (in-place i .month) (key i) a, eqb-true (in-place i .day) (lastDayOf r (t .calendar) (key i)) b)
+      let (a, f) = both (eqb (in-place i .month) (key i)) (eqb (in-place i .day) (last i .day) && eqb (in-place i .back) (last i .back)) (rw (fresh-in i h) at e) in
+      let (b, c) = both (eqb (in-place i .day) (last i .day)) (eqb (in-place i .back) (last i .back)) f in
+      (eqb-true (in-place i .month) (key i) a, eqb-true (in-place i .day) (last i .day) b, eqb-true (in-place i .back) (last i .back) c)
+
+  -- so they are those that are worked out for the month
+  last-in : (i : ℕ) → i < n → _≡_ {A = LastDay} (record { day = in-place i .day; back = in-place i .back }) (workedOut (t .calendar) (t .product .group) (in-place i .month))
+  unfolding monthly workedOut lastTradingDay
+  last-in i h = rw (same-in i h .0, same-in i h .1, same-in i h .2)
+
+  back-in : (i : ℕ) → i < n → in-place i .back ≤ 6
+  unfolding monthly lastTradingDay
+  back-in i h =
+      let k = key-at r w (t .calendar) (t .date) i (omega (arith, as-many)) in
+      let b = monthly-begins (t .calendar .cover) (t .product .kind) (t .product .group) (t .calendar) (t .date) (s .opened .covered) in
+      omega (arith, same-in i h .2, six-back (t .calendar) (t .product .group) (s .opened .valid) (s .opened .weeks) (key i) (omega (arith, k .from, b)) (k .below))
 
   -- numbers from 1 to the count given, distinct
   record Number (i : ℕ) : Type 0 where
@@ -175,7 +194,7 @@ module _ (t : Table) (s : Sound t) where
       each : (i : ℕ) → i < n → getD (listedIn t) i unused ≡ getD (map (maturity r (t .calendar) (numberOf (listedIn t))) (freshKeys r (t .calendar) (t .date))) i unused
       each i h =
           listed-at i h
-          ∙ same-maturity (in-place i) (maturity r (t .calendar) (numberOf (listedIn t)) (key i)) (same-in i h .0) (same-in i h .1) (sym (number-key i h))
+          ∙ same-maturity (in-place i) (maturity r (t .calendar) (numberOf (listedIn t)) (key i)) (same-in i h .0) (same-in i h .1) (same-in i h .2) (sym (number-key i h))
           ∙ sym (at-map (maturity r (t .calendar) (numberOf (listedIn t))) unused (freshKeys r (t .calendar) (t .date)) i (omega (arith, as-many)))
 
   -- the place of a listed month has its number
@@ -275,6 +294,15 @@ module _ (t : Table) (e : sound t ≡ true) where
 
   pub number-bound : (m : ℕ) → numberOf (listedIn t) m ≤ 192
   number-bound m = omega (arith, sound-numbered .numbers .small m, given-bound)
+
+  -- 'a sound table has it right': the day and the days stepped back of each maturity are those that are worked out (02, note 2)
+  pub last-right : (i : ℕ) → i < placesOfKind (t .product .kind)
+      → _≡_ {A = LastDay} (record { day = getD (t .maturities) i unused .day; back = getD (t .maturities) i unused .back }) (workedOut (t .calendar) (t .product .group) (getD (t .maturities) i unused .month))
+  last-right = last-in t (sounds t e)
+
+  -- 'the number of days it stepped back from the anchor, 0 to 6' (02, note 2)
+  pub back-most : (i : ℕ) → i < placesOfKind (t .product .kind) → getD (t .maturities) i unused .back ≤ 6
+  back-most = back-in t (sounds t e)
 
   -- accepted or refused, a call on it gives a sound table
   pub call-sound : (c : Call) → sound (tableCall t c .table) ≡ true

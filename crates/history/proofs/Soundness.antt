@@ -17,8 +17,9 @@ use Rattle.calendar.specs.declared.Calendar.{Calendar}
 use Rattle.calendar.specs.Trading.{validCover, inCover, clean, everyWeek}
 use Rattle.product.specs.declared.Product.{Product}
 use Rattle.product.specs.Fields.{productRight}
+use Rattle.expiry.specs.declared.LastDay.{LastDay}
 use Rattle.listing.specs.declared.Maturity.{Maturity}
-use Rattle.listing.specs.Rules.{Rule, lastDayOf, monthsBefore, freshKeys, maturity, unused, places15}
+use Rattle.listing.specs.Rules.{Rule, lastOf, monthsBefore, freshKeys, maturity, unused, places15}
 use Rattle.listing.specs.Months.{placesOfKind, ruleOf, allInCover}
 use Rattle.listing.proofs.Walks.{sift-at}
 use Rattle.listing.proofs.Lawful.{Lawful, fresh-is, complete-length, keys-rise}
@@ -67,11 +68,11 @@ pub at-used : (ms : List Maturity) (i : ℕ) → i < length ms → getD (places1
 unfolding places15
 at-used ms i h = List·getD-append ms (replicate (15 - length ms) unused) unused i h
 
--- the same months and days, whatever the numbers
-module _ (dy nu mu : ℕ → ℕ) where
+-- the same months, days and days stepped back, whatever the numbers
+module _ (dy : ℕ → LastDay) (nu mu : ℕ → ℕ) where
   same-at : (n : ℕ) (ks : List ℕ) (i : ℕ) → sameMaturity (getD (map (mat dy nu) ks ++ replicate n unused) i unused) (getD (map (mat dy mu) ks ++ replicate n unused) i unused) ≡ true
   same-at n [] i = rw (at-same unused n i)
-  same-at n (k ∷ ks) zero = and-both (eq-eqb k k refl) (eq-eqb (dy k) (dy k) refl)
+  same-at n (k ∷ ks) zero = and-both (eq-eqb k k refl) (and-both (eq-eqb (dy k .day) (dy k .day) refl) (eq-eqb (dy k .back) (dy k .back) refl))
   same-at n (k ∷ ks) (suc i) = same-at n ks i
 
   same-places : (ks : List ℕ) (i : ℕ) → sameMaturity (getD (places15 (map (mat dy nu) ks)) i unused) (getD (places15 (map (mat dy mu) ks)) i unused) ≡ true
@@ -109,7 +110,7 @@ module _ (p : Product) (cal : Calendar) (date : ℕ) (ms : List Maturity) (given
     lists-them = every-all _ 15 (λ i h. each i (lt-or-ge i (n)))
       where
         same : (i : ℕ) → sameMaturity (getD (places15 ms) i unused) (getD (places15 (fresh r cal date)) i unused) ≡ true
-        same i = rw (I .listing) (same-places (lastDayOf r cal) nu (λ k. 0) (freshKeys r cal date) i)
+        same i = rw (I .listing) (same-places (lastOf r cal) nu (λ k. 0) (freshKeys r cal date) i)
 
         each : (i : ℕ) → (i < n) ⊎ (n ≤ i)
             → (sameMaturity (getD (places15 ms) i unused) (getD (places15 (fresh r cal date)) i unused) && (ltb i (n) || eqb (getD (places15 ms) i unused .number) 0)) ≡ true

@@ -23,7 +23,7 @@ pub record Reply : Type 0 where
   pub entered : ℕ
   pub left : ℕ
 
--- 'It holds a calendar, a date, maturities (month, day, number), the count given and the months that left'
+-- 'It holds a calendar, a date, maturities (month, day, number), the count given and the months that left'; a maturity has the days stepped back too (02, note 2)
 pub record Book : Type 0 where
   pub calendar : Calendar
   pub date : ℕ

@@ -99,7 +99,7 @@ module _ (p : Product) (cal : Calendar) (date : ℕ) where
 
   -- 'Demand 3 is a single claim about the list': at the moment after the calls cs, at any later moment after cs ++ ds, and for one more call
   pub record Demand3 (cs ds : List Call) : Type 0 where
-    -- 'After it, the table's calendar, date, maturities (month, day, number) and count given are the book's'
+    -- 'After it, the table's calendar, date, maturities (month, day, number) and count given are the book's', and so are the days stepped back
     pub book-calendar : after cs .calendar ≡ book cs .calendar
     pub book-date : after cs .date ≡ book cs .date
     pub book-maturities : after cs .maturities ≡ places15 (book cs .maturities)
@@ -109,7 +109,7 @@ module _ (p : Product) (cal : Calendar) (date : ℕ) where
     pub same-product : after cs .product ≡ p
     -- 'so are every call's acceptance or refusal number and its two counts'
     pub replies : answers cs ≡ bookAnswers cs
-    -- 'months and last trading days equal a listing made afresh from the opened product, the file's calendar with the accepted closures, and the date of the last accepted roll (or the opening)'
+    -- 'months and last trading days equal a listing made afresh from the opened product, the file's calendar with the accepted closures, and the date of the last accepted roll (or the opening)'; the days stepped back too (02, note 2)
     pub calendar-is : after cs .calendar ≡ calendarThen cs
     pub date-is : after cs .date ≡ dateThen cs
     pub fresh : unnumbered (listedIn (after cs)) ≡ freshOf (calendarThen cs) (p .kind) (p .group) (dateThen cs)

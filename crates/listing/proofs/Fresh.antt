@@ -15,7 +15,7 @@ use Rattle.product.specs.Fields.{kindNumber}
 use Rattle.listing.specs.declared.Maturity.{Maturity}
 use Rattle.listing.specs.declared.Listing.{Listing}
 use Rattle.listing.specs.Rules.{front, freshKeys, complete, unused, places15}
-use Rattle.expiry.specs.LastDays.{lastTradingDay}
+use Rattle.expiry.specs.LastDays.{lastTradingDay, workedOut}
 use Rattle.listing.specs.Months.{placesOfKind, monthly, ruleOf, freshOf, allInCover, listingOf}
 use Rattle.listing.proofs.Taking.{rest, grown, whole-is, rest-room}
 
@@ -26,13 +26,13 @@ places-most kind = rest-room kind
 
 -- a month as the code lists it
 abbrev pub matOf : Calendar → List ℕ → ℕ → Maturity
-matOf cal group m = record { month = m; day = lastTradingDay cal group m; number = 0 }
+matOf cal group m = record { month = m; day = workedOut cal group m .day; back = workedOut cal group m .back; number = 0 }
 
 module _ (cal : Calendar) (kind : Kind) (group : List ℕ) (date : ℕ) where
   -- the whole walk of the code is the definition's listing
   pub listing-is : (k e from : ℕ) → k ≡ kindNumber kind → e ≡ monthOf (coverEnd (cal .cover)) → from ≡ front (ruleOf cal kind group) cal date
       → grown (matOf cal group) e (length (rest k 0)) 0 (replicate 15 unused) (rest k 0) from ≡ listingOf cal kind group date
-  unfolding listingOf complete freshKeys monthly rest lastTradingDay
+  unfolding listingOf complete freshKeys monthly rest lastTradingDay workedOut
   listing-is k e from q p s =
       rw (q, p, s) (whole-is (matOf cal group) (monthOf (coverEnd (cal .cover))) (kindNumber kind) (front (ruleOf cal kind group) cal date) (rest-room kind))
 

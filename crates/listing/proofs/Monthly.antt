@@ -24,7 +24,7 @@ use Rattle.product.specs.declared.Text.the-variants.{Of2008, Of2005}
 use Rattle.product.specs.declared.Term.the-variants.{Months12, Months24, Months60}
 use Rattle.product.specs.Settlement.{italian}
 use Rattle.listing.specs.Rules.{front, freshKeys}
-use Rattle.expiry.specs.LastDays.{thirdFriday, anchorOf, lastTradingDay}
+use Rattle.expiry.specs.LastDays.{thirdFriday, anchorOf, lastTradingDay, workedOut}
 use Rattle.listing.specs.Months.{quarters, monthSets, names2005, inSet, placesOf, rowOf, setsOf, placesOfKind, monthly, ruleOf}
 use Rattle.expiry.proofs.Fridays.{third-is, last-is}
 use Rattle.listing.proofs.Places.{Nested, nested-wider, nested-first}
@@ -223,6 +223,11 @@ module _ (cal : Calendar) (group : List ℕ) (valid : validCover (cal .cover) �
       (within-six cal weeks (anchorOf group m)
       (omega (arith, v .start, first-le (monthOf (coverStart (cal .cover))) m a, i .0))
       (omega (arith, v .end, first-le (suc m) (monthOf (coverEnd (cal .cover))) b, i .1)))
+
+  -- 'the number of days it stepped back from the anchor, 0 to 6' (02, note 2), of every month of the cover
+  pub back-six : (m : ℕ) → monthOf (coverStart (cal .cover)) ≤ m → m < monthOf (coverEnd (cal .cover)) → workedOut cal group m .back ≤ 6
+  unfolding workedOut
+  back-six m a b = omega (arith, six-back m a b)
 
   -- and the last trading days rise strictly with the months
   pub days-apart : (m n : ℕ) → monthOf (coverStart (cal .cover)) ≤ m → m < n → n < monthOf (coverEnd (cal .cover)) → lastTradingDay cal group m < lastTradingDay cal group n

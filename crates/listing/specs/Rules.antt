@@ -7,7 +7,8 @@ use lib.Dec.{leb, ltb, eqb}
 use lib.ListN.{length, replicate}
 use Rattle.questions.specs.Search.{firstFrom}
 use Rattle.calendar.specs.declared.Calendar.{Calendar}
-use Rattle.expiry.specs.LastDays.{lastDay}
+use Rattle.expiry.specs.declared.LastDay.{LastDay}
+use Rattle.expiry.specs.LastDays.{lastDay, steppedTo}
 use Rattle.listing.specs.declared.Maturity.{Maturity}
 
 -- what a product's kind and group, and the cover, say of its maturities
@@ -71,13 +72,17 @@ freshKeys r cal date = taken (r .beyond) (r .places) (front r cal date)
 unfoldable pub complete : Rule → Calendar → ℕ → Bool
 complete r cal date = eqb (length (freshKeys r cal date)) (length (r .places))
 
--- a maturity: 'month, last trading day, listing number'
+-- the last trading day of a key, with the days stepped back from its anchor (02, note 2)
+abbrev pub lastOf : Rule → Calendar → ℕ → LastDay
+lastOf r cal k = steppedTo (r .anchor k) (lastDayOf r cal k)
+
+-- a maturity: 'month, last trading day, listing number', and the days stepped back: 'The table keeps it for each maturity' (02, note 2)
 abbrev pub maturity : Rule → Calendar → (ℕ → ℕ) → ℕ → Maturity
-maturity r cal number k = record { month = k; day = lastDayOf r cal k; number = number k }
+maturity r cal number k = record { month = k; day = lastOf r cal k .day; back = lastOf r cal k .back; number = number k }
 
 -- an unused place
 abbrev pub unused : Maturity
-unused = record { month = 0; day = 0; number = 0 }
+unused = record { month = 0; day = 0; back = 0; number = 0 }
 
 -- 'up to 15 maturities by rising month ..; unused places zero'
 unfoldable pub places15 : List Maturity → List Maturity

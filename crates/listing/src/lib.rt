@@ -12,10 +12,11 @@ ghost use Rattle.listing.specs.Rules.{front, monthsBefore, nextOf};
 ghost use Rattle.expiry.specs.LastDays.{lastTradingDay};
 ghost use Rattle.listing.specs.Months.{monthSets, names2005, inSet, setAt, placesOfKind, ruleOf, listingOf};
 
-// A listed maturity. A listing that is not yet numbered has number 0.
+// A listed maturity: its month, its last trading day, and how many days that day lies before the anchor. A listing that is not yet numbered has number 0.
 pub struct Maturity {
     pub month: u16,
     pub day: u16,
+    pub back: u16,
     pub number: u16,
 }
 
@@ -110,7 +111,8 @@ fn may_be_front(
     if !in_set(row, 0, month) {
         return false;
     }
-    date <= expiry::last_trading_day_in(cover, closed, group, month)
+    let last = expiry::last_trading_day_in(cover, closed, group, month);
+    date <= last.day
 }
 
 // The front month of a kind on a date, by the cover and the lent maps; the first month beyond the cover where the cover has none.
@@ -158,6 +160,7 @@ pub fn list_in(cover: Cover, closed: &[u8], kind: Kind, group: [u8; 4], date: u1
     let unused = Maturity {
         month: 0,
         day: 0,
+        back: 0,
         number: 0,
     };
     let mut maturities = [unused; 15];
@@ -172,10 +175,11 @@ pub fn list_in(cover: Cover, closed: &[u8], kind: Kind, group: [u8; 4], date: u1
                 complete = false;
                 break 'steps;
             }
-            let day = expiry::last_trading_day_in(cover, closed, group, month);
+            let last = expiry::last_trading_day_in(cover, closed, group, month);
             maturities[listed] = Maturity {
                 month: month,
-                day: day,
+                day: last.day,
+                back: last.back,
                 number: 0,
             };
             listed = listed + 1;

@@ -53,6 +53,7 @@ fn refused_opening(number: u8) -> Opening
     let unused = Maturity {
         month: 0,
         day: 0,
+        back: 0,
         number: 0,
     };
     let fresh = [unused; 15];

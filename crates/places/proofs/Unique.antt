@@ -17,9 +17,9 @@ use Rattle.places.specs.Laws.{Rising, RenumberedLaw, MissingLaw}
 use Rattle.places.proofs.Rising.{rising-tail, rising-above, rising-once}
 use Rattle.places.proofs.Renumbering.{renumbered-law, missing-law}
 
--- a maturity is its month, day and number
-pub same-maturity : (m n : Maturity) → m .month ≡ n .month → m .day ≡ n .day → m .number ≡ n .number → m ≡ n
-same-maturity m n a b c = rw (← a, ← b, ← c)
+-- a maturity is its month, day, days stepped back and number
+pub same-maturity : (m n : Maturity) → m .month ≡ n .month → m .day ≡ n .day → m .back ≡ n .back → m .number ≡ n .number → m ≡ n
+same-maturity m n a b c d = rw (← a, ← b, ← c, ← d)
 
 -- the first of rising months is the least
 least : (m : Maturity) (ms : List Maturity) → Rising (m ∷ ms) → (k : ℕ) → isListed (m ∷ ms) k ≡ true → m .month ≤ k
@@ -90,7 +90,7 @@ same-numbers [] [] r e h = refl
 same-numbers [] (n ∷ ns) r e h = absurd (omega (arith, ap length e))
 same-numbers (m ∷ ms) [] r e h = absurd (omega (arith, ap length e))
 same-numbers (m ∷ ms) (n ∷ ns) r e h =
-    ap₂ _∷_ (same-maturity m n a (ap (λ (ls : List Maturity). getD ls 0 unused .day) e) (rw (eq-eqb (m .month) (n .month) a, eq-eqb (n .month) (n .month) refl) at (h (n .month) (here n ns))))
+    ap₂ _∷_ (same-maturity m n a (ap (λ (ls : List Maturity). getD ls 0 unused .day) e) (ap (λ (ls : List Maturity). getD ls 0 unused .back) e) (rw (eq-eqb (m .month) (n .month) a, eq-eqb (n .month) (n .month) refl) at (h (n .month) (here n ns))))
     (same-numbers ms ns (rising-tail n ns r) (ap (drop 1) e) rest)
   where
     a : m .month ≡ n .month

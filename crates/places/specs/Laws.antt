@@ -19,7 +19,7 @@ only ms others m = isListed ms m && not (isListed others m)
 
 -- the old listing, the count given, the fresh listing, and the one that then holds its months with their numbers
 pub record RenumberedLaw (old : List Maturity) (given : ℕ) (fresh result : List Maturity) : Type 0 where
-  -- 'The fresh listing then replaces the old': its months and days, in its order
+  -- 'The fresh listing then replaces the old': its months, days and days stepped back, in its order
   pub replaces : unnumbered result ≡ unnumbered fresh
   -- 'A month in both keeps its number'
   pub keeps : (m : ℕ) → isListed fresh m ≡ true → isListed old m ≡ true → numberOf result m ≡ numberOf old m

@@ -26,9 +26,9 @@ missing (m ∷ ms) others = cond (isListed others (m .month)) (missing ms others
 
 -- a maturity with a listing number
 abbrev pub withNumber : Maturity → ℕ → Maturity
-withNumber m n = record { month = m .month; day = m .day; number = n }
+withNumber m n = record { month = m .month; day = m .day; back = m .back; number = n }
 
--- the months and days, without the numbers
+-- the months, the days and the days stepped back, without the numbers
 abbrev pub unnumbered : List Maturity → List Maturity
 unnumbered ms = map (λ m. withNumber m 0) ms
 
@@ -43,11 +43,11 @@ renumbered old given (m ∷ ms) =
 abbrev pub numberedFresh : List Maturity → List Maturity
 numberedFresh fresh = renumbered [] 0 fresh
 
--- 'its months and days are the fresh listing': the same month and the same day
+-- 'its months and days are the fresh listing': the same month and the same day; 'a sound table has it right': the same days stepped back (02, note 2)
 abbrev pub sameMaturity : Maturity → Maturity → Bool
-sameMaturity m fresh = eqb (m .month) (fresh .month) && eqb (m .day) (fresh .day)
+sameMaturity m fresh = eqb (m .month) (fresh .month) && (eqb (m .day) (fresh .day) && eqb (m .back) (fresh .back))
 
--- 'its months and days are the fresh listing .., and unused places are zero', of place i where n places are used
+-- 'its months and days are the fresh listing .., and unused places are zero', of place i where n places are used; so are the days stepped back (02, note 2)
 abbrev pub placeRight : List Maturity → List Maturity → ℕ → ℕ → Bool
 placeRight ms fresh n i =
     sameMaturity (getD ms i unused) (getD fresh i unused) && (ltb i n || eqb (getD ms i unused .number) 0)

@@ -20,7 +20,7 @@ pub struct NumberedMaturity {
     pub given: u16,
 }
 
-// Whether place i has the fresh month and day, and a number only where it is used.
+// Whether place i has the fresh month, day and days stepped back, and a number only where it is used.
 fn is_place_right(maturities: [Maturity; 15], fresh: [Maturity; 15], n: usize, i: usize) -> bool
     requires { ⌜ i < 15 ⌝ }
     ensures { λ r. ⌜ r ≡ placeRight maturities fresh n i ⌝ }
@@ -31,6 +31,9 @@ fn is_place_right(maturities: [Maturity; 15], fresh: [Maturity; 15], n: usize, i
         return false;
     }
     if m.day != f.day {
+        return false;
+    }
+    if m.back != f.back {
         return false;
     }
     if i < n {
@@ -135,13 +138,24 @@ fn numbered(old: [Maturity; 15], n: usize, m: Maturity, given: u16) -> NumberedM
 {
     let month = m.month;
     let day = m.day;
+    let back = m.back;
     if is_among(old, n, month) {
         let number = number_of(old, n, month);
-        let maturity = Maturity { month, day, number };
+        let maturity = Maturity {
+            month,
+            day,
+            back,
+            number,
+        };
         return NumberedMaturity { maturity, given };
     }
     let number = given + 1;
-    let maturity = Maturity { month, day, number };
+    let maturity = Maturity {
+        month,
+        day,
+        back,
+        number,
+    };
     NumberedMaturity {
         maturity,
         given: number,
@@ -156,6 +170,7 @@ fn number_fresh(old: Places, k: usize, fresh: Places, n: usize, given: u16) -> P
     let unused = Maturity {
         month: 0,
         day: 0,
+        back: 0,
         number: 0,
     };
     let mut maturities = [unused; 15];

@@ -14,7 +14,7 @@ pub record Written (before after : List ℕ) (at next : ℕ) (text : List ℕ) :
   pub to : next ≡ at + length text
   pub long : length after ≡ length before
 
--- there is room for any answer: the longest has 406 bytes
+-- there is room for any answer: the longest has 496 bytes
 unfoldable pub roomy : List ℕ → ℕ → Bool
 roomy buffer at = leb (at + 512) (length buffer)
 

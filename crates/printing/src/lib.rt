@@ -122,21 +122,22 @@ fn put_day(out: &mut [u8], at: usize, day: u16) -> usize
 
 // The line of a maturity.
 fn put_maturity(out: &mut [u8], at: usize, m: Maturity) -> usize
-    requires { ⌜ at + 25 ≤ length (now out) ⌝ }
-    ensures { λ r. ⌜ Written (now (out .entry)) (now (out .exit)) at r (maturityText m) × (r ≤ at + 25) ⌝ }
+    requires { ⌜ at + 31 ≤ length (now out) ⌝ }
+    ensures { λ r. ⌜ Written (now (out .entry)) (now (out .exit)) at r (maturityText m) × (r ≤ at + 31) ⌝ }
 {
     let space = put_decimal(out, at, m.number);
     let month = put(out, space, b' ');
     let second = put_month(out, month, m.month);
     let day = put(out, second, b' ');
-    let end = put_day(out, day, m.day);
+    let third = put_day(out, day, m.day);
+    let end = put_spaced(out, third, m.back);
     put(out, end, b'\n')
 }
 
 // The lines of the first n maturities.
 fn put_maturities(out: &mut [u8], at: usize, maturities: [Maturity; 15], n: usize) -> usize
-    requires { ⌜ (n ≤ 15) × (at + 375 ≤ length (now out)) ⌝ }
-    ensures { λ r. ⌜ Written (now (out .entry)) (now (out .exit)) at r (maturitiesText n maturities) × (r ≤ at + 375) ⌝ }
+    requires { ⌜ (n ≤ 15) × (at + 465 ≤ length (now out)) ⌝ }
+    ensures { λ r. ⌜ Written (now (out .entry)) (now (out .exit)) at r (maturitiesText n maturities) × (r ≤ at + 465) ⌝ }
 {
     let mut next = at;
     let mut i: usize = 0;
@@ -172,8 +173,8 @@ fn put_heading(
 
 // The answer to an accepted call.
 fn put_outcome(out: &mut [u8], at: usize, letter: u8, o: Outcome) -> usize
-    requires { ⌜ at + 406 ≤ length (now out) ⌝ }
-    ensures { λ r. ⌜ Written (now (out .entry)) (now (out .exit)) at r (outcomeText letter o) × (r ≤ at + 406) ⌝ }
+    requires { ⌜ at + 496 ≤ length (now out) ⌝ }
+    ensures { λ r. ⌜ Written (now (out .entry)) (now (out .exit)) at r (outcomeText letter o) × (r ≤ at + 496) ⌝ }
 {
     let t = o.table;
     let p = t.product;

@@ -21,6 +21,7 @@ use Rattle.listing.specs.Rules.{Rule, front, nextOf, taken, freshKeys, complete
 use Rattle.listing.specs.Months.{placesOfKind, monthly, ruleOf, freshOf, allInCover}
 use Rattle.listing.proofs.Fresh.{places-most, fresh-listed}
 use Rattle.places.specs.Numbering.{isListed, numberOf, missing, withNumber, renumbered, placeRight}
+use Rattle.places.proofs.Unique.{same-maturity}
 use Rattle.table.specs.declared.Table.{Table}
 use Rattle.table.specs.declared.Outcome.{Outcome}
 use Rattle.table.specs.Table.{listedIn, listsFresh, sound, moved, refusedWith, keptOn}
@@ -98,13 +99,6 @@ unfolding missing
 none-left old [] h = refl
 none-left old (m ∷ ms) h = rw (blank-listed old (m .month) ∙ h .0) (none-left old ms (h .2))
 
-mat-eq : (a b : Maturity) → a .month ≡ b .month → a .day ≡ b .day → a .number ≡ b .number → a ≡ b
-mat-eq a b e f g =
-    ap (λ (x : ℕ). _≡·m x (a .day) (a .number)) e ∙ ap (λ (x : ℕ). _≡·m (b .month) x (a .number)) f ∙ ap (λ (x : ℕ). _≡·m (b .month) (b .day) x) g
-  where
-    _≡·m : ℕ → ℕ → ℕ → Maturity
-    _≡·m x y z = record { month = x; day = y; number = z }
-
 places-long : (xs : List Maturity) → length xs ≤ 15 → length (places15 xs) ≡ 15
 unfolding places15
 places-long xs l = length-append xs (replicate (15 - length xs) unused) ∙ ap (λ (k : ℕ). length xs + k) (length-replicate (15 - length xs) unused) ∙ omega arith
@@ -141,15 +135,17 @@ module _ (t : Table) (s : sound t ≡ true) (len : length (t .maturities) ≡ 15
   pub record Place (i : ℕ) : Type 0 where
     pub month : getD (t .maturities) i unused .month ≡ getD (places15 fresh) i unused .month
     pub day : getD (t .maturities) i unused .day ≡ getD (places15 fresh) i unused .day
+    pub back : getD (t .maturities) i unused .back ≡ getD (places15 fresh) i unused .back
     pub zero-number : n ≤ i → getD (t .maturities) i unused .number ≡ 0
 
   place : (i : ℕ) → i < 15 → Place i
   place i h =
       let m = getD (t .maturities) i unused in
       let f = getD (places15 fresh) i unused in
-      let (a, b) = both (eqb (m .month) (f .month) && eqb (m .day) (f .day)) (ltb i n || eqb (m .number) 0) (right i h) in
-      let (c, d) = both (eqb (m .month) (f .month)) (eqb (m .day) (f .day)) a in
-      record { month = eqb-true _ _ c; day = eqb-true _ _ d; zero-number = λ l. eqb-true _ _ (rw (le-ltb i n l) at b) }
+      let (a, b) = both (eqb (m .month) (f .month) && (eqb (m .day) (f .day) && eqb (m .back) (f .back))) (ltb i n || eqb (m .number) 0) (right i h) in
+      let (c, e) = both (eqb (m .month) (f .month)) (eqb (m .day) (f .day) && eqb (m .back) (f .back)) a in
+      let (d, g) = both (eqb (m .day) (f .day)) (eqb (m .back) (f .back)) e in
+      record { month = eqb-true _ _ c; day = eqb-true _ _ d; back = eqb-true _ _ g; zero-number = λ l. eqb-true _ _ (rw (le-ltb i n l) at b) }
 
   in-places : (i : ℕ) → i < n → getD (places15 fresh) i unused ≡ getD fresh i unused
   unfolding places15
@@ -181,7 +177,7 @@ module _ (t : Table) (s : sound t ≡ true) (len : length (t .maturities) ≡ 15
       let q = getD-take n (t .maturities) i unused l in
       sym
       (List·getD-map blank (listedIn t) i unused ∙ ap blank q ∙
-      mat-eq (blank (getD (t .maturities) i unused)) (getD fresh i unused) (p .month ∙ ap (λ (m : Maturity). m .month) (in-places i l)) (p .day ∙ ap (λ (m : Maturity). m .day) (in-places i l)) (sym (fresh-number i))))
+      same-maturity (blank (getD (t .maturities) i unused)) (getD fresh i unused) (p .month ∙ ap (λ (m : Maturity). m .month) (in-places i l)) (p .day ∙ ap (λ (m : Maturity). m .day) (in-places i l)) (p .back ∙ ap (λ (m : Maturity). m .back) (in-places i l)) (sym (fresh-number i))))
 
   in-old : (i : ℕ) → i < n → getD (places15 (listedIn t)) i unused ≡ getD (t .maturities) i unused
   unfolding places15
@@ -202,7 +198,7 @@ module _ (t : Table) (s : sound t ≡ true) (len : length (t .maturities) ≡ 15
           let p = place i h in
           let z = after-places fresh i (omega (arith, fresh-long)) h in
           after-places (listedIn t) i (omega (arith, old-long)) h ∙
-          sym (mat-eq (getD (t .maturities) i unused) unused (p .month ∙ ap (λ (m : Maturity). m .month) z) (p .day ∙ ap (λ (m : Maturity). m .day) z) (p .zero-number l))
+          sym (same-maturity (getD (t .maturities) i unused) unused (p .month ∙ ap (λ (m : Maturity). m .month) z) (p .day ∙ ap (λ (m : Maturity). m .day) z) (p .back ∙ ap (λ (m : Maturity). m .back) z) (p .zero-number l))
 
   abbrev rule : Rule
   rule = ruleOf (t .calendar) (t .product .kind) (t .product .group)

@@ -25,7 +25,7 @@ use Rattle.places.specs.Numbering.{missing, renumbered, numberedFresh, placeRig
 abbrev pub listedIn : Table → List Maturity
 listedIn t = take (placesOfKind (t .product .kind)) (t .maturities)
 
--- 'its months and days are the fresh listing .., and unused places are zero', of all fifteen places
+-- 'its months and days are the fresh listing .., and unused places are zero', of all fifteen places; so are the days stepped back (02, note 2)
 unfoldable pub listsFresh : Table → Bool
 listsFresh t =
     every 15

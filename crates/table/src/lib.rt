@@ -119,6 +119,7 @@ pub fn zero_table() -> Table
     let unused = Maturity {
         month: 0,
         day: 0,
+        back: 0,
         number: 0,
     };
     let maturities = [unused; 15];

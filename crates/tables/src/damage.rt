@@ -36,9 +36,11 @@ const MONTH: u8 = 11;
 
 const DAY: u8 = 12;
 
-const NUMBER: u8 = 13;
+const BACK: u8 = 13;
 
-const GIVEN: u8 = 14;
+const NUMBER: u8 = 14;
+
+const GIVEN: u8 = 15;
 
 // Four bytes with another one at place i.
 fn with_byte(bytes: [u8; 4], i: u16, byte: u8) -> [u8; 4] {
@@ -168,25 +170,35 @@ fn damage_calendar(cal: Calendar, field: u8, i: u16, value: u16) -> Calendar {
     }
 }
 
-// A maturity with its month, day or number changed.
+// A maturity with its month, day, days stepped back or number changed.
 fn damage_maturity(m: Maturity, field: u8, value: u16) -> Maturity {
     let month = m.month;
     let day = m.day;
+    let back = m.back;
     let number = m.number;
     match field {
         MONTH => Maturity {
             month: value,
             day,
+            back,
             number,
         },
         DAY => Maturity {
             month,
             day: value,
+            back,
+            number,
+        },
+        BACK => Maturity {
+            month,
+            day,
+            back: value,
             number,
         },
         NUMBER => Maturity {
             month,
             day,
+            back,
             number: value,
         },
         _ => m,

@@ -73,6 +73,7 @@ fn put_maturities(maturities: [Maturity; 15]) {
         let m = maturities[i];
         put(m.month);
         put(m.day);
+        put(m.back);
         put(m.number);
     }
 }

@@ -21,6 +21,7 @@ fn last_trading_day(t: Table, month: u16) {
     start_line(b'L');
     put(r.refusal as u16);
     put(r.day);
+    put(r.back);
     end_line();
 }
 

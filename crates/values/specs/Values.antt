@@ -5,9 +5,11 @@ use mathlib.Core.List.{List, [], _∷_}
 use Rattle.questions.specs.Questions.{Ask, ask, Answer, answer}
 use Rattle.calendar.specs.Trading.{inCover, tradingDay, nthTradingDay}
 use Rattle.product.specs.Settlement.{settlementDays}
-use Rattle.expiry.specs.LastDays.{lastTradingDay}
+use Rattle.expiry.specs.declared.LastDay.{LastDay}
+use Rattle.expiry.specs.LastDays.{workedOut}
 use Rattle.table.specs.declared.Table.{Table}
 use Rattle.values.specs.declared.DayReply.{DayReply}
+use Rattle.values.specs.declared.LastDayReply.{LastDayReply}
 use Rattle.places.specs.Numbering.{isListed}
 use Rattle.table.specs.Table.{listedIn, sound}
 
@@ -19,13 +21,21 @@ dayReply r = record { refusal = r .refusal; value = r .day }
 abbrev pub noDay : ℕ → Answer ℕ
 noDay number = record { refusal = number; value = 0 }
 
+-- 'returns the number of the first answered no', and the value, of a reply with a last trading day and the days stepped back (02, note 2)
+abbrev pub lastDayReply : LastDayReply → Answer LastDay
+lastDayReply r = record { refusal = r .refusal; value = record { day = r .day; back = r .back } }
+
+-- 'With it: .. other calls return zero values', of that reply
+abbrev pub noLastDay : ℕ → Answer LastDay
+noLastDay number = record { refusal = number; value = record { day = 0; back = 0 } }
+
 -- 'Last trading day of a listed month: 10, 18'
 abbrev pub lastDayAsks : Table → ℕ → List Ask
 lastDayAsks t month = ask 10 (sound t) ∷ ask 18 (isListed (listedIn t) month) ∷ []
 
--- 'Last trading day of a listed month'; 'With it: .. other calls return zero values'
-unfoldable pub lastDayCall : Table → ℕ → Answer ℕ
-lastDayCall t month = answer (lastDayAsks t month) 0 (lastTradingDay (t .calendar) (t .product .group) month)
+-- 'Last trading day of a listed month', with the days stepped back (02, note 2); 'With it: .. other calls return zero values'
+unfoldable pub lastDayCall : Table → ℕ → Answer LastDay
+lastDayCall t month = answer (lastDayAsks t month) (record { day = 0; back = 0 }) (workedOut (t .calendar) (t .product .group) month)
 
 -- 'Due day: the n-th trading day after a given trading day'
 unfoldable pub dueDay : Table → ℕ → ℕ

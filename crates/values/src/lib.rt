@@ -2,12 +2,19 @@
 use table::Table;
 use table::is_sound;
 ghost use mathlib.Core.Path.{_≡_};
-ghost use Rattle.values.specs.Values.{dayReply, noDay, lastDayCall, dueCall};
+ghost use Rattle.values.specs.Values.{dayReply, noDay, lastDayReply, noLastDay, lastDayCall, dueCall};
 
 // The number of a refusal, or 0 and a day.
 pub struct DayReply {
     pub refusal: u8,
     pub day: u16,
+}
+
+// The number of a refusal, or 0 and a last trading day with the days stepped back.
+pub struct LastDayReply {
+    pub refusal: u8,
+    pub day: u16,
+    pub back: u16,
 }
 
 fn no_day(number: u8) -> DayReply
@@ -19,20 +26,34 @@ fn no_day(number: u8) -> DayReply
     }
 }
 
-// The last trading day of a listed month.
-pub fn last_trading_day(t: Table, month: u16) -> DayReply
-    ensures { λ r. ⌜ dayReply r ≡ lastDayCall t month ⌝ }
+fn no_last_day(number: u8) -> LastDayReply
+    ensures { λ r. ⌜ lastDayReply r ≡ noLastDay number ⌝ }
+{
+    LastDayReply {
+        refusal: number,
+        day: 0,
+        back: 0,
+    }
+}
+
+// The last trading day of a listed month, with the days stepped back.
+pub fn last_trading_day(t: Table, month: u16) -> LastDayReply
+    ensures { λ r. ⌜ lastDayReply r ≡ lastDayCall t month ⌝ }
 {
     if !is_sound(t) {
-        return no_day(10);
+        return no_last_day(10);
     }
     if !table::is_month_listed(t, month) {
-        return no_day(18);
+        return no_last_day(18);
     }
     let p = t.product;
     let group = p.group;
-    let day = expiry::last_trading_day(t.calendar, group, month);
-    DayReply { refusal: 0, day }
+    let last = expiry::last_trading_day(t.calendar, group, month);
+    LastDayReply {
+        refusal: 0,
+        day: last.day,
+        back: last.back,
+    }
 }
 
 // The due day of a trading day.

@@ -1,6 +1,7 @@
 use Prim.Native.Nat.{_-_}
 use native.Mathlib.Omega.{arith}
 use Rattle.questions.proofs.Bools.{said-no, said-yes}
+use Rattle.expiry.proofs.Stepping.{worked-day}
 use Rattle.listing.proofs.may_be_front.Statement.{statement}
 use Rattle.listing.proofs.may_be_front.Tie as tie
 
@@ -14,7 +15,8 @@ last-trading-day-in-requires : tie.Need-last-trading-day-in-requires
 last-trading-day-in-requires c κs = tt
 
 returns-2 : tie.Need-returns-2
-returns-2 c = rw (c .last-trading-day-in .ensures, said-yes (c .before .before .in-set .ensures) (c .before .if1 .left))
+returns-2 c =
+    rw (worked-day _ _ _ _ (c .before .last-trading-day-in .ensures), said-yes (c .before .before .before .in-set .ensures) (c .before .before .if1 .left))
 
 pub may-be-front-spec : {M : Type 1} → statement M
 may-be-front-spec =

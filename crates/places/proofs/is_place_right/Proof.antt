@@ -23,14 +23,21 @@ returns-2 : tie.Need-returns-2
 returns-2 c = simp (eq-eqb _ _ (c .before .before .before .if1 .left), ne-eqb _ _ (c .if2 .taken))
 
 returns-3 : tie.Need-returns-3
-returns-3 c = simp (eq-eqb _ _ (c .before .before .before .before .if1 .left), eq-eqb _ _ (c .before .if2 .left), lt-ltb _ _ (c .if3 .taken))
+returns-3 c =
+    let at-if2 = c .before .before .before in
+    simp (eq-eqb _ _ (at-if2 .before .before .before .if1 .left), eq-eqb _ _ (at-if2 .if2 .left), ne-eqb _ _ (c .if3 .taken))
 
 returns-4 : tie.Need-returns-4
 returns-4 c =
-    let at-if1 = c .before .before .before .before .before in
-    rw (eq-eqb _ _ (at-if1 .if1 .left), eq-eqb _ _ (c .before .before .if2 .left), le-ltb _ _ (c .before .if3 .left))
+    let at-if2 = c .before .before .before .before in
+    simp (eq-eqb _ _ (at-if2 .before .before .before .if1 .left), eq-eqb _ _ (at-if2 .if2 .left), eq-eqb _ _ (c .before .if3 .left), lt-ltb _ _ (c .if4 .taken))
+
+returns-5 : tie.Need-returns-5
+returns-5 c =
+    let at-if2 = c .before .before .before .before .before in
+    rw (eq-eqb _ _ (at-if2 .before .before .before .if1 .left), eq-eqb _ _ (at-if2 .if2 .left), eq-eqb _ _ (c .before .before .if3 .left), le-ltb _ _ (c .before .if4 .left))
 
 pub is-place-right-spec : {M : Type 1} → statement M
 is-place-right-spec =
     tie.close
-    (tie.spec mul-m array-copy-out-m mul-f array-copy-out-f returns returns-2 returns-3 returns-4)
+    (tie.spec mul-m array-copy-out-m mul-f array-copy-out-f returns returns-2 returns-3 returns-4 returns-5)

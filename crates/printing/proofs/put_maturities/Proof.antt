@@ -10,7 +10,7 @@ use Rattle.printing.proofs.put_maturities.Tie as tie
 
 abbrev Inv-loop : tie.InvT-loop
 Inv-loop out₀ at n maturities next₀ i₀ out next i =
-    (n ≤ 15) × (at + 375 ≤ length out₀) × (i ≤ n) × (next ≤ at + 25 * i) × Written out₀ out at next (maturitiesText i maturities)
+    (n ≤ 15) × (at + 465 ≤ length out₀) × (i ≤ n) × (next ≤ at + 31 * i) × Written out₀ out at next (maturitiesText i maturities)
 
 abbrev μ-loop : tie.MeasureT-loop
 μ-loop out₀ at n maturities next₀ i₀ out next i = n - i

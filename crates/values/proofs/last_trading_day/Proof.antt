@@ -7,20 +7,20 @@ use Rattle.values.proofs.last_trading_day.Tie as tie
 is-sound-requires : tie.Need-is-sound-requires
 is-sound-requires c κs = tt
 
-no-day-requires : tie.Need-no-day-requires
-no-day-requires c κs = tt
+no-last-day-requires : tie.Need-no-last-day-requires
+no-last-day-requires c κs = tt
 
 returns : tie.Need-returns
-returns c = c .no-day .ensures ∙ sym (last-day-10 _ _ (said-no (c .before .before .is-sound .ensures) (c .before .if1 .taken)))
+returns c = c .no-last-day .ensures ∙ sym (last-day-10 _ _ (said-no (c .before .before .is-sound .ensures) (c .before .if1 .taken)))
 
 is-month-listed-requires : tie.Need-is-month-listed-requires
 is-month-listed-requires c κs = tt
 
-no-day-requires-2 : tie.Need-no-day-requires-2
-no-day-requires-2 c κs = tt
+no-last-day-requires-2 : tie.Need-no-last-day-requires-2
+no-last-day-requires-2 c κs = tt
 
 returns-2 : tie.Need-returns-2
-returns-2 c = c .no-day2 .ensures ∙ sym (last-day-18 _ _ (said-yes (c .before .before .before .before .is-sound .ensures) (c .before .before .before .if1 .left)) (said-no (c .before .before .is-month-listed .ensures) (c .before .if2 .taken)))
+returns-2 c = c .no-last-day2 .ensures ∙ sym (last-day-18 _ _ (said-yes (c .before .before .before .before .is-sound .ensures) (c .before .before .before .if1 .left)) (said-no (c .before .before .is-month-listed .ensures) (c .before .if2 .taken)))
 
 last-trading-day-requires : tie.Need-last-trading-day-requires
 last-trading-day-requires c κs = tt
@@ -40,10 +40,10 @@ last-trading-day-spec =
     tie.close
     (tie.spec
     is-sound-requires
-    no-day-requires
+    no-last-day-requires
     returns
     is-month-listed-requires
-    no-day-requires-2
+    no-last-day-requires-2
     returns-2
     last-trading-day-requires
     returns-3)

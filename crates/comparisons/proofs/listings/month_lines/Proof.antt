@@ -47,6 +47,9 @@ last-trading-day-requires c κs = tt
 put-requires-3 : tie.Need-put-requires-3 Inv-loop μ-loop
 put-requires-3 c κs = tt
 
+put-requires-4 : tie.Need-put-requires-4 Inv-loop μ-loop
+put-requires-4 c κs = tt
+
 end-line-requires : tie.Need-end-line-requires Inv-loop μ-loop
 end-line-requires c κs = tt
 
@@ -79,6 +82,7 @@ month-lines-spec =
     put-requires-2
     last-trading-day-requires
     put-requires-3
+    put-requires-4
     end-line-requires
     add-month
     loop-less

@@ -27,6 +27,9 @@ put-requires-2 c κs = tt
 put-requires-3 : tie.Need-put-requires-3 Inv-loop μ-loop
 put-requires-3 c κs = tt
 
+put-requires-4 : tie.Need-put-requires-4 Inv-loop μ-loop
+put-requires-4 c κs = tt
+
 add-i : tie.Need-add-i Inv-loop μ-loop
 add-i c = search needs
 
@@ -51,6 +54,7 @@ put-maturities-spec =
     put-requires
     put-requires-2
     put-requires-3
+    put-requires-4
     add-i
     loop-less
     loop-again
