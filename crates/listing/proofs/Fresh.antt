@@ -4,6 +4,7 @@ use mathlib.Core.Path.{_≡_, _∙_, sym, ap}
 use mathlib.Core.Bool.{true}
 use mathlib.Core.List.{List}
 use Prim.Native.Nat.{ℕ, _-_, _≤_}
+use lib.Dec.{lit≤}
 use lib.ListN.{length, take, replicate, length-map}
 use lib.Seq.{take-at}
 use borrow.Author.Tests.{eqb-true}
@@ -11,18 +12,30 @@ use Rattle.days.specs.Dates.{monthOf}
 use Rattle.calendar.specs.declared.Calendar.{Calendar}
 use Rattle.calendar.specs.Trading.{coverEnd}
 use Rattle.product.specs.declared.Kind.{Kind}
+use Rattle.product.specs.declared.Kind.the-variants.{Future, Option}
+use Rattle.product.specs.declared.Text.the-variants.{Of2008, Of2005}
+use Rattle.product.specs.declared.Term.the-variants.{Months12, Months24, Months60}
 use Rattle.product.specs.Fields.{kindNumber}
 use Rattle.listing.specs.declared.Maturity.{Maturity}
 use Rattle.listing.specs.declared.Listing.{Listing}
 use Rattle.listing.specs.Rules.{front, freshKeys, complete, unused, places15}
 use Rattle.expiry.specs.LastDays.{lastTradingDay, workedOut}
-use Rattle.listing.specs.Months.{placesOfKind, monthly, ruleOf, freshOf, allInCover, listingOf}
+use Rattle.listing.specs.Months.{placesOf, placesOfKind, monthly, ruleOf, freshOf, allInCover, listingOf}
 use Rattle.listing.proofs.Taking.{rest, grown, whole-is, rest-room}
 
 -- no kind has more than fifteen places
 pub places-most : (kind : Kind) → placesOfKind kind ≤ 15
 unfolding rest
 places-most kind = rest-room kind
+
+-- and every kind has one
+pub places-least : (kind : Kind) → 1 ≤ placesOfKind kind
+unfolding placesOf
+places-least (Future Of2008) = lit≤ tt
+places-least (Future Of2005) = lit≤ tt
+places-least (Option Months12) = lit≤ tt
+places-least (Option Months24) = lit≤ tt
+places-least (Option Months60) = lit≤ tt
 
 -- a month as the code lists it
 abbrev pub matOf : Calendar → List ℕ → ℕ → Maturity

@@ -2,18 +2,20 @@
 -- Assumes nothing.
 use mathlib.Core.Path.{_≡_, refl, ap, _∙_}
 use mathlib.Core.Bool.{Bool, true, false, _&&_, cond}
+use mathlib.Core.List.{List, [], _∷_}
 use mathlib.Core.Logic.{_⊎_, inl, inr}
 use Prim.Native.Nat.{ℕ, zero, suc, _+_, _-_, _≤_, _<_}
 use native.Mathlib.Nat.{add-zero, add-suc}
 use native.Mathlib.Omega.{arith}
+use lib.Dec.{ltb}
 use lib.ListN.{length, getD}
 use borrow.Author.Tests.{eqb-true, leb-true, leb-false}
 use Rattle.questions.specs.Search.{latest, firstFrom}
 use Rattle.questions.proofs.Bools.{clash, both, and-both, lt-or-ge}
-use Rattle.questions.proofs.Search.{latest-le, latest-ge, latest-passes}
+use Rattle.questions.proofs.Search.{latest-le, latest-ge, latest-passes, search-here, search-none}
 use Rattle.calendar.specs.declared.Calendar.{Calendar}
 use Rattle.calendar.specs.Trading.{tradingDay}
-use Rattle.listing.specs.Rules.{Rule, lastDayOf, alive, widest, front, freshKeys, complete}
+use Rattle.listing.specs.Rules.{Rule, lastDayOf, alive, widest, front, nextOf, taken, freshKeys, complete}
 use Rattle.expiry.proofs.Fridays.{last-is}
 use Rattle.listing.proofs.Walks.{sift, sift-at, sift-rises}
 use Rattle.listing.proofs.Places.{Nested, lists, taken-sift, Within, within, widely, stays}
@@ -69,6 +71,16 @@ first-least f none (suc n) d k a b t = go (f d) refl (lt-or-ge d k) (λ h. first
     go false e (inr l) ih =
         let q : d ≡ k = omega arith in
         clash (ap f q ∙ t) e
+
+-- the first key that is taken
+first-taken : (e : ℕ) (ps : List (ℕ → Bool)) (f : ℕ) → 1 ≤ length (taken e ps f) → nextOf e (widest ps) f ≡ f → getD (taken e ps f) 0 0 ≡ f
+unfolding taken
+first-taken e [] f h q = absurd (omega arith)
+first-taken e (set ∷ rest) f h q = go (ltb (nextOf e set f) e) h
+  where
+    go : (b : Bool) → 1 ≤ length (cond b (nextOf e set f ∷ taken e rest (suc (nextOf e set f))) []) → getD (cond b (nextOf e set f ∷ taken e rest (suc (nextOf e set f))) []) 0 0 ≡ f
+    go true h = q
+    go false h = absurd (omega arith)
 
 -- the key is in the listing of a rule from the front on
 abbrev pub inListing : Rule → ℕ → ℕ → Bool
@@ -148,6 +160,15 @@ module _ (r : Rule) (w : Lawful r) where
     pub fresh-is : freshKeys r cal date ≡ sift (inListing r (front r cal date)) (r .beyond) 0
     unfolding freshKeys
     fresh-is = taken-sift (r .beyond) (r .places) (front r cal date) front-most
+
+    -- the first key of a listing is the front
+    pub fresh-first : 1 ≤ length (freshKeys r cal date) → getD (freshKeys r cal date) 0 0 ≡ front r cal date
+    unfolding freshKeys
+    fresh-first h = first-taken (r .beyond) (r .places) (front r cal date) h (self (lt-or-ge (front r cal date) (r .beyond)))
+      where
+        self : (front r cal date < r .beyond) ⊎ (r .beyond ≤ front r cal date) → nextOf (r .beyond) (widest (r .places)) (front r cal date) ≡ front r cal date
+        self (inl l) = search-here (widest (r .places)) (r .beyond) (r .beyond) (front r cal date) l (front-passes l .0)
+        self (inr l) = omega (arith, search-none (widest (r .places)) (r .beyond) (r .beyond) (front r cal date) l, front-most)
 
     -- a complete listing has as many keys as places
     pub complete-length : complete r cal date ≡ true → length (freshKeys r cal date) ≡ length (r .places)

@@ -6,9 +6,10 @@ ghost use mathlib.Core.Path.{_≡_};
 ghost use mathlib.Core.Bool.{false, _&&_};
 ghost use lib.Dec.{leb};
 ghost use lib.ListN.{getD};
-ghost use Prim.Native.Nat.{_≤_, _<_};
-ghost use Rattle.calendar.specs.Trading.{calendarWith};
-ghost use Rattle.listing.specs.Rules.{front, monthsBefore, nextOf};
+ghost use Prim.Native.Nat.{_-_, _≤_, _<_};
+ghost use Rattle.days.specs.Dates.{monthOf};
+ghost use Rattle.calendar.specs.Trading.{coverStart, calendarWith};
+ghost use Rattle.listing.specs.Rules.{front, nextOf};
 ghost use Rattle.expiry.specs.LastDays.{lastTradingDay};
 ghost use Rattle.listing.specs.Months.{monthSets, names2005, inSet, setAt, placesOfKind, ruleOf, listingOf};
 
@@ -139,12 +140,11 @@ pub fn front_month(cal: Calendar, kind: Kind, group: [u8; 4], date: u16) -> u16
     front_month_in(cover, &cal.closed, kind, group, date)
 }
 
-// The number of cover months before the front month.
-pub fn months_before(cal: Calendar, kind: Kind, group: [u8; 4], date: u16) -> u16
-    ensures { λ r. ⌜ (r ≡ monthsBefore (ruleOf cal kind group) cal date) × (r ≤ 1200) ⌝ }
+// The number of cover months before a month, which is the front where question 10 asks.
+pub fn months_before(cover: Cover, front: u16) -> u16
+    ensures { λ r. ⌜ r ≡ front - monthOf (coverStart cover) ⌝ }
 {
-    let front = front_month(cal, kind, group, date);
-    let first = days::month_of(calendar::cover_start(cal.cover));
+    let first = days::month_of(calendar::cover_start(cover));
     if front < first {
         return 0;
     }

@@ -26,6 +26,7 @@ use Rattle.table.specs.declared.Table.{Table}
 use Rattle.table.specs.declared.Outcome.{Outcome}
 use Rattle.table.specs.Table.{listedIn, listsFresh, sound, moved, refusedWith, keptOn}
 use Rattle.table.proofs.Calls.{Sound, sound-parts}
+use Rattle.table.proofs.FirstPlace.{first-front}
 
 -- a list of keys rises from k on
 abbrev Rises : ℕ → List ℕ → Type 0
@@ -213,8 +214,8 @@ module _ (t : Table) (s : sound t ≡ true) (len : length (t .maturities) ≡ 15
   unfolding freshKeys
   same-keys date e = ap (taken (rule .beyond) (rule .places)) (sym e)
 
-  pub stays : (date : ℕ) → eqb (front rule (t .calendar) (t .date)) (front rule (t .calendar) date) ≡ true → cond (allInCover (t .calendar) (t .product .kind) (t .product .group) date) (moved t (t .calendar) date) (refusedWith t 16) ≡ keptOn t date
+  pub stays : (date : ℕ) → eqb (getD (t .maturities) 0 unused .month) (front rule (t .calendar) date) ≡ true → cond (allInCover (t .calendar) (t .product .kind) (t .product .group) date) (moved t (t .calendar) date) (refusedWith t 16) ≡ keptOn t date
   unfolding moved complete
   stays date e =
-      let k = same-keys date (eqb-true _ _ e) in
+      let k = same-keys date (sym (first-front t (sound-parts t s .whole) (sound-parts t s .listed)) ∙ eqb-true _ _ e) in
       rw (k, sound-parts t s .whole) (rw (blank-is, none-missing (listedIn t) (listedIn t) known, none-left (listedIn t) (listedIn t) known, known-numbers (listedIn t) (listedIn t) (t .given) known, places-are, add-zero (t .given)))

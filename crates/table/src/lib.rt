@@ -5,10 +5,10 @@ use product::Product;
 ghost use mathlib.Core.Path.{_≡_};
 ghost use mathlib.Core.Bool.{_&&_, cond};
 ghost use Prim.Native.Nat.{_≤_};
-ghost use lib.ListN.{length, take};
+ghost use lib.ListN.{length, getD, take};
 ghost use Rattle.places.specs.Numbering.{isListed};
 ghost use lib.Dec.{eqb};
-ghost use Rattle.listing.specs.Rules.{front};
+ghost use Rattle.listing.specs.Rules.{front, unused};
 ghost use Rattle.listing.specs.Months.{placesOfKind, ruleOf, allInCover};
 ghost use Rattle.table.specs.Table.{listedIn, listsFresh, listingSound, sound, movedTo, moved, keptOn, refusedWith, zeroTable, openedWith, openCall, rollCall, closeCall};
 
@@ -54,7 +54,6 @@ fn is_listing_sound(t: Table) -> bool
     }
     let p = t.product;
     let kind = p.kind;
-    let group = p.group;
     let maturities = t.maturities;
     if !places::are_numbers_right(maturities, kind, t.given) {
         return false;
@@ -63,7 +62,8 @@ fn is_listing_sound(t: Table) -> bool
     if t.given < n {
         return false;
     }
-    t.given - n <= listing::months_before(t.calendar, kind, group, t.date)
+    let first = maturities[0];
+    t.given - n <= listing::months_before(t.calendar.cover, first.month)
 }
 
 // Question 10.
@@ -196,15 +196,16 @@ fn relisted(t: Table, cal: Calendar, date: u16) -> Outcome
     moved_to(t, cal, date, fresh)
 }
 
-// Whether the front month is the same on a date as on the table's date.
+// Whether the front month on a date is the month in the first place, which is the front of a sound table.
 fn front_stays(t: Table, date: u16) -> bool
-    ensures { λ r. ⌜ r ≡ eqb (front (ruleOf (t .calendar) (t .product .kind) (t .product .group)) (t .calendar) (t .date)) (front (ruleOf (t .calendar) (t .product .kind) (t .product .group)) (t .calendar) date) ⌝ }
+    ensures { λ r. ⌜ r ≡ eqb (getD (t .maturities) 0 unused .month) (front (ruleOf (t .calendar) (t .product .kind) (t .product .group)) (t .calendar) date) ⌝ }
 {
     let p = t.product;
     let kind = p.kind;
     let group = p.group;
-    let now = listing::front_month(t.calendar, kind, group, t.date);
-    now == listing::front_month(t.calendar, kind, group, date)
+    let maturities = t.maturities;
+    let first = maturities[0];
+    first.month == listing::front_month(t.calendar, kind, group, date)
 }
 
 // The same table on another date: no month entered or left.

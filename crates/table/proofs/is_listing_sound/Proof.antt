@@ -1,5 +1,9 @@
 use Rattle.table.proofs.Calls.{listing-unlike, listing-numbers, listing-few, listing-rest}
-use Rattle.questions.proofs.Bools.{said-no, said-yes}
+use Rattle.listing.specs.Months.{allInCover}
+use Rattle.table.specs.Table.{listsFresh}
+use Rattle.table.proofs.FirstPlace.{months-there}
+use Rattle.questions.proofs.Bools.{both, said-no, said-yes}
+use native.Mathlib.Omega.{arith}
 use mathlib.Core.Path.{sym}
 use Rattle.table.proofs.is_listing_sound.Statement.{statement}
 use Rattle.table.proofs.is_listing_sound.Tie as tie
@@ -15,7 +19,7 @@ are-numbers-right-requires c κs = tt
 
 returns-2 : tie.Need-returns-2
 returns-2 c =
-    let at-if1 = c .before .before .before .before .before in
+    let at-if1 = c .before .before .before .before in
     let at-is-fresh = at-if1 .before in
     let start = at-is-fresh .before in
     let yes-is-fresh = said-yes (at-is-fresh .is-fresh .ensures) (at-if1 .if1 .left) in
@@ -29,27 +33,31 @@ returns-3 : tie.Need-returns-3
 returns-3 c =
     let at-if2 = c .before .before .before in
     let at-are-numbers-right = at-if2 .before in
-    let at-if1 = at-are-numbers-right .before .before .before .before in
+    let at-if1 = at-are-numbers-right .before .before .before in
     let at-is-fresh = at-if1 .before in
     let start = at-is-fresh .before in
     let yes-is-fresh = said-yes (at-is-fresh .is-fresh .ensures) (at-if1 .if1 .left) in
     let t = start .args .t in
     sym (listing-few t yes-is-fresh (said-yes (at-are-numbers-right .are-numbers-right .ensures) (at-if2 .if2 .left)) _ (c .before .before .months-listed .ensures .0) (c .if3 .taken))
 
+array-copy-out-first : tie.Need-array-copy-out-first
+array-copy-out-first c = omega arith
+
 months-before-requires : tie.Need-months-before-requires
 months-before-requires c κs = tt
 
 returns-4 : tie.Need-returns-4
 returns-4 c =
-    let at-months-listed = c .before .before .before .before in
+    let at-months-listed = c .before .before .before .before .before in
     let at-if2 = at-months-listed .before in
     let at-are-numbers-right = at-if2 .before in
-    let at-if1 = at-are-numbers-right .before .before .before .before in
+    let at-if1 = at-are-numbers-right .before .before .before in
     let at-is-fresh = at-if1 .before in
     let start = at-is-fresh .before in
     let yes-is-fresh = said-yes (at-is-fresh .is-fresh .ensures) (at-if1 .if1 .left) in
     let t = start .args .t in
-    listing-rest t yes-is-fresh (said-yes (at-are-numbers-right .are-numbers-right .ensures) (at-if2 .if2 .left)) _ (at-months-listed .months-listed .ensures .0) _ (c .before .before .if3 .left) (c .months-before .ensures .0)
+    let fresh = both (allInCover (t .calendar) (t .product .kind) (t .product .group) (t .date)) (listsFresh t) yes-is-fresh in
+    listing-rest t yes-is-fresh (said-yes (at-are-numbers-right .are-numbers-right .ensures) (at-if2 .if2 .left)) _ (at-months-listed .months-listed .ensures .0) _ (c .before .before .before .if3 .left) (months-there t (fresh .0) (fresh .1) _ (c .months-before .ensures))
 
 pub is-listing-sound-spec : {M : Type 1} → statement M
 is-listing-sound-spec =
@@ -61,5 +69,6 @@ is-listing-sound-spec =
     returns-2
     months-listed-requires
     returns-3
+    array-copy-out-first
     months-before-requires
     returns-4)

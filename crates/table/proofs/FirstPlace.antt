@@ -1,0 +1,57 @@
+-- The first place of a table that holds the fresh listing holds the front.
+-- Assumes nothing.
+use mathlib.Core.Path.{_≡_, refl, _∙_, sym, ap}
+use mathlib.Core.Bool.{Bool, true, false, _&&_, _||_, cond}
+use mathlib.Core.List.{List, [], _∷_, map}
+use Prim.Native.Nat.{ℕ, _-_, _≤_}
+use native.Mathlib.Omega.{arith}
+use lib.Dec.{eqb, ltb}
+use lib.ListN.{length, getD, replicate, length-map, List·getD-append}
+use borrow.Author.Tests.{eqb-true}
+use Rattle.questions.proofs.Bools.{both}
+use Rattle.questions.proofs.Search.{every-at}
+use Rattle.days.specs.Dates.{monthOf}
+use Rattle.calendar.specs.Trading.{coverStart}
+use Rattle.listing.specs.declared.Maturity.{Maturity}
+use Rattle.listing.specs.Rules.{Rule, front, monthsBefore, freshKeys, complete, maturity, unused, places15}
+use Rattle.listing.specs.Months.{placesOfKind, monthly, ruleOf, freshOf, allInCover}
+use Rattle.listing.proofs.Front.{before-is}
+use Rattle.listing.proofs.Fresh.{places-least}
+use Rattle.listing.proofs.Lawful.{fresh-first}
+use Rattle.listing.proofs.Monthly.{monthly-lawful}
+use Rattle.places.specs.Numbering.{sameMaturity, placeRight}
+use Rattle.table.specs.declared.Table.{Table}
+use Rattle.table.specs.Table.{listsFresh}
+
+-- the first place of a listing that is the fresh one holds the front
+pub first-front : (t : Table) → allInCover (t .calendar) (t .product .kind) (t .product .group) (t .date) ≡ true → listsFresh t ≡ true
+    → getD (t .maturities) 0 unused .month ≡ front (ruleOf (t .calendar) (t .product .kind) (t .product .group)) (t .calendar) (t .date)
+unfolding listsFresh complete monthly places15
+first-front t w a =
+    let same = both (sameMaturity m (getD (places15 fresh) 0 unused)) (ltb 0 (placesOfKind (t .product .kind)) || eqb (m .number) 0) (every-at (placeRight (t .maturities) (places15 fresh) (placesOfKind (t .product .kind))) 15 0 a (omega arith)) .0 in
+    let month : m .month ≡ getD (places15 fresh) 0 unused .month = eqb-true (m .month) (getD (places15 fresh) 0 unused .month) (both (eqb (m .month) (getD (places15 fresh) 0 unused .month)) _ same .0) in
+    let long : length (freshKeys r (t .calendar) (t .date)) ≡ placesOfKind (t .product .kind) = eqb-true _ _ w in
+    let some : 1 ≤ length (freshKeys r (t .calendar) (t .date)) = omega (arith, long, places-least (t .product .kind)) in
+    month
+    ∙ ap (λ (x : Maturity). x .month) (List·getD-append fresh (replicate (15 - length fresh) unused) unused 0 (omega (arith, some, length-map (freshKeys r (t .calendar) (t .date)) (maturity r (t .calendar) (λ k. 0)))))
+    ∙ head (freshKeys r (t .calendar) (t .date)) some ∙ fresh-first r (monthly-lawful (t .calendar .cover) (t .product .kind) (t .product .group)) (t .calendar) (t .date) some
+  where
+    r : Rule
+    r = ruleOf (t .calendar) (t .product .kind) (t .product .group)
+
+    m : Maturity
+    m = getD (t .maturities) 0 unused
+
+    fresh : List Maturity
+    fresh = freshOf (t .calendar) (t .product .kind) (t .product .group) (t .date)
+
+    head : (ks : List ℕ) → 1 ≤ length ks → getD (map (maturity r (t .calendar) (λ k. 0)) ks) 0 unused .month ≡ getD ks 0 0
+    head [] h = absurd (omega arith)
+    head (k ∷ ks) h = refl
+
+-- so the cover months before it are those before the front
+pub months-there : (t : Table) → allInCover (t .calendar) (t .product .kind) (t .product .group) (t .date) ≡ true → listsFresh t ≡ true
+    → (m : ℕ) → m ≡ getD (t .maturities) 0 unused .month - monthOf (coverStart (t .calendar .cover))
+    → m ≡ monthsBefore (ruleOf (t .calendar) (t .product .kind) (t .product .group)) (t .calendar) (t .date)
+months-there t w a m e =
+    e ∙ ap (λ (x : ℕ). x - monthOf (coverStart (t .calendar .cover))) (first-front t w a) ∙ sym (before-is (t .calendar) (t .product .kind) (t .product .group) (t .date))
