@@ -42,13 +42,13 @@ SMALL_PRODUCTS = [item(b'A'), item(b'AXA'), item(b'B')]
 
 
 # Six blocks: calendar blocks 0, 1, 2 and product blocks 3, 4, 5 of two records.
-def six(*damages, closed=GOOD_FRIDAY):
-    return master.build(Calendar(2008, 3, closed), SIX_PRODUCTS, 2, damages)
+def six(*damages, closed=GOOD_FRIDAY, second=frozenset()):
+    return master.build(Calendar(2008, 3, closed, second), SIX_PRODUCTS, 2, damages)
 
 
 # Two blocks: a year and a product block of three records.
-def small(*damages, year=2008, closed=frozenset(), products=SMALL_PRODUCTS):
-    return master.build(Calendar(year, 1, closed), products, 15, damages)
+def small(*damages, year=2008, closed=frozenset(), second=frozenset(), products=SMALL_PRODUCTS):
+    return master.build(Calendar(year, 1, closed, second), products, 15, damages)
 
 
 ANY = (('first', 0), ('middle', 2), ('last', 5))
@@ -237,11 +237,12 @@ def late_calendar():
 
 # ---- Questions 5 and 6 ----
 
-# Damage: a map with only this day of the year closed, in a calendar block.
-def one_bit(block, n):
+# Damage: a map with only this day of the year, in a calendar block. The first map
+# begins at byte 16, the second at byte 62.
+def one_bit(block, n, at=16):
     data = bytearray(BYTES_PER_YEAR)
     data[n // 8] = 1 << (7 - n % 8)
-    return 'bytes', block, 16, bytes(data)
+    return 'bytes', block, at, bytes(data)
 
 
 # 5: "Weekend bits, bits after the year's end and bytes 62–509 are zero."
@@ -444,13 +445,83 @@ def kind_4_cases():
                    small(products=[item(b'A', group=group, kind=kind)]))
 
 
+# ---- The second map (02, note 4) ----
+
+EASTER = weekdays((2008, 3, 21), (2008, 3, 24))
+EASTER_MONDAY = weekdays((2008, 3, 24), (2008, 3, 24))
+SECOND_MAP = 62
+
+
+# Accepted: "A bit there [..] may be set only where the first map has its bit", some
+# of the closed days, all of them, the first and the last day of a year, 16 years.
+def accepted_second_maps():
+    yield 'ok-second-map-24-march', six(closed=EASTER, second=EASTER_MONDAY)
+    yield 'ok-second-map-as-the-first', six(closed=EASTER, second=EASTER)
+    for year, n in ((2008, 0), (2008, 365), (2009, 364), (2000, 59), (2099, 364)):
+        yield f'ok-second-bit-{n}-of-{year}', small(one_bit(0, n), one_bit(0, n, SECOND_MAP), year=year)
+    every_second = frozenset(day for day in weekdays((2008, 1, 1), (2010, 12, 31)) if day % 2)
+    some = frozenset(day for day in every_second if day % 3)
+    yield 'ok-second-map-of-many-days', six(closed=every_second, second=some)
+    sixteen = frozenset(day for day in range(dates.day_of(2084, 1, 5), dates.DAYS, 11)
+                        if dates.is_weekday(day))
+    yield 'ok-second-maps-of-16-years', master.build(
+        Calendar(2084, 16, sixteen, sixteen), many_products(30), 15)
+    week = weekdays((2009, 4, 6), (2009, 4, 9))
+    yield 'ok-four-days-in-the-second-map', six(closed=week, second=week)
+
+
+# 5, where the second map has a bit that the first has not: on a trading day, next to
+# a closed day, in another year's block, on a weekend, after the year's end.
+def second_without_first_cases():
+    for place, block in CALENDARS:
+        yield f'q5-second-bit-alone-in-{place}-calendar', six(one_bit(block, 100, SECOND_MAP))
+    for n in (72, 79, 81, 87, 88):
+        yield f'q5-second-bit-{n}-where-80-is-closed', six(one_bit(0, n, SECOND_MAP))
+    yield 'q5-second-map-of-another-year', six(one_bit(1, 80, SECOND_MAP))
+    for n in (4, 5):
+        yield f'q5-second-bit-on-weekend-{n}', small(one_bit(0, n, SECOND_MAP))
+        yield (f'q5-both-bits-on-weekend-{n}',
+               small(one_bit(0, n), one_bit(0, n, SECOND_MAP)))
+    for year, n in ((2007, 365), (2007, 366), (2007, 367), (2008, 366), (2008, 367)):
+        yield f'q5-second-bit-{n}-of-{year}', small(one_bit(0, n, SECOND_MAP), year=year)
+        yield (f'q5-both-bits-{n}-of-{year}',
+               small(one_bit(0, n), one_bit(0, n, SECOND_MAP), year=year))
+    yield 'q5-all-second-bits', six(('bytes', 0, SECOND_MAP, b'\xff' * BYTES_PER_YEAR), closed=EASTER)
+
+
+# 5: "bytes [..]–509 are zero", now after the second map.
+def after_second_map_cases():
+    for offset in (108, 109, 509):
+        yield (f'q5-byte-{offset}-after-the-second-map',
+               six(('bytes', 0, offset, b'\1'), closed=EASTER, second=EASTER_MONDAY))
+    for place, block in CALENDARS:
+        yield f'q5-byte-108-of-{place}-calendar', six(('bytes', block, 108, b'\x80'))
+
+
+# 6 reads the first map alone; lower numbers come first.
+def second_map_order_cases():
+    week = weekdays((2008, 4, 7), (2008, 4, 11))
+    yield 'q6-week-in-the-second-map', six(closed=week, second=week)
+    yield 'q6-week-with-days-in-the-second-map', six(closed=week, second=weekdays((2008, 4, 7), (2008, 4, 8)))
+    yield 'q5-second-bit-alone-and-a-week', six(one_bit(2, 100, SECOND_MAP), closed=week)
+    yield 'q2-second-map-byte', six(('bytes only', 0, 72, b'\x80'), closed=EASTER)
+    yield 'q3-header-and-second-bit', six(one_bit(0, 100, SECOND_MAP), ('bytes', 5, 6, b'\1'))
+
+
+def second_map_cases():
+    yield from accepted_second_maps()
+    yield from second_without_first_cases()
+    yield from after_second_map_cases()
+    yield from second_map_order_cases()
+
+
 # ---- All cases ----
 
 # Every case in turn: (name, file).
 def cases():
     for part in (accepted, length_cases, check_cases, header_cases, order_cases, clean_cases,
                  week_cases, field_cases, record_cases, id_cases, pair_cases, many_fault_cases,
-                 kind_4_cases):
+                 kind_4_cases, second_map_cases):
         yield from part()
 
 

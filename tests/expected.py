@@ -3,6 +3,7 @@ program: python3 tests/expected.py NAME
 """
 
 import sys
+from dataclasses import replace
 
 import cases
 import histories
@@ -90,11 +91,11 @@ def test_calendars():
 
 # One line on a day: in the cover, closed, trading day, the latest trading day at
 # or before it (0 where there is none) and the days stepped back to it, the first
-# and the third trading day after it.
+# and the third exchange day after it.
 def trading_line(calendar, day):
     latest = trading.latest_trading_day(calendar, day) or 0
-    first = trading.nth_trading_day_after(calendar, day, 1)
-    third = trading.nth_trading_day_after(calendar, day, 3)
+    first = trading.nth_exchange_day_after(calendar, day, 1)
+    third = trading.nth_exchange_day_after(calendar, day, 3)
     return (f'T {day} {trading.in_cover(calendar, day):d}'
             f' {trading.is_closed(calendar, day):d}'
             f' {trading.is_trading_day(calendar, day):d}'
@@ -103,11 +104,17 @@ def trading_line(calendar, day):
             f' {NO_DAY if third is None else third}')
 
 
+# The line of a calendar: its cover, then whether that is valid and what questions
+# 5 and 6 answer.
+def calendar_line(index, calendar):
+    return (f'K {index} {calendar.first_year} {calendar.years}'
+            f' {trading.cover_fits(calendar):d} {trading.is_clean(calendar):d}'
+            f' {trading.every_week_trades(calendar):d}')
+
+
 # All lines of one calendar.
 def calendar_lines(index, calendar):
-    yield (f'K {index} {calendar.first_year} {calendar.years}'
-           f' {trading.cover_fits(calendar):d} {trading.is_clean(calendar):d}'
-           f' {trading.every_week_trades(calendar):d}')
+    yield calendar_line(index, calendar)
     start = max(0, trading.first_day(calendar) - 10)
     end = trading.last_day(calendar) + 10
     trading_step, closing_step = (45, 63) if calendar.years == 16 else (5, 7)
@@ -121,6 +128,54 @@ def calendar_lines(index, calendar):
 def calendar_section():
     for index, calendar in enumerate(test_calendars()):
         yield from calendar_lines(index, calendar)
+
+
+# ---- second maps ----
+
+SECOND_COVERS = ((2008, 3), (2084, 16))
+
+
+# The two patterns of a second map: whether it has a day of the cover. Two of three
+# closed days.
+def second_of_closed(calendar, day):
+    return trading.is_closed(calendar, day) and day % 3 != 1
+
+
+# Every tenth day number, closed or not: question 5 answers no.
+def second_of_any(calendar, day):
+    return day % 10 == 4
+
+
+# The calendars of the section: every cover with every pattern of closures and of
+# the second map, the latter in the inner loop.
+def second_map_calendars():
+    for first_year, years in SECOND_COVERS:
+        for pattern in PATTERNS:
+            calendar = closed_by(first_year, years, pattern)
+            days = range(trading.first_day(calendar), trading.last_day(calendar) + 1)
+            for second in (second_of_closed, second_of_any):
+                yield replace(calendar, exchange=frozenset(
+                    day for day in days if second(calendar, day)))
+
+
+# One line on a day: in the second map, exchange day, the first and the fourth
+# exchange day after it.
+def exchange_line(calendar, day):
+    first = trading.nth_exchange_day_after(calendar, day, 1)
+    fourth = trading.nth_exchange_day_after(calendar, day, 4)
+    return (f'E {day} {trading.is_in_second_map(calendar, day):d}'
+            f' {trading.is_exchange_day(calendar, day):d}'
+            f' {NO_DAY if first is None else first}'
+            f' {NO_DAY if fourth is None else fourth}')
+
+
+# The section on second maps (02, note 4): the line of each calendar, then its days.
+def second_map_section():
+    for index, calendar in enumerate(second_map_calendars()):
+        yield calendar_line(20 + index, calendar)
+        start = max(0, trading.first_day(calendar) - 10)
+        for day in range(start, trading.last_day(calendar) + 11, 37 if calendar.years == 16 else 5):
+            yield exchange_line(calendar, day)
 
 
 # ---- products ----
@@ -273,11 +328,13 @@ def id_line(file, code):
 
 
 # The cover of an accepted file, the number of its closed days and the sum of
-# their day numbers.
+# their day numbers; the same of its second map where that has days.
 def file_calendar_line(file):
     calendar = master.read_calendar(file)
+    second = calendar.exchange
     return (f'C {calendar.first_year} {calendar.years}'
-            f' {len(calendar.closed)} {sum(calendar.closed)}')
+            f' {len(calendar.closed)} {sum(calendar.closed)}'
+            + (f' {len(second)} {sum(second)}' if second else ''))
 
 
 # The lines of one file: refusal and counts; if it is accepted, its calendar and
@@ -299,6 +356,7 @@ def comparisons():
     yield from calendar_section()
     yield from product_section()
     yield from listing_section()
+    yield from second_map_section()
 
 
 # The program files: the lines of every case in turn.

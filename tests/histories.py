@@ -11,12 +11,14 @@ from pathlib import Path
 
 from second import dates, product, trading
 from second.book import Book
-from tables.damages import (damaged_tables, damaged_tables_of_2005, date_before_cover,
+from tables.damages import (damaged_second_maps, damaged_tables, damaged_tables_of_2005, date_before_cover,
                             every_call_on_zeros)
-from tables.files import (EXAMPLE, FUTURES_2005, ONE_YEAR, ONE_YEAR_2005, SEED, SEVEN_YEARS, SIXTEEN_YEARS,
-                          SIXTEEN_YEARS_2005, THREE_YEARS, THREE_YEARS_2005, TWO_YEARS, TWO_YEARS_2005,
-                          Numbers, accepted_files, all_files, calendar_of, easter_sunday, file_name,
-                          first_date, last_date, openable, product_of, refused_files)
+from tables.files import (EASTER_ALONE, EASTER_SECOND, EXAMPLE, FUTURES_2005, ONE_YEAR, ONE_YEAR_2005,
+                          REFUSED_SECOND, SEED, SEVEN_YEARS, SEVEN_YEARS_SECOND, SIXTEEN_YEARS,
+                          SIXTEEN_YEARS_2005, SIXTEEN_YEARS_SECOND, THREE_YEARS, THREE_YEARS_2005, TWO_YEARS,
+                          TWO_YEARS_2005, YEAR_END_SECOND, Numbers, accepted_files, all_files, calendar_of,
+                          easter_sunday, file_name, first_date, last_date, openable, product_of,
+                          refused_files, refused_second_maps)
 from tables.moments import PRICES, push_calls, some_calls, some_value
 from tables.script import Script, book_call, make
 
@@ -330,6 +332,68 @@ def all_of_2005(script, numbers):
         script.history(number, code, date, calls_of(numbers, number, code, date, length))
 
 
+# ---- Exchange days without trading ----
+
+# 02, note 4: 21 and 24 March 2008 closed, 24 March in the second map, and the same
+# without the map: due days from each day around them, before and after a closure.
+def dues_at_easter(script):
+    start = dates.day_of(2008, 3, 17)
+    for number in (EASTER_SECOND, EASTER_ALONE):
+        for code in (b'AXA ', b'AXAF', b'BAY ', b'BP  ', b'ENI ', b'FIAT'):
+            script.open(number, code, start)
+            for day in range(start, start + 15):
+                script.due(day)
+            script.close(dates.day_of(2008, 3, 26))
+            for day in range(start, start + 15):
+                script.due(day)
+
+
+# 02, note 4: "question 17 reads with exchange days": at the cover's end, where
+# the last three Mondays to Fridays are closed and in the second map.
+def dues_at_the_end(script):
+    end = trading.last_day(calendar_of(YEAR_END_SECOND))
+    for code in (b'AXA ', b'BP  ', b'ENI '):
+        script.open(YEAR_END_SECOND, code, first_date(YEAR_END_SECOND))
+        for day in range(end - 14, end + 2):
+            script.due(day)
+
+
+# 02, note 4: "A closure notice leaves the second map's bit 0"; a day of the second
+# map is closed, and no trading day.
+def closures_at_easter(script):
+    script.open(EASTER_SECOND, b'AXA ', dates.day_of(2008, 3, 17))
+    for day in (20, 24, 25, 21, 25):
+        script.close(dates.day_of(2008, 3, day))
+        script.due(dates.day_of(2008, 3, 19))
+    script.roll(dates.day_of(2008, 3, 24))
+    script.due(dates.day_of(2008, 3, 24))
+
+
+# 02, note 4: "Question 5 reads the second map as said"; 6 reads the first alone.
+def opens_of_refused_second_maps(script):
+    for place, (number, _) in enumerate(refused_second_maps()):
+        if script.open(REFUSED_SECOND + place, b'AXA ', 3000) != number:
+            raise ValueError(f'file {REFUSED_SECOND + place} is not refused by {number}')
+
+
+# 02, note 4: "Last trading days and listings don't change", and due days of every
+# count of days to settlement, in histories on calendars with second maps.
+def all_of_second_maps(script, numbers):
+    opens_of_refused_second_maps(script)
+    dues_at_easter(script)
+    dues_at_the_end(script)
+    closures_at_easter(script)
+    for number in (SEVEN_YEARS_SECOND, SIXTEEN_YEARS_SECOND):
+        for code in openable(number):
+            mixed_history(script, numbers, number, code, first_date(number) + numbers.below(400), 10)
+            for _ in range(10):
+                script.due(script.book.date + numbers.below(60))
+    damaged_second_maps(script)
+    for number, code, date, length in ((SEVEN_YEARS_SECOND, b'ENEL', 6950, 100),
+                                       (SIXTEEN_YEARS_SECOND, b'FIAT', 30700, 200)):
+        script.history(number, code, date, calls_of(numbers, number, code, date, length))
+
+
 # ---- The whole script ----
 
 # 01, Questions: the numbers that each call can give back.
@@ -381,6 +445,7 @@ def whole_script():
     whole_histories(script, numbers)
     odd_histories(script, numbers)
     all_of_2005(script, Numbers(SEED + 3))
+    all_of_second_maps(script, Numbers(SEED + 5))
     if wanted() - script.seen:
         raise ValueError(f'the script has no {sorted(wanted() - script.seen)}')
     return script

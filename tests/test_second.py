@@ -190,7 +190,7 @@ class Trading(unittest.TestCase):
             self.assertEqual(trading.latest_trading_day(calendar, day),
                              before[-1] if before else None)
             for n in (1, 2, 3, 4):
-                self.assertEqual(trading.nth_trading_day_after(calendar, day, n),
+                self.assertEqual(trading.nth_exchange_day_after(calendar, day, n),
                                  after[n - 1] if len(after) >= n else None)
 
     def test_question_15(self):
@@ -201,6 +201,60 @@ class Trading(unittest.TestCase):
         self.assertFalse(trading.every_week_trades_without(calendar, friday))
         self.assertTrue(trading.every_week_trades_without(calendar, friday + 3))
         self.assertTrue(trading.every_week_trades_without(calendar, 36524))
+
+
+# 02, note 4: exchange days without trading.
+class SecondMaps(unittest.TestCase):
+
+    MONDAY_24 = FRIDAY_21 + 3
+    CLOSED = Calendar(2008, 3, frozenset([FRIDAY_21, FRIDAY_21 + 3]))
+    SECOND = replace(CLOSED, exchange=frozenset([FRIDAY_21 + 3]))
+
+    # The due days from 20 March 2008 of an option of FR11 and of a future.
+    def dues(self, calendar):
+        items = [item(b'F', b'FR01', 0), item(b'O')]
+        return [table.due(opened(items, calendar, THURSDAY_20, one.id), THURSDAY_20) for one in items]
+
+    def test_due_days(self):
+        self.assertEqual(self.dues(self.SECOND), [(0, self.MONDAY_24), (0, dates.day_of(2008, 3, 26))])
+        self.assertEqual(self.dues(self.CLOSED), [(0, dates.day_of(2008, 3, 25)), (0, dates.day_of(2008, 3, 27))])
+
+    # "the starting day is still a trading day"; 6 and 14 read the first map alone.
+    def test_what_stays(self):
+        held = opened([item(b'O')], self.SECOND, THURSDAY_20, b'O   ')
+        self.assertEqual(table.due(held, self.MONDAY_24), (14, 0))
+        self.assertEqual(table.close(held, self.MONDAY_24)[0], 14)
+        week = weekdays_between(dates.day_of(2008, 4, 7), dates.day_of(2008, 4, 11))
+        self.assertFalse(trading.every_week_trades(replace(PLAIN, closed=week, exchange=week)))
+        self.assertEqual(held.places, opened([item(b'O')], self.CLOSED, THURSDAY_20, b'O   ').places)
+
+    # "A closure notice leaves the second map's bit 0."
+    def test_closure(self):
+        held = opened([item(b'O')], self.SECOND, THURSDAY_20, b'O   ')
+        number, after, _, _ = table.close(held, self.MONDAY_24 + 1)
+        self.assertEqual((number, after.calendar.exchange), (0, self.SECOND.exchange))
+        self.assertEqual(table.due(after, THURSDAY_20), (0, dates.day_of(2008, 3, 27)))
+
+    # "question 17 reads with exchange days".
+    def test_cover_end(self):
+        last = frozenset(dates.day_of(2010, 12, day) for day in (29, 30, 31))
+        start = dates.day_of(2010, 12, 28)
+        for second, answer in ((last, (0, dates.day_of(2010, 12, 31))), (frozenset(), (17, 0))):
+            calendar = Calendar(2008, 3, last, second)
+            held = opened([item(b'O')], calendar, THURSDAY_20, b'O   ')
+            self.assertEqual(table.due(held, start), answer)
+
+    # "Question 5 reads the second map as said": a bit alone, on a Saturday, after the
+    # year's end, byte 108.
+    def test_question_5(self):
+        for damage in (('bytes', 0, 62 + 84 // 8, b'\x08'), ('bytes', 0, 62 + 81 // 8, b'\x40'),
+                       ('bytes', 0, 107, b'\x02'), ('bytes', 0, 108, b'\x80')):
+            file = master.build(self.CLOSED, [item(b'O')], damages=(damage,))
+            self.assertEqual(master.load(file)[0], 5, damage)
+        file = master.build(self.SECOND, [item(b'O')])
+        self.assertEqual(master.load(file), (0, 3, 1))
+        self.assertEqual(master.read_calendar(file), self.SECOND)
+        self.assertEqual([place for place, byte in enumerate(file[62:108]) if byte], [83 // 8])
 
 
 class Maps(unittest.TestCase):
@@ -214,7 +268,7 @@ class Maps(unittest.TestCase):
             data = bytearray(trading.MAP_BYTES)
             for _ in range(rest.randrange(3)):
                 data[rest.randrange(trading.MAP_BYTES)] |= 1 << rest.randrange(8)
-            calendar = Calendar.from_map(first_year, years, data)
+            calendar = Calendar.from_maps(first_year, years, data)
             answer = trading.map_is_clean(first_year, years, data)
             self.assertEqual(trading.is_clean(calendar), answer)
             self.assertEqual(calendar.to_map(), bytes(data))
@@ -224,12 +278,30 @@ class Maps(unittest.TestCase):
     def test_bits(self):
         data = bytearray(trading.MAP_BYTES)
         data[46 + 79 // 8] |= 1 << (7 - 79 % 8)
-        calendar = Calendar.from_map(2007, 3, data)
+        calendar = Calendar.from_maps(2007, 3, data)
         self.assertEqual({dates.date_of(day) for day in calendar.closed}, {(2008, 3, 20)})
         for position, first_year in ((365, 2007), (366, 2008), (367, 2008), (16 * 368 - 1, 2007)):
             data = bytearray(trading.MAP_BYTES)
             data[position // 8] |= 1 << (7 - position % 8)
             self.assertFalse(trading.map_is_clean(first_year, 3, data))
+
+    # 02, note 4: "may be set only where the first map has its bit".
+    def test_second_map_and_set_agree(self):
+        rest = random.Random(2)
+        clean = 0
+        for _ in range(400):
+            data, second = bytearray(trading.MAP_BYTES), bytearray(trading.MAP_BYTES)
+            for _ in range(3):
+                place, bit = rest.randrange(46 * 3), 1 << rest.randrange(8)
+                data[place] |= bit
+                second[rest.choice((place, place, place + 1))] |= rest.choice((bit, bit, bit, 1))
+            calendar = Calendar.from_maps(2008, 3, data, second)
+            answer = (trading.map_is_clean(2008, 3, data)
+                      and trading.second_map_is_clean(data, second))
+            self.assertEqual(trading.is_clean(calendar), answer)
+            self.assertEqual((calendar.to_map(), calendar.to_second_map()), (bytes(data), bytes(second)))
+            clean += answer
+        self.assertTrue(0 < clean < 400)
 
     def test_cover(self):
         for first_year, years, fits in ((2000, 16, True), (2084, 16, True), (2085, 16, False),
@@ -652,6 +724,8 @@ class Soundness(unittest.TestCase):
             replace(held, calendar=replace(EASTER, closed=frozenset())),
             replace(held, calendar=replace(EASTER, closed=EASTER.closed | {dates.day_of(2008, 3, 22)})),
             replace(held, calendar=replace(EASTER, closed=EASTER.closed | {-1})),
+            replace(held, calendar=replace(EASTER, exchange=frozenset([THURSDAY_20]))),
+            replace(held, calendar=replace(EASTER, exchange=frozenset([-1]))),
             replace(held, calendar=replace(EASTER, years=0)),
             replace(held, calendar=replace(EASTER, years=17)),
             replace(held, product=replace(AXA, kind=2)), replace(held, product=replace(AXA, kind=4)),
@@ -855,11 +929,20 @@ class Expected(unittest.TestCase):
     def test_calendars(self):
         lines = [line for line in self.lines('comparisons') if line[0] in 'KTX']
         heads = [line for line in lines if line[0] == 'K']
-        self.assertEqual(len(heads), 20)
+        self.assertEqual(len(heads), 36)
         self.assertEqual(heads[0], 'K 0 2000 1 1 1 1')
         self.assertEqual(heads[14], 'K 14 2084 16 1 1 0')
         self.assertEqual(lines[1:3], ['T 0 1 0 0 0 0 2 4', 'T 5 1 0 1 5 0 6 10'])
-        self.assertEqual(lines[-1][0], 'X')
+        self.assertEqual([line[0] for line in lines[-17:]], ['X'] + ['K'] * 16)
+
+    # 02, note 4: clean second maps, and others that question 5 refuses, in turn.
+    def test_second_maps(self):
+        lines = [line for line in self.lines('comparisons') if line[0] in 'KE']
+        heads = [line.split() for line in lines if line[0] == 'K'][20:]
+        self.assertEqual([head[5] for head in heads], ['1', '0'] * 8)
+        marked = [line for line in lines if line[0] == 'E' and line.split()[2] == '1']
+        self.assertTrue(marked)
+        self.assertTrue(all(line.split()[3] == '1' for line in marked))
 
     def test_files(self):
         lines = self.lines('files')

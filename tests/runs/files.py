@@ -44,13 +44,16 @@ class Layout:
         return master.build(self.calendar, self.products, self.per_block, damages)
 
 
-# A calendar with some closures, each week with a trading day.
+# A calendar with some closures, each week with a trading day, and some of them in
+# the second map (02, note 4).
 def some_calendar(chance, years):
     last = dates.LAST_YEAR + 1 - years
     first_year = chance.choice((dates.FIRST_YEAR, last, chance.randint(dates.FIRST_YEAR, last)))
     empty = Calendar(first_year, years, frozenset())
     days = range(trading.first_day(empty), trading.last_day(empty) + 1)
-    return Calendar(first_year, years, closable(chance.sample(days, chance.randrange(12 * years))))
+    closed = closable(chance.sample(days, chance.randrange(12 * years)))
+    second = chance.sample(sorted(closed), chance.randint(0, len(closed)))
+    return Calendar(first_year, years, closed, frozenset(second))
 
 
 # As many products as a file can hold, by rising id. Every third future is one of
@@ -116,12 +119,24 @@ def order_fault(chance, layout):
     return chance.choice(faults)
 
 
-# Damage: further closed days in a calendar block.
-def closing(layout, block, days_of_year):
-    row = bytearray(layout.calendar.to_map()[BYTES_PER_YEAR * block:BYTES_PER_YEAR * (block + 1)])
+# Damage: further days in a map of a calendar block, whose rows are these.
+def marking(rows, block, at, days_of_year):
+    row = bytearray(rows[BYTES_PER_YEAR * block:BYTES_PER_YEAR * (block + 1)])
     for n in days_of_year:
         row[n // 8] |= 1 << (7 - n % 8)
-    return 'bytes', block, master.HEADER, bytes(row)
+    return 'bytes', block, at, bytes(row)
+
+
+# Damage: further closed days in a calendar block.
+def closing(layout, block, days_of_year):
+    return marking(layout.calendar.to_map(), block, master.HEADER, days_of_year)
+
+
+# Damage: a day in the second map of a calendar block that the first has not.
+def second_alone(chance, layout, block):
+    row = layout.calendar.to_map()[BYTES_PER_YEAR * block:BYTES_PER_YEAR * (block + 1)]
+    free = [n for n in range(8 * BYTES_PER_YEAR) if not row[n // 8] & 1 << (7 - n % 8)]
+    return marking(layout.calendar.to_second_map(), block, master.MAP_END, (chance.choice(free),))
 
 
 # The day of the year, from 0, of a Monday of a whole week of a calendar block's
@@ -131,14 +146,15 @@ def some_monday(chance, layout, block):
     return (7 - dates.weekday(first)) % 7 + 7 * chance.randrange(51)
 
 
-# 5: "Weekend bits, bits after the year's end and bytes 62–509 are zero."
+# 5: "Weekend bits, bits after the year's end and bytes [..]–509 are zero"; 02, note
+# 4: a bit of the second map "may be set only where the first map has its bit".
 def clean_fault(chance, layout):
     block = chance.randrange(layout.years)
     end = dates.year_length(layout.calendar.first_year + block)
     bit = chance.choice((some_monday(chance, layout, block) + chance.choice((5, 6)),
                          chance.randrange(end, 8 * BYTES_PER_YEAR)))
-    return chance.choice((closing(layout, block, (bit,)), closing(layout, block, (bit,)),
-                          ('bytes', block, chance.randrange(62, 510), b'\1')))
+    return chance.choice((closing(layout, block, (bit,)), second_alone(chance, layout, block),
+                          ('bytes', block, chance.randrange(master.SECOND_MAP_END, 510), b'\1')))
 
 
 # 6: "Does every run of seven days in the cover hold a trading day?"

@@ -1,5 +1,5 @@
 """The master file: building it, with damage for tests, judging it (questions 1
-to 9) and reading it (01, "Master file")."""
+to 9) and reading it (01, "Master file"; 02, note 4)."""
 
 import csv
 from functools import lru_cache
@@ -22,6 +22,7 @@ RECORDS_END = 496
 CHECK = 510
 CHECK_MODULUS = 65521
 MAP_END = HEADER + trading.BYTES_PER_YEAR
+SECOND_MAP_END = MAP_END + trading.BYTES_PER_YEAR
 
 
 # ---- Building a file ----
@@ -57,15 +58,20 @@ def record_of(item):
     return fields + bytes(RECORD - len(fields))
 
 
+# 02, note 4: "Calendar blocks hold a second map in bytes 62–107". The two maps of
+# year k of a calendar.
+def maps_of_year(calendar, k):
+    year = slice(trading.BYTES_PER_YEAR * k, trading.BYTES_PER_YEAR * (k + 1))
+    return calendar.to_map()[year] + calendar.to_second_map()[year]
+
+
 # A whole file from a calendar and a list of products, per_block records in each
 # product block but perhaps the last; then the damages are done to it in order,
 # each a tuple of a name in DAMAGES and its arguments.
 def build(calendar, products, per_block=RECORDS_AT_MOST, damages=()):
     file = bytearray()
-    rows = calendar.to_map()
     for k in range(calendar.years):
-        row = rows[trading.BYTES_PER_YEAR * k:trading.BYTES_PER_YEAR * (k + 1)]
-        file += block_of(CALENDAR, calendar.first_year + k, k, row)
+        file += block_of(CALENDAR, calendar.first_year + k, k, maps_of_year(calendar, k))
     for start in range(0, len(products), per_block):
         part = products[start:start + per_block]
         content = b''.join(record_of(item) for item in part)
@@ -196,7 +202,8 @@ def product_of(record):
 def read_calendar(file):
     blocks = blocks_of_kind(file, CALENDAR)
     rows = b''.join(block[HEADER:MAP_END] for block in blocks)
-    return Calendar.from_map(number_of(blocks[0]), len(blocks), rows)
+    second_rows = b''.join(block[MAP_END:SECOND_MAP_END] for block in blocks)
+    return Calendar.from_maps(number_of(blocks[0]), len(blocks), rows, second_rows)
 
 
 # The used records of a file that questions 1 to 4 accept, in the file's order.
@@ -254,11 +261,17 @@ def order_is_right(file):
 
 
 # 01, question 5: "Is every calendar block clean as stated?": "Weekend bits,
-# bits after the year's end and bytes 62–509 are zero."
+# bits after the year's end and bytes 62–509 are zero", 62 to 107 being the second
+# map now (02, note 4: "Question 5 reads the second map as said").
+def calendar_block_is_clean(block):
+    first, second = block[HEADER:MAP_END], block[MAP_END:SECOND_MAP_END]
+    return (trading.map_is_clean(number_of(block), 1, first)
+            and trading.second_map_is_clean(first, second)
+            and not any(block[SECOND_MAP_END:CHECK]))
+
+
 def calendar_blocks_are_clean(file):
-    return all(trading.map_is_clean(number_of(block), 1, block[HEADER:MAP_END])
-               and not any(block[MAP_END:CHECK])
-               for block in blocks_of_kind(file, CALENDAR))
+    return all(map(calendar_block_is_clean, blocks_of_kind(file, CALENDAR)))
 
 
 # 01, question 6: "Does every run of seven days in the cover hold a trading

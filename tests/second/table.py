@@ -175,7 +175,9 @@ def last_trading_day(table, month):
 
 
 # 01, Questions: "Due: 10, 11, 14, 17." "Due day: the n-th trading day after a
-# given trading day." (number, day).
+# given trading day." 02, note 4: "Due days count trading days and these days; the
+# starting day is still a trading day"; "question 17 reads with exchange days".
+# (number, day).
 def due(table, day):
     if not is_sound(table):
         return 10, 0
@@ -184,7 +186,7 @@ def due(table, day):
     if not trading.is_trading_day(table.calendar, day):
         return 14, 0
     n = product.days_to_settlement(table.product)
-    due_day = trading.nth_trading_day_after(table.calendar, day, n)
+    due_day = trading.nth_exchange_day_after(table.calendar, day, n)
     if due_day is None:
         return 17, 0
     return 0, due_day

@@ -1,7 +1,7 @@
-"""The cover, closed days and trading days (01, "Days and months", questions
-5, 6 and 15)."""
+"""The cover, closed days, trading days and exchange days (01, "Days and months",
+questions 5, 6 and 15; 02, note 4)."""
 
-from dataclasses import dataclass
+from dataclasses import dataclass, replace
 from functools import lru_cache
 
 from second import dates
@@ -12,33 +12,50 @@ MAP_BYTES = YEARS_AT_MOST * BYTES_PER_YEAR
 BITS_PER_YEAR = 8 * BYTES_PER_YEAR
 
 
-# The calendar: the cover as first year and number of years, and the day
-# numbers of the closed days. A negative entry stands for a bit of a map that
-# belongs to no day of the cover (see from_map).
+# The calendar: the cover as first year and number of years, the day numbers of
+# the closed days, and those of the second map (02, note 4). A negative entry
+# stands for a bit of a map that belongs to no day of the cover (see days_of_map).
 @dataclass(frozen=True)
 class Calendar:
     first_year: int
     years: int
     closed: frozenset
+    exchange: frozenset = frozenset()
 
-    # 01, Master file: "day n of the year (from 0) is the bit of value
-    # 2^(7 − n mod 8)"; 46 bytes for each year. A bit set outside every year of
-    # the cover is kept as −1 − its position, so that question 5 answers no.
+    # A calendar from the bytes of its two maps.
     @classmethod
-    def from_map(cls, first_year, years, data):
-        closed = set()
-        for position in bits_set(data):
-            day = day_at(first_year, years, position)
-            closed.add(-1 - position if day is None else day)
-        return cls(first_year, years, frozenset(closed))
+    def from_maps(cls, first_year, years, data, second=b''):
+        return cls(first_year, years, days_of_map(first_year, years, data),
+                   days_of_map(first_year, years, second))
 
-    # The same map as bytes; bytes past the last year are zero.
+    # The map of the closed days as bytes; bytes past the last year are zero.
     def to_map(self):
-        data = bytearray(MAP_BYTES)
-        for day in self.closed:
-            position = -1 - day if day < 0 else position_of(self.first_year, day)
-            data[position // 8] |= 1 << (7 - position % 8)
-        return bytes(data)
+        return map_of_days(self.first_year, self.closed)
+
+    # The second map as bytes.
+    def to_second_map(self):
+        return map_of_days(self.first_year, self.exchange)
+
+
+# 01, Master file: "day n of the year (from 0) is the bit of value
+# 2^(7 − n mod 8)"; 46 bytes for each year. 02, note 4: "same bit order". A bit
+# set outside every year of the cover is kept as −1 − its position, so that
+# question 5 answers no.
+def days_of_map(first_year, years, data):
+    days = set()
+    for position in bits_set(data):
+        day = day_at(first_year, years, position)
+        days.add(-1 - position if day is None else day)
+    return frozenset(days)
+
+
+# The bytes of a map with these days.
+def map_of_days(first_year, days):
+    data = bytearray(MAP_BYTES)
+    for day in days:
+        position = -1 - day if day < 0 else position_of(first_year, day)
+        data[position // 8] |= 1 << (7 - position % 8)
+    return bytes(data)
 
 
 # The positions of the bits set in a map, the highest bit of a byte first.
@@ -72,6 +89,12 @@ def map_is_clean(first_year, years, data):
         if day is None or not dates.is_weekday(day):
             return False
     return True
+
+
+# 02, note 4: a bit of the second map "may be set only where the first map has
+# its bit".
+def second_map_is_clean(data, second):
+    return set(bits_set(second)) <= set(bits_set(data))
 
 
 # 01, The table: "with 1 to 16 years from 2000 to 2099".
@@ -122,12 +145,25 @@ def is_trading_day(calendar, day):
             and in_cover(calendar, day))
 
 
-# 01, question 5: only Mondays to Fridays of the cover are closed. The verdict on
-# a calendar is kept, as a long session asks it again at every call.
+# 02, note 4: a day of the second map, on which "there is no trading, yet payments
+# and deliveries run".
+def is_in_second_map(calendar, day):
+    return day in calendar.exchange and in_cover(calendar, day)
+
+
+# 02, note 4: "Due days count trading days and these days".
+def is_exchange_day(calendar, day):
+    return is_trading_day(calendar, day) or is_in_second_map(calendar, day)
+
+
+# 01, question 5: only Mondays to Fridays of the cover are closed; 02, note 4:
+# only closed days are in the second map. The verdict on a calendar is kept, as a
+# long session asks it again at every call.
 @lru_cache(maxsize=256)
 def is_clean(calendar):
-    return all(dates.is_weekday(day) and in_cover(calendar, day)
-               for day in calendar.closed)
+    return (calendar.exchange <= calendar.closed
+            and all(dates.is_weekday(day) and in_cover(calendar, day)
+                    for day in calendar.closed))
 
 
 # 01, question 6: "Does every run of seven days in the cover hold a trading
@@ -145,12 +181,12 @@ def every_week_trades(calendar):
     return True
 
 
-# 01, The table: "Close marks one day closed." A day outside the cover changes
-# nothing.
+# 01, The table: "Close marks one day closed." 02, note 4: "A closure notice leaves
+# the second map's bit 0." A day outside the cover changes nothing.
 def close_day(calendar, day):
     if not in_cover(calendar, day):
         return calendar
-    return Calendar(calendar.first_year, calendar.years, calendar.closed | {day})
+    return replace(calendar, closed=calendar.closed | {day})
 
 
 # 01, question 15: "With it closed, does every seven-day run still hold a
@@ -170,14 +206,15 @@ def latest_trading_day(calendar, day):
     return None
 
 
-# 01, Due day: "the n-th trading day after a given trading day"; None if it is
-# not in the cover. The given day may be any day here.
-def nth_trading_day_after(calendar, day, n):
+# 01, Due day: "the n-th trading day after a given trading day", with 02, note 4
+# the n-th exchange day; None if it is not in the cover. The given day may be any
+# day here.
+def nth_exchange_day_after(calendar, day, n):
     day = max(day, first_day(calendar) - 1)
     while n > 0:
         day += 1
         if day > last_day(calendar):
             return None
-        if is_trading_day(calendar, day):
+        if is_exchange_day(calendar, day):
             n -= 1
     return day

@@ -1,11 +1,11 @@
 """Damaged tables: one field of a sound table changed, and every call on it (01,
-"A table is sound if"; 02, notes 1 and 2)."""
+"A table is sound if"; 02, notes 1, 2 and 4)."""
 
 from second import dates, listing, product, table, trading
-from tables.files import (EXAMPLE, ONE_YEAR, SEVEN_YEARS, SIXTEEN_YEARS, SIXTEEN_YEARS_2005,
-                          THREE_YEARS_2005, first_date)
-from tables.script import (BACK, CLOSED, CURRENCY, DATE, DAY, FIRST_YEAR, GIVEN, GROUP, ID, KIND,
-                           MARKET, MONTH, NUMBER, SIZE, TICK, YEARS)
+from tables.files import (EASTER_SECOND, EXAMPLE, ONE_YEAR, SEVEN_YEARS, SEVEN_YEARS_SECOND, SIXTEEN_YEARS,
+                          SIXTEEN_YEARS_2005, SIXTEEN_YEARS_SECOND, THREE_YEARS_2005, first_date)
+from tables.script import (BACK, CLOSED, CURRENCY, DATE, DAY, EXCHANGE, FIRST_YEAR, GIVEN, GROUP, ID, KIND, MARKET,
+                           MONTH, NUMBER, SIZE, TICK, YEARS)
 
 
 # 01, The table: "its product fields [..] satisfy [..] 7", each field in turn.
@@ -156,7 +156,12 @@ def try_damages(script):
 
 # The saved table with each of the changes that leave it sound.
 def try_harmless_changes(script):
-    for change in harmless_changes(script.saved):
+    leave_sound(script, harmless_changes(script.saved))
+
+
+# The saved table with each of some changes, after which it must be sound.
+def leave_sound(script, changes):
+    for change in changes:
         script.restore()
         script.damage(*change)
         if 10 in every_call(script):
@@ -223,6 +228,46 @@ def given_of_2005(script):
 def damaged_tables_of_2005(script):
     damage_each(script, BASES_2005)
     given_of_2005(script)
+
+
+# 02, note 4: a bit of the second map "may be set only where the first map has its
+# bit": a bit on a trading day, on a Saturday, after the year's end, in a year beyond
+# the cover; the first map's bit cleared under a bit of the second.
+def second_map_damages(now):
+    calendar = now.calendar
+    damages = [(EXCHANGE, *map_place(calendar, now.places[1][1] - 7)),
+               (EXCHANGE, *map_place(calendar, now.date - dates.weekday(now.date) + 5)),
+               (EXCHANGE, 45, 1), (CLOSED, *map_place(calendar, max(calendar.exchange)))]
+    if calendar.years < trading.YEARS_AT_MOST:
+        damages += [(EXCHANGE, trading.BYTES_PER_YEAR * calendar.years, 16),
+                    (EXCHANGE, trading.MAP_BYTES - 1, 1)]
+    return damages
+
+
+# Changes that leave a table sound: a bit of the second map cleared, one set on a
+# closed day that had none.
+def harmless_second_maps(now):
+    calendar = now.calendar
+    return [(EXCHANGE, *map_place(calendar, max(calendar.exchange))),
+            (EXCHANGE, *map_place(calendar, max(calendar.closed - calendar.exchange)))]
+
+
+# 02, note 4: tables with a second map after a roll and a closure.
+BASES_SECOND = ((EASTER_SECOND, b'AXA ', 2930, 20), (SEVEN_YEARS_SECOND, b'DAI ', 6980, 200),
+                (SIXTEEN_YEARS_SECOND, b'FIA5', 31000, 3100))
+
+
+# The damages and the harmless changes of their second maps.
+def damaged_second_maps(script):
+    for number, code, date, later in BASES_SECOND:
+        script.open(number, code, date)
+        script.roll(date + later)
+        script.close(script.book.maturities[1][1])
+        script.save()
+        for change in second_map_damages(script.saved):
+            try_damage(script, change)
+        every_call_refused_twice(script)
+        leave_sound(script, harmless_second_maps(script.saved))
 
 
 # The table of zeros that a refused open gives back is not sound.

@@ -1,5 +1,6 @@
 """The master files that the scripts of table calls open (01, "Master file")."""
 
+from dataclasses import replace
 from functools import lru_cache
 
 from second import dates, listing, master, trading
@@ -182,14 +183,65 @@ def files_of_2005():
     ]
 
 
+# 02, note 4: a calendar with some of its closed days in the second map, one of so
+# many.
+def with_second_map(numbers, calendar, of):
+    return replace(calendar, exchange=frozenset(
+        day for day in sorted(calendar.closed) if numbers.below(of) == 0))
+
+
+# 02, note 4: 21 and 24 March 2008 closed, the second of them in the second map.
+EASTER = Calendar(2008, 3, frozenset((dates.day_of(2008, 3, 21), dates.day_of(2008, 3, 24))),
+                  frozenset((dates.day_of(2008, 3, 24),)))
+
+
+# Files with second maps: the calendar above, and the same without its second map;
+# the last three days of 2012 but the weekend closed and in the second map; covers of
+# 7 and 16 years with half of their closed days there and with all of them.
+def second_map_files():
+    numbers = Numbers(SEED + 4)
+    items = products_of('AXA', 'AXAF', 'BAY', 'BP', 'ENI', 'FIAT')
+    last = frozenset(dates.day_of(2012, 12, day) for day in (27, 28, 31))
+    return [
+        master.build(EASTER, items),
+        master.build(replace(EASTER, exchange=frozenset()), items),
+        master.build(Calendar(2012, 1, last, last), products_of('AXA', 'BP', 'ENI')),
+        master.build(with_second_map(numbers, clustered(numbers, 2019, 7), 2), list(PRODUCTS)),
+        master.build(with_second_map(numbers, clustered(numbers, 2084, 16), 1),
+                     by_id(*PRODUCTS, *FUTURES_2005), per_block=9),
+    ]
+
+
+# Files whose second map is refused, with the number of the question: a bit without
+# the first map's, one on a Saturday, one after the year's end, byte 108 not zero; a
+# whole week closed, with all its days in the second map.
+def refused_second_maps():
+    items = products_of('AXA', 'ENI')
+    week = frozenset(range(4510, 4515))
+    day, saturday = dates.day_of(2008, 3, 25), dates.day_of(2008, 3, 22)
+    closed = EASTER.closed
+    return [
+        (5, master.build(replace(EASTER, exchange=closed | {day}), items)),
+        (5, master.build(replace(EASTER, exchange=closed | {saturday}), items)),
+        (5, master.build(EASTER, items, damages=(('bytes', 2, 107, b'\x01'),))),
+        (5, master.build(EASTER, items, damages=(('bytes', 1, 108, b'\x01'),))),
+        (6, master.build(Calendar(2012, 1, week, week), items)),
+    ]
+
+
 # All master files in the order of their numbers.
 @lru_cache(maxsize=1)
 def all_files():
-    return [*accepted_files(), *(file for _, file in refused_files()), *files_of_2005()]
+    return [*accepted_files(), *(file for _, file in refused_files()), *files_of_2005(),
+            *second_map_files(), *(file for _, file in refused_second_maps())]
 
 
 # The numbers of the files with futures of 2005.
 ONE_YEAR_2005, THREE_YEARS_2005, TWO_YEARS_2005, SIXTEEN_YEARS_2005 = range(20, 24)
+
+# The numbers of the files with second maps, and of the first that is refused.
+(EASTER_SECOND, EASTER_ALONE, YEAR_END_SECOND, SEVEN_YEARS_SECOND, SIXTEEN_YEARS_SECOND,
+ REFUSED_SECOND) = range(24, 30)
 
 
 # A file's name in the folder.

@@ -28,10 +28,15 @@ def long_numbers(*values):
 
 # ---- Printed lines ----
 
-# The sum of (i + 1) × byte i of the calendar's map, mod 65,521.
+# The sum of (i + 1) × byte i of a map, mod 65,521.
+def map_sum(data):
+    return sum((i + 1) * byte for i, byte in enumerate(data)) % SUM_MODULUS
+
+
+# The sums of a calendar's two maps.
 @lru_cache(maxsize=256)
-def calendar_sum(calendar):
-    return sum((i + 1) * byte for i, byte in enumerate(calendar.to_map())) % SUM_MODULUS
+def calendar_sums(calendar):
+    return map_sum(calendar.to_map()), map_sum(calendar.to_second_map())
 
 
 # The sum of a product's fields: at each one 31 times the sum so far, and the
@@ -49,20 +54,22 @@ def words(*numbers):
     return ''.join(f' {number}' for number in numbers)
 
 
-# The words on a table: date, given, first year, years, the two sums, then
-# month, day, days stepped back and number of all 15 places.
+# The words on a table: date, given, first year, years, the sums of the closed days
+# and of the product, then month, day, days stepped back and number of all 15 places, and the sum of
+# the second map where it is not 0.
 def table_words(item, calendar, date, places, given):
     unused = [(0, 0, 0, 0)] * (table.PLACES - len(places))
-    return (words(date, given, calendar.first_year, calendar.years,
-                  calendar_sum(calendar), product_sum(item))
-            + ''.join(words(*place) for place in [*places, *unused]))
+    closed, second = calendar_sums(calendar)
+    return (words(date, given, calendar.first_year, calendar.years, closed, product_sum(item))
+            + ''.join(words(*place) for place in [*places, *unused])
+            + (words(second) if second else ''))
 
 
 # ---- Damage: one field of a table changed ----
 
 # The fields by number, as the record says them.
 (ID, GROUP, MARKET, KIND, SIZE, TICK, CURRENCY, FIRST_YEAR, YEARS, CLOSED, DATE,
- MONTH, DAY, BACK, NUMBER, GIVEN) = range(16)
+ MONTH, DAY, BACK, NUMBER, GIVEN, EXCHANGE) = range(17)
 CODES = {ID: 'id', GROUP: 'group', MARKET: 'market', CURRENCY: 'currency'}
 PLAIN = {KIND: 'kind', SIZE: 'size', TICK: 'tick'}
 
@@ -76,18 +83,18 @@ def damage_product(item, field, place, value):
     return replace(item, **{CODES[field]: bytes(code)})
 
 
-# The calendar with one field changed; the bytes of its map stay as they are, or
+# The calendar with one field changed; the bytes of its maps stay as they are, or
 # one of them is xored with the value.
 def damage_calendar(calendar, field, place, value):
-    data = bytearray(calendar.to_map())
+    data = {CLOSED: bytearray(calendar.to_map()), EXCHANGE: bytearray(calendar.to_second_map())}
     first_year, years = calendar.first_year, calendar.years
     if field == FIRST_YEAR:
         first_year = value
     elif field == YEARS:
         years = value
     else:
-        data[place] ^= value
-    return Calendar.from_map(first_year, years, bytes(data))
+        data[field][place] ^= value
+    return Calendar.from_maps(first_year, years, bytes(data[CLOSED]), bytes(data[EXCHANGE]))
 
 
 # The places with one number of one of them changed.
@@ -101,7 +108,7 @@ def damage_places(places, field, place, value):
 def damage(old, field, place, value):
     if field in CODES or field in PLAIN:
         return replace(old, product=damage_product(old.product, field, place, value))
-    if field in (FIRST_YEAR, YEARS, CLOSED):
+    if field in (FIRST_YEAR, YEARS, CLOSED, EXCHANGE):
         return replace(old, calendar=damage_calendar(old.calendar, field, place, value))
     if field in (MONTH, DAY, BACK, NUMBER):
         return replace(old, places=damage_places(old.places, field, place, value))

@@ -14,15 +14,20 @@ use Rattle.questions.proofs.Search.{every-at, every-all}
 use Rattle.days.specs.Gregorian.{weekdayOf}
 use Rattle.calendar.specs.declared.Calendar.{Calendar}
 use Rattle.calendar.specs.Bits.{bitAt, setBit}
-use Rattle.calendar.specs.Trading.{validCover, inCover, slotOf, closedOn, tradingDay, mayBeClosed, cleanSlot, clean, closeDay}
+use Rattle.calendar.specs.Trading.{validCover, inCover, slotOf, closedOn, tradingDay, inSecondMap, mayBeClosed, bitsClean, cleanSlot, clean, closeDay}
 use Rattle.calendar.proofs.Bits.{set-here, set-other, set-keeps, marked, one-shl}
 use Rattle.calendar.proofs.Covered.{covered, slot-below, slot-may, slot-same}
+use Rattle.calendar.proofs.Clean.{bits-more, bits-second}
 
 module _ (cal : Calendar) (d : ℕ) where
-  -- it keeps the cover and the size of the maps
+  -- it keeps the cover and the second map
   pub close-cover : closeDay cal d .cover ≡ cal .cover
   unfolding closeDay
   close-cover = refl
+
+  pub close-exchange : closeDay cal d .exchange ≡ cal .exchange
+  unfolding closeDay
+  close-exchange = refl
 
   in-map : inCover (cal .cover) d ≡ true → closeDay cal d .closed ≡ setBit (cal .closed) (slotOf (cal .cover) d)
   unfolding closeDay
@@ -111,9 +116,31 @@ module _ (cal : Calendar) (d : ℕ) where
       may : mayBeClosed (cal .cover) (slotOf (cal .cover) d) ≡ true
       may = slot-may (cal .cover) d (covered (cal .cover) d e) ∙ w
 
-      go : (s : ℕ) (b : Bool) → eqb s (slotOf (cal .cover) d) ≡ b → (not (bitAt (cal .closed) s) || mayBeClosed (cal .cover) s) ≡ true → (not (bitAt (closeDay cal d .closed) s) || mayBeClosed (cal .cover) s) ≡ true
-      go s true q t = or-right (not (bitAt (closeDay cal d .closed) s)) (ap (mayBeClosed (cal .cover)) (eqb-true s (slotOf (cal .cover) d) q) ∙ may)
+      go : (s : ℕ) (b : Bool) → eqb s (slotOf (cal .cover) d) ≡ b → cleanSlot cal s ≡ true → bitsClean (mayBeClosed (cal .cover) s) (bitAt (closeDay cal d .closed) s) (bitAt (cal .exchange) s) ≡ true
+      go s true q t =
+          let p : s ≡ slotOf (cal .cover) d = eqb-true s (slotOf (cal .cover) d) q in
+          let m : mayBeClosed (cal .cover) s ≡ true = ap (mayBeClosed (cal .cover)) p ∙ may in
+          bits-more _ _ _ _ m (λ b. rw (in-map e, p) (set-keeps (cal .closed) (slotOf (cal .cover) d) (ap (bitAt (cal .closed)) (sym p) ∙ b))) t
       go s false q t = rw (in-map e, set-other (cal .closed) (slotOf (cal .cover) d) s (eqb-false _ _ q)) t
+
+  open-bit : inCover (cal .cover) d ≡ true → closedOn cal d ≡ false → bitAt (cal .closed) (slotOf (cal .cover) d) ≡ false
+  unfolding closedOn
+  open-bit a e = rw a at e
+
+  -- a trading day is not in the second map
+  pub trading-not-second : validCover (cal .cover) ≡ true → clean cal ≡ true → tradingDay cal d ≡ true → inSecondMap cal d ≡ false
+  unfolding inSecondMap tradingDay clean
+  trading-not-second y k t =
+      let (a, r) = both (inCover (cal .cover) d) (ltb (weekdayOf d) 5 && not (closedOn cal d)) t in
+      let (w, n) = both (ltb (weekdayOf d) 5) (not (closedOn cal d)) r in
+      rw a
+      (bits-second _ _ _ (every-at (cleanSlot cal) 5888 (slotOf (cal .cover) d) k (slot-below (cal .cover) d (covered (cal .cover) d a) y))
+      (open-bit a (not-true (closedOn cal d) n)))
+
+  -- 'A closure notice leaves the second map's bit 0' (02, note 4): 14 admits trading days alone
+  pub second-after-close : validCover (cal .cover) ≡ true → clean cal ≡ true → tradingDay cal d ≡ true → inSecondMap (closeDay cal d) d ≡ false
+  unfolding inSecondMap
+  second-after-close y k t = rw (close-cover, close-exchange) (trading-not-second y k t)
 
   -- where nothing is marked: a day outside the cover, or a slot past the maps
   pub close-out : inCover (cal .cover) d ≡ false → cal ≡ closeDay cal d
@@ -124,11 +151,11 @@ module _ (cal : Calendar) (d : ℕ) where
   unfolding closeDay setBit
   close-past h = go (inCover (cal .cover) d)
     where
-      go : (b : Bool) → cal ≡ record { cover = cal .cover; closed = cond b (setBit (cal .closed) (slotOf (cal .cover) d)) (cal .closed) }
+      go : (b : Bool) → cal ≡ record { cover = cal .cover; closed = cond b (setBit (cal .closed) (slotOf (cal .cover) d)) (cal .closed); exchange = cal .exchange }
       go true = rw (set-out (cal .closed) (slotOf (cal .cover) d / 8) (marked (cal .closed) (slotOf (cal .cover) d)) h)
       go false = refl
 
   -- the code's store
-  pub close-store : (slot : ℕ) → slot ≡ slotOf (cal .cover) d → inCover (cal .cover) d ≡ true → _≡_ {A = Calendar} (record { cover = cal .cover; closed = set (cal .closed) (slot / 8) (bitOr (getD (cal .closed) (slot / 8) 0) (1 * 2 ^ (7 - slot % 8) % 256)) }) (closeDay cal d)
+  pub close-store : (slot : ℕ) → slot ≡ slotOf (cal .cover) d → inCover (cal .cover) d ≡ true → _≡_ {A = Calendar} (record { cover = cal .cover; closed = set (cal .closed) (slot / 8) (bitOr (getD (cal .closed) (slot / 8) 0) (1 * 2 ^ (7 - slot % 8) % 256)); exchange = cal .exchange }) (closeDay cal d)
   unfolding closeDay setBit
   close-store slot q e = rw (one-shl (7 - slot % 8) (omega arith), e, q)

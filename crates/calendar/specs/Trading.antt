@@ -1,8 +1,8 @@
--- The cover, the closed days and the trading days (01, Days and months; questions 5, 6, 11, 14, 15, 17).
+-- The cover, the closed days, the trading days and the exchange days (01, Days and months; questions 5, 6, 11, 14, 15, 17; 02, note 4).
 -- Assumes nothing.
 use Prim.Native.Nat.{ℕ, zero, suc, _+_, _-_, _*_, _/_, _%_}
 use mathlib.Core.Bool.{Bool, not, _&&_, _||_, cond}
-use mathlib.Core.List.{List}
+use mathlib.Core.List.{List, []}
 use lib.Dec.{leb, ltb}
 use Rattle.questions.specs.Search.{every, some, firstFrom}
 use Rattle.days.specs.Gregorian.{weekdayOf}
@@ -11,9 +11,13 @@ use Rattle.calendar.specs.Bits.{bitAt, setBit}
 use Rattle.calendar.specs.declared.Cover.{Cover}
 use Rattle.calendar.specs.declared.Calendar.{Calendar}
 
--- a calendar by its cover and its maps
+-- a calendar by its cover and its two maps
+abbrev pub calendarOfMaps : Cover → List ℕ → List ℕ → Calendar
+calendarOfMaps cover closed exchange = record { cover = cover; closed = closed; exchange = exchange }
+
+-- the same with nothing in the second map, on which trading days, last trading days and listings do not depend (Second)
 abbrev pub calendarWith : Cover → List ℕ → Calendar
-calendarWith cover closed = record { cover = cover; closed = closed }
+calendarWith cover closed = calendarOfMaps cover closed []
 
 -- '1 to 16 years from 2000 to 2099' (01, The table)
 unfoldable pub validCover : Cover → Bool
@@ -43,14 +47,33 @@ closedOn cal d = inCover (cal .cover) d && bitAt (cal .closed) (slotOf (cal .cov
 unfoldable pub tradingDay : Calendar → ℕ → Bool
 tradingDay cal d = inCover (cal .cover) d && (ltb (weekdayOf d) 5 && not (closedOn cal d))
 
--- the first trading day after a day; 36,525, which is no day, where the cover has none
-unfoldable pub nextTradingDay : Calendar → ℕ → ℕ
-nextTradingDay cal d = firstFrom (tradingDay cal) 36525 (coverEnd (cal .cover) - suc d) (suc d)
+-- 'On some days there is no trading, yet payments and deliveries run .. A bit there marks such a day' (02, note 4): a day of the second map
+unfoldable pub inSecondMap : Calendar → ℕ → Bool
+inSecondMap cal d = inCover (cal .cover) d && bitAt (cal .exchange) (slotOf (cal .cover) d)
 
--- 'the n-th trading day after a given .. day' (01, Due day, tick, cash); 36,525 where the cover has none
-unfoldable pub nthTradingDay : Calendar → ℕ → ℕ → ℕ
-nthTradingDay cal zero d = d
-nthTradingDay cal (suc n) d = nextTradingDay cal (nthTradingDay cal n d)
+-- 'Due days count trading days and these days'
+unfoldable pub exchangeDay : Calendar → ℕ → Bool
+exchangeDay cal d = tradingDay cal d || inSecondMap cal d
+
+-- the first day after d, and before e, that passes a test; 36,525, which is no day, where none does
+unfoldable pub nextDay : (ℕ → Bool) → ℕ → ℕ → ℕ
+nextDay test e d = firstFrom test 36525 (e - suc d) (suc d)
+
+-- the n-th such day after d; 36,525 where there is none
+unfoldable pub nthDay : (ℕ → Bool) → ℕ → ℕ → ℕ → ℕ
+nthDay test e zero d = d
+nthDay test e (suc n) d = nextDay test e (nthDay test e n d)
+
+-- 'the n-th trading day after a given .. day' (01, Due day, tick, cash): what due days count where the second map is zero
+abbrev pub nthTradingDay : Calendar → ℕ → ℕ → ℕ
+nthTradingDay cal n d = nthDay (tradingDay cal) (coverEnd (cal .cover)) n d
+
+-- the same with exchange days; 36,525 where the cover has none
+unfoldable pub nextExchangeDay : Calendar → ℕ → ℕ
+nextExchangeDay cal d = nextDay (exchangeDay cal) (coverEnd (cal .cover)) d
+
+unfoldable pub nthExchangeDay : Calendar → ℕ → ℕ → ℕ
+nthExchangeDay cal n d = nthDay (exchangeDay cal) (coverEnd (cal .cover)) n d
 
 -- 'Weekend bits, bits after the year's end .. are zero': day n of the year y is one of the year's, and a Monday to Friday
 unfoldable pub mayClose : ℕ → ℕ → Bool
@@ -60,11 +83,15 @@ mayClose y n = ltb (yearStart y + n) (yearStart (y + 1)) && ltb (weekdayOf (year
 unfoldable pub mayBeClosed : Cover → ℕ → Bool
 mayBeClosed c slot = ltb (slot / 368) (c .years) && mayClose (c .«first_year» + slot / 368) (slot % 368)
 
--- 5, of a slot of the maps: its bit is 0, or may be 1
-abbrev pub cleanSlot : Calendar → ℕ → Bool
-cleanSlot cal slot = not (bitAt (cal .closed) slot) || mayBeClosed (cal .cover) slot
+-- 5, of a day's bits in the two maps: the first is 1 only where it may be; the second 'may be set only where the first map has its bit'
+unfoldable pub bitsClean : Bool → Bool → Bool → Bool
+bitsClean may first second = (not first || may) && (not second || first)
 
--- 5, of a calendar: in its 16 maps each bit is 0, or may be 1; so the maps after the last year's are zero
+-- 5, of a slot of the maps
+abbrev pub cleanSlot : Calendar → ℕ → Bool
+cleanSlot cal slot = bitsClean (mayBeClosed (cal .cover) slot) (bitAt (cal .closed) slot) (bitAt (cal .exchange) slot)
+
+-- 5, of a calendar: in its two maps of 16 years each bit is 0, or may be 1; so the maps after the last year's are zero
 unfoldable pub clean : Calendar → Bool
 clean cal = every 5888 (cleanSlot cal)
 
@@ -77,10 +104,11 @@ unfoldable pub everyWeek : Calendar → Bool
 everyWeek cal =
     every (coverEnd (cal .cover) - coverStart (cal .cover) - 6) (λ k. someTrades cal (coverStart (cal .cover) + k) 7)
 
--- 'Close marks one day closed' (01, The table); a day outside the cover changes nothing
+-- 'Close marks one day closed' (01, The table); 'A closure notice leaves the second map's bit 0' (02, note 4): the second map is as it was; a day outside the cover changes nothing
 unfoldable pub closeDay : Calendar → ℕ → Calendar
 closeDay cal d =
     record {
       cover = cal .cover;
       closed = cond (inCover (cal .cover) d) (setBit (cal .closed) (slotOf (cal .cover) d)) (cal .closed);
+      exchange = cal .exchange;
     }

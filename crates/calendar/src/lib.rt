@@ -1,7 +1,9 @@
-// The cover, its closed days and its trading days.
+// The cover, its closed days, its trading days and its exchange days.
 ghost use mathlib.Core.Path.{_≡_};
+ghost use mathlib.Core.Bool.{_&&_};
 ghost use Prim.Native.Nat.{_-_, _≤_};
-ghost use Rattle.calendar.specs.Trading.{calendarWith, validCover, coverStart, coverEnd, inCover, slotOf, closedOn, tradingDay, nextTradingDay, nthTradingDay, closeDay};
+ghost use Rattle.calendar.specs.Bits.{bitAt};
+ghost use Rattle.calendar.specs.Trading.{calendarOfMaps, calendarWith, validCover, coverStart, coverEnd, inCover, slotOf, closedOn, tradingDay, inSecondMap, exchangeDay, nextExchangeDay, nthExchangeDay, closeDay};
 
 // A run of whole years.
 pub struct Cover {
@@ -9,10 +11,12 @@ pub struct Cover {
     pub years: u16,
 }
 
-// Year k of the cover has the 46 bytes from 46 · k on, in the bit order of the file.
+// Two maps: the closed days, and those of them on which payments and deliveries run (02, note 4).
+// In each, year k of the cover has the 46 bytes from 46 · k on, in the bit order of the file.
 pub struct Calendar {
     pub cover: Cover,
     pub closed: [u8; 736],
+    pub exchange: [u8; 736],
 }
 
 // 1 to 16 years from 2000 to 2099.
@@ -85,24 +89,7 @@ pub fn slot_of(cover: Cover, day: u16) -> usize
     368 * (year as usize) + (days::day_in_year(day) as usize)
 }
 
-// A day outside the cover is not closed.
-pub fn is_closed(cal: Calendar, day: u16) -> bool
-    ensures { λ r. ⌜ r ≡ closedOn cal day ⌝ }
-{
-    let cover = cal.cover;
-    if !in_cover(cover, day) {
-        return false;
-    }
-    let slot = slot_of(cover, day);
-    let at = slot / 8;
-    if 736 <= at {
-        return false;
-    }
-    let byte = cal.closed[at];
-    (byte >> (7 - slot % 8)) % 2 == 1
-}
-
-// The same by the day's year, which its slot needs too.
+// Whether a day is in the cover, by its year, which its slot needs too.
 fn has_year_of(cover: Cover, day: u16) -> bool
     ensures { λ r. ⌜ r ≡ inCover cover day ⌝ }
 {
@@ -115,6 +102,38 @@ fn has_year_of(cover: Cover, day: u16) -> bool
         return false;
     }
     year - first < cover.years
+}
+
+// Whether a map has the day. None has a day outside the cover.
+fn is_marked(cover: Cover, map: &[u8], day: u16) -> bool
+    ensures { λ r. ⌜ r ≡ (inCover cover day && bitAt (now (map .entry)) (slotOf cover day)) ⌝ }
+{
+    if !has_year_of(cover, day) {
+        return false;
+    }
+    let slot = slot_of(cover, day);
+    let at = slot / 8;
+    if map.len() <= at {
+        return false;
+    }
+    let byte = map[at];
+    (byte >> (7 - slot % 8)) % 2 == 1
+}
+
+// A day outside the cover is not closed.
+pub fn is_closed(cal: Calendar, day: u16) -> bool
+    ensures { λ r. ⌜ r ≡ closedOn cal day ⌝ }
+{
+    let cover = cal.cover;
+    is_marked(cover, &cal.closed, day)
+}
+
+// Whether the day is an exchange day without trading (02, note 4). None is outside the cover.
+pub fn is_in_second_map(cal: Calendar, day: u16) -> bool
+    ensures { λ r. ⌜ r ≡ inSecondMap cal day ⌝ }
+{
+    let cover = cal.cover;
+    is_marked(cover, &cal.exchange, day)
 }
 
 // Whether a day is a trading day, by the cover and the lent maps.
@@ -143,17 +162,34 @@ pub fn is_trading_day(cal: Calendar, day: u16) -> bool
     is_trading_day_in(cover, &cal.closed, day)
 }
 
-// The first trading day after a day; 36,525 where the cover has none.
-pub fn next_trading_day(cal: Calendar, day: u16) -> u16
-    ensures { λ r. ⌜ r ≡ nextTradingDay cal day ⌝ }
+// Whether a day is a trading day or one of the second map, by the cover and the lent maps.
+pub fn is_exchange_day_in<'a>(cover: Cover, closed: &'a [u8], exchange: &'a [u8], day: u16) -> bool
+    ensures { λ r. ⌜ r ≡ exchangeDay (calendarOfMaps cover (now (closed .entry)) (now (exchange .entry))) day ⌝ }
 {
-    let end = cover_end(cal.cover);
+    if is_trading_day_in(cover, closed, day) {
+        return true;
+    }
+    is_marked(cover, exchange, day)
+}
+
+pub fn is_exchange_day(cal: Calendar, day: u16) -> bool
+    ensures { λ r. ⌜ r ≡ exchangeDay cal day ⌝ }
+{
+    let cover = cal.cover;
+    is_exchange_day_in(cover, &cal.closed, &cal.exchange, day)
+}
+
+// The first exchange day after a day, by the cover and the lent maps; 36,525 where the cover has none.
+pub fn next_exchange_day_in<'a>(cover: Cover, closed: &'a [u8], exchange: &'a [u8], day: u16) -> u16
+    ensures { λ r. ⌜ r ≡ nextExchangeDay (calendarOfMaps cover (now (closed .entry)) (now (exchange .entry))) day ⌝ }
+{
+    let end = cover_end(cover);
     if end <= day {
         return 36525;
     }
     let mut d = day + 1;
     while d < end {
-        if is_trading_day(cal, d) {
+        if is_exchange_day_in(cover, closed, exchange, d) {
             return d;
         }
         d += 1;
@@ -161,20 +197,34 @@ pub fn next_trading_day(cal: Calendar, day: u16) -> u16
     36525
 }
 
-// The n-th trading day after a day; 36,525 where the cover has none.
-pub fn nth_trading_day(cal: Calendar, day: u16, n: u16) -> u16
-    ensures { λ r. ⌜ r ≡ nthTradingDay cal n day ⌝ }
+// The n-th exchange day after a day, by the cover and the lent maps; 36,525 where the cover has none.
+pub fn nth_exchange_day_in<'a>(
+    cover: Cover,
+    closed: &'a [u8],
+    exchange: &'a [u8],
+    day: u16,
+    n: u16,
+) -> u16
+    ensures { λ r. ⌜ r ≡ nthExchangeDay (calendarOfMaps cover (now (closed .entry)) (now (exchange .entry))) n day ⌝ }
 {
     let mut d = day;
     let mut i: u16 = 0;
     while i < n {
-        d = next_trading_day(cal, d);
+        d = next_exchange_day_in(cover, closed, exchange, d);
         i += 1;
     }
     d
 }
 
-// The calendar with one day closed; a day outside the cover changes nothing.
+// The n-th exchange day after a day; 36,525 where the cover has none.
+pub fn nth_exchange_day(cal: Calendar, day: u16, n: u16) -> u16
+    ensures { λ r. ⌜ r ≡ nthExchangeDay cal n day ⌝ }
+{
+    let cover = cal.cover;
+    nth_exchange_day_in(cover, &cal.closed, &cal.exchange, day, n)
+}
+
+// The calendar with one day closed, the second map as it was; a day outside the cover changes nothing.
 pub fn close_day(cal: Calendar, day: u16) -> Calendar
     ensures { λ r. ⌜ r ≡ closeDay cal day ⌝ }
 {

@@ -18,7 +18,7 @@ use Rattle.days.proofs.Years.{year-start-is, year-start-before, year-start-past
 use Rattle.calendar.specs.declared.Cover.{Cover}
 use Rattle.calendar.specs.declared.Calendar.{Calendar}
 use Rattle.calendar.specs.Bits.{bitAt}
-use Rattle.calendar.specs.Trading.{mayClose, mayBeClosed, cleanSlot}
+use Rattle.calendar.specs.Trading.{mayClose, mayBeClosed, bitsClean, cleanSlot}
 use Rattle.calendar.proofs.Covered.{may-not, may-day, may-past}
 use Rattle.day_words.specs.Words.{dayBit, Weekends}
 use Rattle.day_words.proofs.Words.{or-day, shr-day, all-days, last-days}
@@ -82,12 +82,19 @@ module _ (f : ℕ → Bool) (m n : ℕ) where
   pub every-fails : (k : ℕ) → every n (λ j. f (m + j)) ≡ false → m + n ≤ k → every k f ≡ false
   every-fails k e l = let p = every-one (λ j. f (m + j)) n e in every-not f k (m + p .at) (p .fails) (omega (arith, p .below))
 
--- the slots of map k are the days of its year
-pub slots-year : (cal : Calendar) (k y : ℕ) → ((n : ℕ) → n < 368 → mayBeClosed (cal .cover) (368 * k + n) ≡ mayClose y n) → every 368 (λ n. cleanSlot cal (368 * k + n)) ≡ every 368 (λ n. not (bitAt (cal .closed) (368 * k + n)) || mayClose y n)
+-- 5, of day n of the maps k of a year
+abbrev pub mapDay : List ℕ → List ℕ → ℕ → ℕ → ℕ → Bool
+mapDay first second k y n = bitsClean (mayClose y n) (bitAt first (368 * k + n)) (bitAt second (368 * k + n))
+
+-- the slots of maps k are the days of their year
+pub slots-year : (cal : Calendar) (k y : ℕ) → ((n : ℕ) → n < 368 → mayBeClosed (cal .cover) (368 * k + n) ≡ mayClose y n) → every 368 (λ n. cleanSlot cal (368 * k + n)) ≡ every 368 (mapDay (cal .closed) (cal .exchange) k y)
 slots-year cal k y h =
     same-test _ _
-    (λ e. every-all _ 368 (λ n l. ap (λ (b : Bool). not (bitAt (cal .closed) (368 * k + n)) || b) (sym (h n l)) ∙ every-at (λ n. cleanSlot cal (368 * k + n)) 368 n e l))
-    (λ e. every-all (λ n. cleanSlot cal (368 * k + n)) 368 (λ n l. ap (λ (b : Bool). not (bitAt (cal .closed) (368 * k + n)) || b) (h n l) ∙ every-at (λ n. not (bitAt (cal .closed) (368 * k + n)) || mayClose y n) 368 n e l))
+    (λ e. every-all (mapDay (cal .closed) (cal .exchange) k y) 368 (λ n l. ap (bits n) (sym (h n l)) ∙ every-at (λ n. cleanSlot cal (368 * k + n)) 368 n e l))
+    (λ e. every-all (λ n. cleanSlot cal (368 * k + n)) 368 (λ n l. ap (bits n) (h n l) ∙ every-at (mapDay (cal .closed) (cal .exchange) k y) 368 n e l))
+  where
+    bits : ℕ → Bool → Bool
+    bits n may = bitsClean may (bitAt (cal .closed) (368 * k + n)) (bitAt (cal .exchange) (368 * k + n))
 
 -- the year of map k, by the cover
 module _ (c : Cover) (k n : ℕ) (l : n < 368) where
@@ -106,7 +113,3 @@ module _ (c : Cover) (k n : ℕ) (l : n < 368) where
 
   pub map-year : k < c .years → mayBeClosed c (368 * k + n) ≡ mayClose (c .«first_year» + k) n
   map-year h = slot-k ∙ rw (lt-ltb k (c .years) h)
-
--- 5, of day n of the map k of a year
-abbrev pub mapDay : List ℕ → ℕ → ℕ → ℕ → Bool
-mapDay map k y n = not (bitAt map (368 * k + n)) || mayClose y n

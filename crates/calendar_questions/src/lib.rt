@@ -2,15 +2,16 @@
 use calendar::Calendar;
 use calendar::Cover;
 ghost use mathlib.Core.Path.{_≡_};
-ghost use mathlib.Core.Bool.{not, _&&_, _||_, cond, true};
+ghost use mathlib.Core.Bool.{not, _&&_, cond, true};
 ghost use Prim.Native.Nat.{ℕ, _+_, _-_, _*_, _%_, _^_, _≤_, _<_};
-ghost use lib.Dec.{ltb};
+ghost use lib.Bits.{bitAnd, bitOr};
+ghost use lib.Dec.{eqb, ltb};
 ghost use lib.ListN.{getD};
 ghost use Rattle.questions.specs.Search.{every};
 ghost use Rattle.days.specs.Gregorian.{weekdayOf};
 ghost use Rattle.days.specs.Dates.{yearStart};
 ghost use Rattle.calendar.specs.Bits.{byteBit, bitAt};
-ghost use Rattle.calendar.specs.Trading.{calendarWith, validCover, coverStart, coverEnd, mayClose, mayBeClosed, clean, everyWeek, closeDay};
+ghost use Rattle.calendar.specs.Trading.{calendarOfMaps, calendarWith, validCover, coverStart, coverEnd, mayClose, mayBeClosed, bitsClean, clean, everyWeek, closeDay};
 ghost use Rattle.calendar.proofs.Weeks.{weeksIn};
 ghost use Rattle.day_words.specs.Words.{dayBit, Shows};
 ghost use Rattle.day_words.proofs.Windows.{Ends, TradesUntil};
@@ -77,29 +78,40 @@ fn rest_barred(year: u16) -> u64
     weekends | 7
 }
 
-// Question 5, of the map of one year, eight weeks at a time.
-fn year_is_clean(closed: &[u8; 736], k: u16, year: u16) -> bool
+// Question 5, of a word of each map: the first has no day that may not be closed, the second none that the first has not.
+fn word_is_clean(first: u64, second: u64, barred: u64) -> bool
+    ensures { λ r. ⌜ r ≡ (eqb (bitAnd first barred) 0 && eqb (bitOr first second) first) ⌝ }
+{
+    (first & barred == 0) & (first | second == first)
+}
+
+// The same of the two maps of one year, eight weeks at a time.
+fn year_is_clean<'a>(closed: &'a [u8; 736], exchange: &'a [u8; 736], k: u16, year: u16) -> bool
     requires { ⌜ (k < 16) × (year ≤ 2115) ⌝ }
-    ensures { λ r. ⌜ r ≡ every 368 (λ n. not (bitAt (now (closed .entry)) (368 * k + n)) || mayClose year n) ⌝ }
+    ensures { λ r. ⌜ r ≡ every 368 (λ n. bitsClean (mayClose year n) (bitAt (now (closed .entry)) (368 * k + n)) (bitAt (now (exchange .entry)) (368 * k + n))) ⌝ }
 {
     let barred = weeks_barred(year);
     let mut j: u16 = 0;
     while j < 6 {
-        if day_words::weeks_of(closed, k, j) & barred != 0 {
+        let first = day_words::weeks_of(closed, k, j);
+        let second = day_words::weeks_of(exchange, k, j);
+        if !word_is_clean(first, second, barred) {
             return false;
         }
         j += 1;
     }
-    day_words::rest_of(closed, k) & rest_barred(year) == 0
+    let first = day_words::rest_of(closed, k);
+    let second = day_words::rest_of(exchange, k);
+    word_is_clean(first, second, rest_barred(year))
 }
 
-// The same of every map.
-fn maps_are_clean(cover: Cover, closed: &[u8; 736]) -> bool
-    ensures { λ r. ⌜ r ≡ clean (calendarWith cover (now (closed .entry))) ⌝ }
+// The same of every year's maps.
+fn maps_are_clean<'a>(cover: Cover, closed: &'a [u8; 736], exchange: &'a [u8; 736]) -> bool
+    ensures { λ r. ⌜ r ≡ clean (calendarOfMaps cover (now (closed .entry)) (now (exchange .entry))) ⌝ }
 {
     let mut k: u16 = 0;
     while k < 16 {
-        if !year_is_clean(closed, k, year_of_map(cover, k)) {
+        if !year_is_clean(closed, exchange, k, year_of_map(cover, k)) {
             return false;
         }
         k += 1;
@@ -107,12 +119,12 @@ fn maps_are_clean(cover: Cover, closed: &[u8; 736]) -> bool
     true
 }
 
-// Question 5, of a calendar: only Mondays to Fridays of the cover are closed.
+// Question 5, of a calendar: only Mondays to Fridays of the cover are closed, and only closed days are in the second map.
 pub fn is_clean(cal: Calendar) -> bool
     ensures { λ r. ⌜ r ≡ clean cal ⌝ }
 {
     let cover = cal.cover;
-    maps_are_clean(cover, &cal.closed)
+    maps_are_clean(cover, &cal.closed, &cal.exchange)
 }
 
 // A byte of the maps; one past the end counts as 0.

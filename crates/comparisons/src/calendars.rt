@@ -18,8 +18,8 @@ fn day_line(cal: Calendar, day: u16) {
     let last = expiry::last_day(cal, day);
     put(last.day);
     put(last.back);
-    put(calendar::nth_trading_day(cal, day, 1));
-    put(calendar::nth_trading_day(cal, day, 3));
+    put(calendar::nth_exchange_day(cal, day, 1));
+    put(calendar::nth_exchange_day(cal, day, 3));
     end_line();
 }
 
@@ -47,7 +47,7 @@ fn closing_lines(cal: Calendar, from: u16, to: u16, step: u16)
     }
 }
 
-fn header(cal: Calendar, index: u16) {
+pub(crate) fn header(cal: Calendar, index: u16) {
     let cover = cal.cover;
     start_line(b'K');
     put(index);
@@ -59,7 +59,7 @@ fn header(cal: Calendar, index: u16) {
     end_line();
 }
 
-fn ten_before(day: u16) -> u16 {
+pub(crate) fn ten_before(day: u16) -> u16 {
     if day < 10 { 0 } else { day - 10 }
 }
 

@@ -4,6 +4,7 @@ mod dates;
 mod listings;
 mod patterns;
 mod products;
+mod second_maps;
 mod text;
 
 fn main() {
@@ -11,4 +12,5 @@ fn main() {
     calendars::print();
     products::print();
     listings::print();
+    second_maps::print();
 }

@@ -81,7 +81,12 @@ fn closed_if(cal: Calendar, pattern: u16, day: u16) -> Calendar
 // The calendar of a cover with a pattern of closures.
 pub(crate) fn closed_by(cover: Cover, pattern: u16) -> Calendar {
     let closed = [0u8; 736];
-    let mut cal = Calendar { cover, closed };
+    let exchange = [0u8; 736];
+    let mut cal = Calendar {
+        cover,
+        closed,
+        exchange,
+    };
     let end = calendar::cover_end(cover);
     let mut day = calendar::cover_start(cover);
     while day < end {
@@ -89,4 +94,40 @@ pub(crate) fn closed_by(cover: Cover, pattern: u16) -> Calendar {
         day += 1;
     }
     cal
+}
+
+// Whether a second map has the day: two of three closed days, or every tenth day, closed or not.
+fn in_second(cal: Calendar, second: u16, day: u16) -> bool {
+    if second == 0 {
+        return calendar::is_closed(cal, day) & (day % 3 != 1);
+    }
+    day % 10 == 4
+}
+
+// The calendar with the day in its second map, where the pattern has it.
+fn marked_if(cal: Calendar, second: u16, day: u16) -> Calendar {
+    if !in_second(cal, second, day) {
+        return cal;
+    }
+    let slot = calendar::slot_of(cal.cover, day);
+    let at = slot / 8;
+    if 736 <= at {
+        return cal;
+    }
+    let bit: u8 = 1 << (7 - slot % 8);
+    let mut next = cal;
+    next.exchange[at] = next.exchange[at] | bit;
+    next
+}
+
+// The calendar with a pattern of the second map.
+pub(crate) fn with_second(cal: Calendar, second: u16) -> Calendar {
+    let end = calendar::cover_end(cal.cover);
+    let mut day = calendar::cover_start(cal.cover);
+    let mut next = cal;
+    while day < end {
+        next = marked_if(next, second, day);
+        day += 1;
+    }
+    next
 }

@@ -1,21 +1,22 @@
 -- Laws of the bits of words: two words side by side, the bytes of a map, an and that is zero, seven in a row.
 -- Assumes nothing.
-use mathlib.Core.Path.{_≡_, refl, _∙_, sym, ap}
-use mathlib.Core.Bool.{Bool, true, false, not, _||_, cond}
+use mathlib.Core.Path.{_≡_, refl, _∙_, sym, ap, ap₂}
+use mathlib.Core.Bool.{Bool, true, false, not, _&&_, _||_, cond}
 use mathlib.Core.Logic.{_⊎_, inl, inr}
 use mathlib.Core.List.{List}
 use Prim.Native.Nat.{ℕ, zero, suc, _+_, _-_, _*_, _/_, _%_, _^_, _≤_, _<_}
 use native.Mathlib.Nat.{zero-div, add-zero, add-suc, mul-assoc, div-eq-of-lt}
 use native.Mathlib.Omega.{arith}
-use lib.Bits.{bitOr, bitAnd, or-shr, or-mod, and-shr, and-mod, and-le-l, and-zero-l, and-zero-r, or-zero-l, or-zero-r}
+use lib.Bits.{bitOr, bitAnd, or-shr, or-mod, and-shr, and-mod, and-le-l, and-zero-l, and-zero-r, or-lt, or-zero-l, or-zero-r}
 use lib.Dec.{eqb, leb, ltb}
 use lib.ListN.{getD}
-use lib.Pow.{pow-add, shr-shr, shr-lt, field, mod-mod-pow, high, low, shl-shr, pow-lt}
+use lib.Pow.{pow-pos, pow-add, shr-shr, shr-lt, field, mod-mod-pow, high, low, shl-shr, pow-lt}
 use borrow.Author.Tests.{eqb-true, eq-eqb, eqb-false}
 use Rattle.questions.specs.Search.{every}
-use Rattle.questions.proofs.Bools.{clash, same-test, lt-or-ge}
+use Rattle.questions.proofs.Bools.{clash, both, and-fst, and-snd, and-both, same-test, lt-or-ge}
 use Rattle.questions.proofs.Search.{every-at, every-all}
 use Rattle.calendar.specs.Bits.{byteBit, bitAt}
+use Rattle.calendar.specs.Trading.{bitsClean}
 use Rattle.day_words.specs.Words.{dayBit, Shows, bytesFrom, weekendDay, SevenFree}
 
 -- a number's lower m bits keep their bits
@@ -55,19 +56,23 @@ unfolding bytesFrom
 bytes-show b at zero p h = absurd (omega arith)
 bytes-show b at (suc n) p h = byte-step b at n p h (lt-or-ge p (8 * n)) (bytes-show b at n p)
 
--- a number below 2^w with no bit is 0
-all-zero : (w y : ℕ) → y < 2 ^ w → ((j : ℕ) → j < w → y / 2 ^ j % 2 ≡ 0) → y ≡ 0
-all-zero zero y l h = omega arith
-all-zero (suc w) y l h =
-    let half : y / 2 ≡ 0 = all-zero w (y / 2) (shr-lt w 1 (more l)) (λ j k. ap (λ (n : ℕ). n % 2) (shr-shr y 1 j) ∙ h (1 + j) (omega arith)) in
-    let odd : y % 2 ≡ 0 = ap (λ (n : ℕ). n % 2) one ∙ h 0 (omega arith) in
+-- numbers below 2^w with the same bits are equal
+same-bits : (w x y : ℕ) → x < 2 ^ w → y < 2 ^ w → ((j : ℕ) → j < w → x / 2 ^ j % 2 ≡ y / 2 ^ j % 2) → x ≡ y
+same-bits zero x y a b h = omega arith
+same-bits (suc w) x y a b h =
+    let half : x / 2 ≡ y / 2 = same-bits w (x / 2) (y / 2) (shr-lt w 1 (more x a)) (shr-lt w 1 (more y b)) (λ j k. ap (λ (n : ℕ). n % 2) (shr-shr x 1 j) ∙ h (1 + j) (omega arith) ∙ sym (ap (λ (n : ℕ). n % 2) (shr-shr y 1 j))) in
+    let odd : x % 2 ≡ y % 2 = ap (λ (n : ℕ). n % 2) (one x) ∙ h 0 (omega arith) ∙ sym (ap (λ (n : ℕ). n % 2) (one y)) in
     omega arith
   where
-    more : y < 2 ^ suc w → y < 2 ^ (w + 1)
-    more l = let e : suc w ≡ w + 1 = omega arith in rw (← e) l
+    more : (n : ℕ) → n < 2 ^ suc w → n < 2 ^ (w + 1)
+    more n l = let e : suc w ≡ w + 1 = omega arith in rw (← e) l
 
-    one : y ≡ y / 2 ^ 0
-    one = omega arith
+    one : (n : ℕ) → n ≡ n / 2 ^ 0
+    one n = omega arith
+
+-- a number below 2^w with no bit is 0
+all-zero : (w y : ℕ) → y < 2 ^ w → ((j : ℕ) → j < w → y / 2 ^ j % 2 ≡ 0) → y ≡ 0
+all-zero w y l h = same-bits w y 0 l (pow-pos w) (λ j k. h j k ∙ sym (ap (λ (n : ℕ). n % 2) (zero-div (2 ^ j))))
 
 -- a bit of an and, of an or
 and-bit : (a b j : ℕ) → bitAnd a b / 2 ^ j % 2 ≡ bitAnd (a / 2 ^ j % 2) (b / 2 ^ j % 2)
@@ -129,6 +134,38 @@ module _ (w x m : ℕ) (l : x < 2 ^ w) where
 
   pub apart : eqb (bitAnd x m) 0 ≡ every w (λ p. not (dayBit w x p) || not (dayBit w m p))
   apart = same-test _ _ (λ z. every-all apartOn w (λ p k. apart-days (eqb-true _ _ z) p)) (λ h. eq-eqb _ _ (days-apart h))
+
+-- a word has no day that another has not where their or is the other
+module _ (w x y : ℕ) (l : x < 2 ^ w) (m : y < 2 ^ w) where
+  abbrev withinOn : ℕ → Bool
+  withinOn p = not (dayBit w y p) || dayBit w x p
+
+  within-days : bitOr x y ≡ x → (p : ℕ) → withinOn p ≡ true
+  within-days z p = go (dayBit w x p) (dayBit w y p) (ap (λ (n : ℕ). dayBit w n p) (sym z) ∙ or-day w x y p)
+    where
+      go : (a b : Bool) → a ≡ (a || b) → (not b || a) ≡ true
+      go true true e = refl
+      go true false e = refl
+      go false true e = e
+      go false false e = refl
+
+  or-within : (j : ℕ) → (not (eqb (y / 2 ^ j % 2) 1) || eqb (x / 2 ^ j % 2) 1) ≡ true → bitOr x y / 2 ^ j % 2 ≡ x / 2 ^ j % 2
+  or-within j h = or-bit x y j ∙ go (low-two (x / 2 ^ j % 2) (omega arith)) (low-two (y / 2 ^ j % 2) (omega arith))
+    where
+      go : (x / 2 ^ j % 2 ≡ 0) ⊎ (x / 2 ^ j % 2 ≡ 1) → (y / 2 ^ j % 2 ≡ 0) ⊎ (y / 2 ^ j % 2 ≡ 1) → bitOr (x / 2 ^ j % 2) (y / 2 ^ j % 2) ≡ x / 2 ^ j % 2
+      go a (inl q) = ap (λ (n : ℕ). bitOr (x / 2 ^ j % 2) n) q ∙ or-zero-r (x / 2 ^ j % 2)
+      go (inl p) (inr q) = clash {b = false} (rw (p, q) at h) refl
+      go (inr p) (inr q) = rw (p, q)
+
+  days-within : every w withinOn ≡ true → bitOr x y ≡ x
+  days-within h =
+      same-bits w (bitOr x y) x (or-lt w x y l m) l
+      (λ j k.
+      let e : w - 1 - (w - 1 - j) ≡ j = omega arith in
+      or-within j (rw e at (every-at withinOn w (w - 1 - j) h (omega arith))))
+
+  pub within : eqb (bitOr x y) x ≡ every w (λ p. not (dayBit w y p) || dayBit w x p)
+  within = same-test _ _ (λ z. every-all withinOn w (λ p k. within-days (eqb-true _ _ z) p)) (λ h. eq-eqb _ _ (days-within h))
 
 -- a word moved down, and in a wider word
 pub shr-day : (w c x p : ℕ) → p < w → dayBit w (x / 2 ^ c) p ≡ dayBit (w + c) x p
@@ -245,7 +282,7 @@ every-same f g n h =
     same-test _ _ (λ e. every-all g n (λ k l. sym (h k l) ∙ every-at f n k e l)) (λ e. every-all f n (λ k l. h k l ∙ every-at g n k e l))
 
 -- a word of a map has no day of a mask of the days that may not be closed
-pub word-clean : (map : List ℕ) (may : ℕ → Bool) (base n w x m : ℕ) → x < 2 ^ w → Shows map (base + n) w x → ((p : ℕ) → p < w → dayBit w m p ≡ not (may (n + p))) → eqb (bitAnd x m) 0 ≡ every w (λ p. not (bitAt map (base + (n + p))) || may (n + p))
+word-clean : (map : List ℕ) (may : ℕ → Bool) (base n w x m : ℕ) → x < 2 ^ w → Shows map (base + n) w x → ((p : ℕ) → p < w → dayBit w m p ≡ not (may (n + p))) → eqb (bitAnd x m) 0 ≡ every w (λ p. not (bitAt map (base + (n + p))) || may (n + p))
 word-clean map may base n w x m l s b =
     apart w x m l ∙
     every-same (λ p. not (dayBit w x p) || not (dayBit w m p)) (λ p. not (bitAt map (base + (n + p))) || may (n + p)) w
@@ -256,6 +293,29 @@ word-clean map may base n w x m l s b =
     twice : (c : Bool) → not (not c) ≡ c
     twice true = refl
     twice false = refl
+
+-- two tests as one
+both-every : (f g : ℕ → Bool) (n : ℕ) → (every n f && every n g) ≡ every n (λ k. f k && g k)
+both-every f g n =
+    same-test _ _
+    (λ e. let (a, b) = both (every n f) (every n g) e in every-all (λ k. f k && g k) n (λ k l. and-both (every-at f n k a l) (every-at g n k b l)))
+    (λ e. and-both (every-all f n (λ k l. and-fst (f k) (g k) (every-at (λ k. f k && g k) n k e l))) (every-all g n (λ k l. and-snd (f k) (g k) (every-at (λ k. f k && g k) n k e l))))
+
+-- question 5 of a word of each map
+module _ (first second : List ℕ) (may : ℕ → Bool) (base n w x y m : ℕ) (l : x < 2 ^ w) (k : y < 2 ^ w) (s : Shows first (base + n) w x) (t : Shows second (base + n) w y) where
+  second-within : eqb (bitOr x y) x ≡ every w (λ p. not (bitAt second (base + (n + p))) || bitAt first (base + (n + p)))
+  second-within =
+      within w x y l k ∙
+      every-same (λ p. not (dayBit w y p) || dayBit w x p) (λ p. not (bitAt second (base + (n + p))) || bitAt first (base + (n + p))) w
+      (λ p h.
+      let e : base + n + p ≡ base + (n + p) = omega arith in
+      rw (s p h ∙ ap (bitAt first) e, t p h ∙ ap (bitAt second) e))
+
+  pub words-clean : ((p : ℕ) → p < w → dayBit w m p ≡ not (may (n + p))) → (eqb (bitAnd x m) 0 && eqb (bitOr x y) x) ≡ every w (λ p. bitsClean (may (n + p)) (bitAt first (base + (n + p))) (bitAt second (base + (n + p))))
+  unfolding bitsClean
+  words-clean b =
+      ap₂ _&&_ (word-clean first may base n w x m l s b) second-within ∙
+      both-every (λ p. not (bitAt first (base + (n + p))) || may (n + p)) (λ p. not (bitAt second (base + (n + p))) || bitAt first (base + (n + p))) w
 
 -- every bit of a mask of ones
 pub all-days : (every 56 (dayBit 56 0xFFFFFFFFFFFFFF) ≡ true) × (every 32 (dayBit 32 0xFFFFFFFF) ≡ true)

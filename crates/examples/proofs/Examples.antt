@@ -7,7 +7,7 @@ use Rattle.questions.specs.Search.{every, some, oneOf, latest, firstFrom}
 use Rattle.days.specs.Gregorian.{leapYear, lengthIn, monthLength, lengthOf, firstDay}
 use Rattle.days.specs.Dates.{validDate, dayOf, dayCall, monthFrom, monthOf, firstOf, yearOf, yearStart, dayInYear}
 use Rattle.calendar.specs.Bits.{bitAt, setBit}
-use Rattle.calendar.specs.Trading.{coverStart, coverEnd, inCover, slotOf, closedOn, tradingDay, closeDay, validCover, clean, mayBeClosed, mayClose, everyWeek}
+use Rattle.calendar.specs.Trading.{coverStart, coverEnd, inCover, slotOf, closedOn, tradingDay, closeDay, validCover, clean, mayBeClosed, mayClose, bitsClean, everyWeek}
 use Rattle.product.specs.Fields.{isCode, oneOfCodes, idOf, idRight, groupRight, marketRight, tickRight, currencyRight, fieldsRight, productRight}
 use Rattle.product.specs.Settlement.{italian}
 use Rattle.product.specs.Prices.{cashAmount}
@@ -20,5 +20,5 @@ use Rattle.prices.specs.Prices.{tickCall, cashAsks, cashCall}
 use Rattle.examples.specs.Examples.{rows, allHold, only21, also20, monthsOn, futuresOn, axaFuture, futureTable}
 
 pub examples-hold : allHold rows ≡ true
-unfolding rows only21 also20 monthsOn futuresOn axaFuture futureTable some validCover clean mayBeClosed mayClose everyWeek idOf idRight groupRight marketRight tickRight currencyRight fieldsRight productRight complete places15 isListed numberOf renumbered numbersRight listsFresh countFrom monthsBefore sound openedTable tickCall cashAsks cashCall dayCall answer firstNo validDate dayOf leapYear lengthIn monthLength lengthOf firstDay every oneOf latest firstFrom monthFrom monthOf firstOf yearOf yearStart dayInYear bitAt setBit coverStart coverEnd inCover slotOf closedOn tradingDay closeDay isCode oneOfCodes italian lastDay front taken freshKeys thirdFriday anchorOf lastTradingDay workedOut inSet placesOf monthly
+unfolding rows only21 also20 monthsOn futuresOn axaFuture futureTable some validCover clean mayBeClosed mayClose bitsClean everyWeek idOf idRight groupRight marketRight tickRight currencyRight fieldsRight productRight complete places15 isListed numberOf renumbered numbersRight listsFresh countFrom monthsBefore sound openedTable tickCall cashAsks cashCall dayCall answer firstNo validDate dayOf leapYear lengthIn monthLength lengthOf firstDay every oneOf latest firstFrom monthFrom monthOf firstOf yearOf yearStart dayInYear bitAt setBit coverStart coverEnd inCover slotOf closedOn tradingDay closeDay isCode oneOfCodes italian lastDay front taken freshKeys thirdFriday anchorOf lastTradingDay workedOut inSet placesOf monthly
 examples-hold = refl

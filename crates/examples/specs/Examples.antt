@@ -58,7 +58,7 @@ IT11 = groupCode IT 11
 
 -- 2008 to 2010 with no closed day
 abbrev pub open2008 : Calendar
-open2008 = record { cover = record { «first_year» = 2008; years = 3 }; closed = replicate 736 0 }
+open2008 = record { cover = record { «first_year» = 2008; years = 3 }; closed = replicate 736 0; exchange = replicate 736 0 }
 
 -- 'With only 21 March 2008 closed'
 unfoldable pub only21 : Calendar

@@ -5,13 +5,13 @@ use crate::text::put_short;
 use crate::text::start_line;
 use calendar::Calendar;
 
-// The number of closed days of the cover and the sum of their day numbers.
-struct Closed {
+// The number of days of the cover that a map has and the sum of their day numbers.
+struct Days {
     count: u64,
     sum: u64,
 }
 
-fn closed_days(cal: Calendar) -> Closed {
+fn closed_days(cal: Calendar) -> Days {
     let end = calendar::cover_end(cal.cover);
     let mut day = calendar::cover_start(cal.cover);
     let mut count: u64 = 0;
@@ -23,17 +23,44 @@ fn closed_days(cal: Calendar) -> Closed {
         }
         day += 1;
     }
-    Closed { count, sum }
+    Days { count, sum }
+}
+
+// The same of the second map.
+fn second_days(cal: Calendar) -> Days {
+    let end = calendar::cover_end(cal.cover);
+    let mut day = calendar::cover_start(cal.cover);
+    let mut count: u64 = 0;
+    let mut sum: u64 = 0;
+    while day < end {
+        if calendar::is_in_second_map(cal, day) {
+            count += 1;
+            sum += day as u64;
+        }
+        day += 1;
+    }
+    Days { count, sum }
+}
+
+// Those of the second map are printed where it has any.
+fn put_second(days: Days) {
+    if days.count == 0 {
+        return;
+    }
+    put(days.count);
+    put(days.sum);
 }
 
 pub(crate) fn print(file: &[u8]) {
     let cal = years::calendar_of(file);
     let cover = cal.cover;
     let closed = closed_days(cal);
+    let second = second_days(cal);
     start_line(b'C');
     put_short(cover.first_year);
     put_short(cover.years);
     put(closed.count);
     put(closed.sum);
+    put_second(second);
     end_line();
 }

@@ -6,3 +6,4 @@ pub mod Places
 pub mod Lawful
 pub mod Monthly
 pub mod Text2005
+pub mod Second

@@ -32,7 +32,7 @@ zeroProduct =
 
 -- a calendar of zeros
 unfoldable pub zeroCalendar : Calendar
-zeroCalendar = record { cover = record { «first_year» = 0; years = 0 }; closed = replicate 736 0 }
+zeroCalendar = record { cover = record { «first_year» = 0; years = 0 }; closed = replicate 736 0; exchange = replicate 736 0 }
 
 -- 'Open: 1–9, 11, 16'
 unfoldable pub openAsks : List ℕ → List ℕ → ℕ → List Ask

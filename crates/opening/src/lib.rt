@@ -41,7 +41,12 @@ pub fn zero_calendar() -> Calendar
         years: 0,
     };
     let closed = [0u8; 736];
-    Calendar { cover, closed }
+    let exchange = [0u8; 736];
+    Calendar {
+        cover,
+        closed,
+        exchange,
+    }
 }
 
 // The number of a refusal, and zeros.

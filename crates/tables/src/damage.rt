@@ -42,6 +42,8 @@ const NUMBER: u8 = 14;
 
 const GIVEN: u8 = 15;
 
+const EXCHANGE: u8 = 16;
+
 // Four bytes with another one at place i.
 fn with_byte(bytes: [u8; 4], i: u16, byte: u8) -> [u8; 4] {
     if 4 <= i {
@@ -135,17 +137,15 @@ fn damage_product(p: Product, field: u8, i: u16, value: u16) -> Product {
 }
 
 fn with_first_year(cal: Calendar, first_year: u16) -> Calendar {
-    let mut cover = cal.cover;
-    let closed = cal.closed;
-    cover.first_year = first_year;
-    Calendar { cover, closed }
+    let mut changed = cal;
+    changed.cover.first_year = first_year;
+    changed
 }
 
 fn with_years(cal: Calendar, years: u16) -> Calendar {
-    let mut cover = cal.cover;
-    let closed = cal.closed;
-    cover.years = years;
-    Calendar { cover, closed }
+    let mut changed = cal;
+    changed.cover.years = years;
+    changed
 }
 
 // Byte i of the map of closed days with the bits of a value turned over.
@@ -153,11 +153,21 @@ fn with_closed(cal: Calendar, i: u16, byte: u8) -> Calendar {
     if 736 <= i {
         return cal;
     }
-    let cover = cal.cover;
-    let mut closed = cal.closed;
-    let old = closed[i as usize];
-    closed[i as usize] = old ^ byte;
-    Calendar { cover, closed }
+    let mut changed = cal;
+    let old = changed.closed[i as usize];
+    changed.closed[i as usize] = old ^ byte;
+    changed
+}
+
+// The same of the second map.
+fn with_exchange(cal: Calendar, i: u16, byte: u8) -> Calendar {
+    if 736 <= i {
+        return cal;
+    }
+    let mut changed = cal;
+    let old = changed.exchange[i as usize];
+    changed.exchange[i as usize] = old ^ byte;
+    changed
 }
 
 // The calendar with one field changed.
@@ -166,6 +176,7 @@ fn damage_calendar(cal: Calendar, field: u8, i: u16, value: u16) -> Calendar {
         FIRST_YEAR => with_first_year(cal, value),
         YEARS => with_years(cal, value),
         CLOSED => with_closed(cal, i, (value % 256) as u8),
+        EXCHANGE => with_exchange(cal, i, (value % 256) as u8),
         _ => cal,
     }
 }

@@ -1,4 +1,4 @@
-// The line of a table: date, given, first year, years, the sums of the calendar and of the product, and all 15 maturities.
+// The line of a table: date, given, first year, years, the sums of the closed days and of the product, all 15 maturities, and the sum of the second map where it is not 0.
 use crate::text::end_line;
 use crate::text::put;
 use crate::text::put_long;
@@ -15,14 +15,14 @@ fn wide(byte: u8) -> u32
     byte as u32
 }
 
-// The sum of (i + 1) times byte i of the map of closed days, mod 65,521. From the last byte on, a byte joins the running sum once for each place from its own to the first.
-fn calendar_sum(closed: [u8; 736]) -> u32 {
+// The sum of (i + 1) times byte i of a map, mod 65,521. From the last byte on, a byte joins the running sum once for each place from its own to the first.
+fn map_sum(map: &[u8; 736]) -> u32 {
     let mut bytes: u32 = 0;
     let mut sum: u32 = 0;
     let mut i: usize = 736;
     while 0 < i {
         i -= 1;
-        bytes += wide(closed[i]);
+        bytes += wide(map[i]);
         sum += bytes;
     }
     sum % 65521
@@ -78,19 +78,26 @@ fn put_maturities(maturities: [Maturity; 15]) {
     }
 }
 
+fn put_second(sum: u32) {
+    if sum == 0 {
+        return;
+    }
+    put_long(sum);
+}
+
 pub(crate) fn put_table(t: Table) {
     let cal = t.calendar;
     let cover = cal.cover;
-    let closed = cal.closed;
     let p = t.product;
     let maturities = t.maturities;
     put(t.date);
     put(t.given);
     put(cover.first_year);
     put(cover.years);
-    put_long(calendar_sum(closed));
+    put_long(map_sum(&cal.closed));
     put_long(product_sum(p));
     put_maturities(maturities);
+    put_second(map_sum(&cal.exchange));
 }
 
 // Refusal, entered, left and the table.

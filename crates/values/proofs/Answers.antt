@@ -5,7 +5,9 @@ use mathlib.Core.Bool.{true, false}
 use Prim.Native.Nat.{ℕ}
 use Rattle.questions.specs.Questions.{firstNo}
 use Rattle.questions.proofs.Asks.{accepted, refused}
-use Rattle.calendar.specs.Trading.{inCover, tradingDay, nthTradingDay}
+use Rattle.calendar.specs.Bits.{bitAt}
+use Rattle.calendar.specs.Trading.{inCover, tradingDay, nthTradingDay, nthExchangeDay}
+use Rattle.calendar.proofs.Next.{old-days}
 use Rattle.product.specs.Settlement.{settlementDays}
 use Rattle.expiry.specs.declared.LastDay.{LastDay}
 use Rattle.expiry.specs.LastDays.{workedOut}
@@ -30,7 +32,7 @@ module _ (t : Table) (month : ℕ) where
     last-day-yes b last q = rw q (accepted (lastDayAsks t month) _ _ (rw (a, b)))
 
 -- the code's due day is the definition's
-pub due-is : (t : Table) (day n d : ℕ) → n ≡ settlementDays (t .product .kind) (t .product .group) → d ≡ nthTradingDay (t .calendar) n day → d ≡ dueDay t day
+pub due-is : (t : Table) (day n d : ℕ) → n ≡ settlementDays (t .product .kind) (t .product .group) → d ≡ nthExchangeDay (t .calendar) n day → d ≡ dueDay t day
 unfolding dueDay
 due-is t day n d q r = rw (r, q)
 
@@ -58,3 +60,8 @@ module _ (t : Table) (day : ℕ) where
         pub due-yes : inCover (t .calendar .cover) due ≡ true → dueCall t day ≡ record { refusal = 0; value = due }
         unfolding dueCall dueAsks firstNo
         due-yes e = rw q (accepted (dueAsks t day) _ _ (rw (a, b, d, ← q, e)))
+
+-- 'An old file, whose second map is zero, yields its old due days' (02, note 4), of a table
+pub old-due : (t : Table) → ((s : ℕ) → bitAt (t .calendar .exchange) s ≡ false) → (day : ℕ) → dueDay t day ≡ nthTradingDay (t .calendar) (settlementDays (t .product .kind) (t .product .group)) day
+unfolding dueDay
+old-due t zero day = old-days (t .calendar) zero (settlementDays (t .product .kind) (t .product .group)) day

@@ -1,9 +1,9 @@
--- Calls that return days and leave the table as it is (01, Due day, tick, cash; Questions, in order).
+-- Calls that return days and leave the table as it is (01, Due day, tick, cash; Questions, in order; 02, note 4).
 -- Assumes nothing.
 use Prim.Native.Nat.{ℕ}
 use mathlib.Core.List.{List, [], _∷_}
 use Rattle.questions.specs.Questions.{Ask, ask, Answer, answer}
-use Rattle.calendar.specs.Trading.{inCover, tradingDay, nthTradingDay}
+use Rattle.calendar.specs.Trading.{inCover, tradingDay, nthExchangeDay}
 use Rattle.product.specs.Settlement.{settlementDays}
 use Rattle.expiry.specs.declared.LastDay.{LastDay}
 use Rattle.expiry.specs.LastDays.{workedOut}
@@ -37,11 +37,11 @@ lastDayAsks t month = ask 10 (sound t) ∷ ask 18 (isListed (listedIn t) month) 
 unfoldable pub lastDayCall : Table → ℕ → Answer LastDay
 lastDayCall t month = answer (lastDayAsks t month) (record { day = 0; back = 0 }) (workedOut (t .calendar) (t .product .group) month)
 
--- 'Due day: the n-th trading day after a given trading day'
+-- 'Due day: the n-th trading day after a given trading day'; 'Due days count trading days and these days' (02, note 4)
 unfoldable pub dueDay : Table → ℕ → ℕ
-dueDay t day = nthTradingDay (t .calendar) (settlementDays (t .product .kind) (t .product .group)) day
+dueDay t day = nthExchangeDay (t .calendar) (settlementDays (t .product .kind) (t .product .group)) day
 
--- 'Due: 10, 11, 14, 17'
+-- 'Due: 10, 11, 14, 17'; 'the starting day is still a trading day' (02, note 4); 'question 17 reads with exchange days' (02, note 4)
 unfoldable pub dueAsks : Table → ℕ → List Ask
 dueAsks t day =
     ask 10 (sound t)

@@ -56,7 +56,7 @@ pub fn last_trading_day(t: Table, month: u16) -> LastDayReply
     }
 }
 
-// The due day of a trading day.
+// The due day of a trading day: trading days and days of the second map count.
 pub fn due(t: Table, day: u16) -> DayReply
     ensures { λ r. ⌜ dayReply r ≡ dueCall t day ⌝ }
 {
@@ -73,7 +73,7 @@ pub fn due(t: Table, day: u16) -> DayReply
     let kind = p.kind;
     let group = p.group;
     let n = product::settlement_days(kind, group) as u16;
-    let due = calendar::nth_trading_day(t.calendar, day, n);
+    let due = calendar::nth_exchange_day(t.calendar, day, n);
     if !calendar::in_cover(t.calendar.cover, due) {
         return no_day(17);
     }

@@ -7,20 +7,22 @@ use mathlib.Core.List.{List}
 use Prim.Native.Nat.{ℕ, _+_, _-_, _*_, _/_, _%_, _^_, _≤_, _<_}
 use native.Mathlib.Nat.{zero-div}
 use native.Mathlib.Omega.{arith}
-use lib.Dec.{leb}
-use lib.ListN.{getD}
+use lib.Dec.{eqb, leb}
+use lib.ListN.{length, getD}
 use borrow.Author.Tests.{leb-true, ltb-true, eqb-true, le-leb, lt-ltb, le-ltb, ne-eqb}
 use Rattle.questions.specs.Search.{every}
 use Rattle.questions.proofs.Bools.{both, and-snd, and-both, or-right, same-test, lt-or-ge}
 use Rattle.questions.proofs.Search.{every-at, every-all}
 use Rattle.calendar.specs.Bits.{bitAt}
-use Rattle.calendar.specs.Trading.{inCover, slotOf, closedOn, mayBeClosed, cleanSlot, clean}
+use Rattle.calendar.specs.Trading.{inCover, slotOf, closedOn, inSecondMap, mayBeClosed, bitsClean, cleanSlot, clean}
+use Rattle.calendar.proofs.Bits.{bit-past}
+use Rattle.calendar.proofs.Clean.{bits-zero}
 use Rattle.calendar.proofs.Covered.{Covered, covered}
 use Rattle.days.specs.Dates.{yearOf, dayInYear}
 use Rattle.days.proofs.Years.{in-year-below}
 use Rattle.blocks.specs.Blocks.{blockCount, blockOf, zeros, isCalendar, isProducts, yearOfBlock}
-use Rattle.years.specs.Calendars.{yearCount, yearInOrder, inOrder, orderRight, dayClosed, dayClean, blockClean, calendarsClean, upTo, mapByte, closedMaps, calendarBlocks, noCalendar, calendarOf}
-use Rattle.years.proofs.Filling.{listed-at, up-in, up-out}
+use Rattle.years.specs.Calendars.{yearCount, yearInOrder, inOrder, orderRight, mapBit, dayClean, blockClean, calendarsClean, upTo, mapByte, mapsFrom, calendarBlocks, noCalendar, calendarOf, oldFile}
+use Rattle.years.proofs.Filling.{listed-at, listed-length, up-in, up-out}
 
 module _ (f : List ℕ) (years : ℕ) (e : years ≡ yearCount f) where
   pub calendar-in : (leb 1 years && leb years 16) ≡ true → calendarOf f ≡ calendarBlocks f
@@ -69,54 +71,70 @@ module _ (f : List ℕ) (o : Ordered f) where
       let e : getD (blockOf f k) 0 0 ≡ 2 = eqb-true _ _ (product-block k h l) in
       ne-eqb (getD (blockOf f k) 0 0) 1 (λ z. omega arith)
 
-  abbrev maps : List ℕ
-  maps = closedMaps f (yearCount f)
+  -- the maps that begin at a byte of the calendar blocks
+  module _ (at : ℕ) where
+    abbrev maps : List ℕ
+    maps = mapsFrom at f (yearCount f)
 
-  map-in : (k j : ℕ) → k < yearCount f → j < 46 → getD maps (46 * k + j) 0 ≡ getD (blockOf f k) (16 + j) 0
-  unfolding closedMaps mapByte
-  map-in k j h l =
-      let a : (46 * k + j) / 46 ≡ k = omega arith in
-      let b : (46 * k + j) % 46 ≡ j = omega arith in
-      listed-at 736 (upTo (46 * yearCount f) (mapByte f)) (46 * k + j) (omega (arith, o .most))
-      ∙ up-in (mapByte f) (46 * yearCount f) (46 * k + j) (omega arith)
-      ∙ simp (a, b)
+    pub maps-long : length maps ≡ 736
+    unfolding mapsFrom
+    maps-long = listed-length 0 736 (upTo (46 * yearCount f) (mapByte at f))
 
-  map-out : (i : ℕ) → 46 * yearCount f ≤ i → i < 736 → getD maps i 0 ≡ 0
-  unfolding closedMaps
-  map-out i h l = listed-at 736 (upTo (46 * yearCount f) (mapByte f)) i l ∙ up-out (mapByte f) (46 * yearCount f) i h
+    map-in : (k j : ℕ) → k < yearCount f → j < 46 → getD maps (46 * k + j) 0 ≡ getD (blockOf f k) (at + j) 0
+    unfolding mapsFrom mapByte
+    map-in k j h l =
+        let a : (46 * k + j) / 46 ≡ k = omega arith in
+        let b : (46 * k + j) % 46 ≡ j = omega arith in
+        listed-at 736 (upTo (46 * yearCount f) (mapByte at f)) (46 * k + j) (omega (arith, o .most))
+        ∙ up-in (mapByte at f) (46 * yearCount f) (46 * k + j) (omega arith)
+        ∙ simp (a, b)
 
-  -- the bit of day n of year k of the file
-  bit-in : (k n : ℕ) → k < yearCount f → n < 368 → bitAt maps (368 * k + n) ≡ dayClosed (blockOf f k) n
-  unfolding bitAt dayClosed
-  bit-in k n h l =
-      let a : (368 * k + n) / 8 ≡ 46 * k + n / 8 = omega arith in
-      let b : (368 * k + n) % 8 ≡ n % 8 = omega arith in
-      simp (a, b, map-in k (n / 8) h (omega arith))
+    map-out : (i : ℕ) → 46 * yearCount f ≤ i → i < 736 → getD maps i 0 ≡ 0
+    unfolding mapsFrom
+    map-out i h l = listed-at 736 (upTo (46 * yearCount f) (mapByte at f)) i l ∙ up-out (mapByte at f) (46 * yearCount f) i h
 
-  -- a day of the cover is closed where its bit in its year's block is 1
+    -- the bit of day n of year k of the file
+    bit-in : (k n : ℕ) → k < yearCount f → n < 368 → bitAt maps (368 * k + n) ≡ mapBit at (blockOf f k) n
+    unfolding bitAt mapBit
+    bit-in k n h l =
+        let a : (368 * k + n) / 8 ≡ 46 * k + n / 8 = omega arith in
+        let b : (368 * k + n) % 8 ≡ n % 8 = omega arith in
+        simp (a, b, map-in k (n / 8) h (omega arith))
+
+    bit-out : (k n : ℕ) → yearCount f ≤ k → k < 16 → n < 368 → bitAt maps (368 * k + n) ≡ false
+    unfolding bitAt
+    bit-out k n h g l =
+        simp (map-out ((368 * k + n) / 8) (omega arith) (omega arith), zero-div (2 ^ (7 - (368 * k + n) % 8)))
+
+    -- the bit of a day of the cover stands in its year's block
+    bit-is : (d : ℕ) → inCover (calendarBlocks f .cover) d ≡ true
+        → bitAt maps (slotOf (calendarBlocks f .cover) d) ≡ mapBit at (blockOf f (yearOf d - yearOfBlock (blockOf f 0))) (dayInYear d)
+    unfolding slotOf
+    bit-is d e =
+        let v : Covered (calendarBlocks f .cover) d = covered (calendarBlocks f .cover) d e in
+        bit-in (yearOf d - yearOfBlock (blockOf f 0)) (dayInYear d) (omega (arith, v .year-low, v .year-high)) (omega (arith, in-year-below d (v .day)))
+
+  -- a day of the cover is closed where its bit in its year's block is 1, and in the second map where that map's bit is
   pub closed-is : (d : ℕ) → inCover (calendarBlocks f .cover) d ≡ true
-      → closedOn (calendarBlocks f) d ≡ dayClosed (blockOf f (yearOf d - yearOfBlock (blockOf f 0))) (dayInYear d)
-  unfolding closedOn slotOf
-  closed-is d e =
-      let v : Covered (calendarBlocks f .cover) d = covered (calendarBlocks f .cover) d e in
-      rw e
-      (bit-in (yearOf d - yearOfBlock (blockOf f 0)) (dayInYear d) (omega (arith, v .year-low, v .year-high)) (omega (arith, in-year-below d (v .day))))
+      → closedOn (calendarBlocks f) d ≡ mapBit 16 (blockOf f (yearOf d - yearOfBlock (blockOf f 0))) (dayInYear d)
+  unfolding closedOn
+  closed-is d e = rw e (bit-is 16 d e)
 
-  bit-out : (k n : ℕ) → yearCount f ≤ k → k < 16 → n < 368 → bitAt maps (368 * k + n) ≡ false
-  unfolding bitAt
-  bit-out k n h g l =
-      simp (map-out ((368 * k + n) / 8) (omega arith) (omega arith), zero-div (2 ^ (7 - (368 * k + n) % 8)))
+  pub second-is : (d : ℕ) → inCover (calendarBlocks f .cover) d ≡ true
+      → inSecondMap (calendarBlocks f) d ≡ mapBit 62 (blockOf f (yearOf d - yearOfBlock (blockOf f 0))) (dayInYear d)
+  unfolding inSecondMap
+  second-is d e = rw e (bit-is 62 d e)
 
-  -- a slot of the calendar is clean where the day's bit of its block is
+  -- a slot of the calendar is clean where the day's bits of its block are
   slot-in : (k n : ℕ) → k < yearCount f → n < 368 → cleanSlot (calendarBlocks f) (368 * k + n) ≡ dayClean (blockOf f k) n
   unfolding mayBeClosed
   slot-in k n h l =
       let a : (368 * k + n) / 368 ≡ k = omega arith in
       let b : (368 * k + n) % 368 ≡ n = omega arith in
-      simp (bit-in k n h l, a, b, lt-ltb k (yearCount f) h, block-year k h)
+      simp (bit-in 16 k n h l, bit-in 62 k n h l, a, b, lt-ltb k (yearCount f) h, block-year k h)
 
   slot-out : (k n : ℕ) → yearCount f ≤ k → k < 16 → n < 368 → cleanSlot (calendarBlocks f) (368 * k + n) ≡ true
-  slot-out k n h g l = simp (bit-out k n h g l)
+  slot-out k n h g l = rw (bit-out 16 k n h g l, bit-out 62 k n h g l) (bits-zero _)
 
   block-clean : (k : ℕ) → k < yearCount f → calendarsClean f ≡ true → blockClean (blockOf f k) ≡ true
   unfolding calendarsClean
@@ -139,12 +157,12 @@ module _ (f : List ℕ) (o : Ordered f) where
           side (inr l) = slot-out (s / 368) (s % 368) l (omega arith) (omega arith)
 
   abbrev tails : Bool
-  tails = every (yearCount f) (λ k. zeros (blockOf f k) 62 448)
+  tails = every (yearCount f) (λ k. zeros (blockOf f k) 108 402)
 
   blocks-tails : calendarsClean f ≡ true → tails ≡ true
   unfolding blockClean
   blocks-tails e =
-      every-all (λ k. zeros (blockOf f k) 62 448) (yearCount f) (λ k h. both (every 368 (dayClean (blockOf f k))) _ (block-clean k h e) .1)
+      every-all (λ k. zeros (blockOf f k) 108 402) (yearCount f) (λ k h. both (every 368 (dayClean (blockOf f k))) _ (block-clean k h e) .1)
 
   clean-block : clean (calendarBlocks f) ≡ true → tails ≡ true → (k : ℕ) → k < yearCount f → blockClean (blockOf f k) ≡ true
   unfolding clean blockClean
@@ -152,7 +170,7 @@ module _ (f : List ℕ) (o : Ordered f) where
       and-both
       (every-all (dayClean (blockOf f k)) 368
       (λ n l. sym (slot-in k n h l) ∙ every-at (cleanSlot (calendarBlocks f)) 5888 (368 * k + n) e (omega (arith, o .most))))
-      (every-at (λ k. zeros (blockOf f k) 62 448) (yearCount f) k t h)
+      (every-at (λ k. zeros (blockOf f k) 108 402) (yearCount f) k t h)
 
   clean-blocks : clean (calendarBlocks f) ≡ true → tails ≡ true → calendarsClean f ≡ true
   unfolding calendarsClean
@@ -167,3 +185,24 @@ module _ (f : List ℕ) (o : Ordered f) where
       same-test (clean (calendarBlocks f) && tails) (calendarsClean f)
       (λ e. let (a, b) = both (clean (calendarBlocks f)) tails e in clean-blocks a b)
       (λ e. and-both (blocks-clean e) (blocks-tails e))
+
+  -- an old file: the second map of its calendar has no bit
+  old-bit : oldFile f ≡ true → (k n : ℕ) → k < yearCount f → n < 368 → mapBit 62 (blockOf f k) n ≡ false
+  unfolding oldFile mapBit zeros
+  old-bit e k n h l =
+      let z : getD (blockOf f k) (62 + n / 8) 0 ≡ 0 = eqb-true _ _ (every-at (λ i. eqb (getD (blockOf f k) (62 + i) 0) 0) 46 (n / 8) (every-at (λ k. zeros (blockOf f k) 62 46) (yearCount f) k e h) (omega arith)) in
+      simp (z, zero-div (2 ^ (7 - n % 8)))
+
+  old-map : oldFile f ≡ true → (s : ℕ) → bitAt (maps 62) s ≡ false
+  old-map e s = side (lt-or-ge (s / 368) (yearCount f)) (lt-or-ge s 5888)
+    where
+      q : s ≡ 368 * (s / 368) + s % 368
+      q = omega arith
+
+      side : (s / 368 < yearCount f) ⊎ (yearCount f ≤ s / 368) → (s < 5888) ⊎ (5888 ≤ s) → bitAt (maps 62) s ≡ false
+      side (inl l) r = ap (bitAt (maps 62)) q ∙ bit-in 62 (s / 368) (s % 368) l (omega arith) ∙ old-bit e (s / 368) (s % 368) l (omega arith)
+      side (inr l) (inl r) = ap (bitAt (maps 62)) q ∙ bit-out 62 (s / 368) (s % 368) l (omega arith) (omega arith)
+      side (inr l) (inr r) = bit-past (maps 62) s (omega (arith, maps-long 62))
+
+  pub old-bits : oldFile f ≡ true → (s : ℕ) → bitAt (calendarOf f .exchange) s ≡ false
+  old-bits e s = rw calendar-is (old-map e s)

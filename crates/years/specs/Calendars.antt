@@ -1,4 +1,4 @@
--- The calendar blocks of a master file, and the calendar that they make (01, Master file; questions 4 to 6).
+-- The calendar blocks of a master file, and the calendar that they make (01, Master file; questions 4 to 6; 02, note 4).
 -- Assumes nothing.
 use Prim.Native.Nat.{ℕ, zero, suc, _+_, _*_, _/_, _%_}
 use mathlib.Core.Bool.{Bool, not, _&&_, _||_, cond}
@@ -7,7 +7,7 @@ use lib.ListN.{getD}
 use lib.Dec.{eqb, leb, ltb}
 use Rattle.questions.specs.Search.{every}
 use Rattle.calendar.specs.Bits.{byteBit}
-use Rattle.calendar.specs.Trading.{mayClose, everyWeek}
+use Rattle.calendar.specs.Trading.{mayClose, bitsClean, everyWeek}
 use Rattle.calendar.specs.declared.Calendar.{Calendar}
 use Rattle.blocks.specs.Blocks.{blockCount, countOf, blockOf, zeros, isCalendar, isProducts, yearOfBlock}
 
@@ -28,17 +28,17 @@ unfoldable pub orderRight : List ℕ → Bool
 orderRight f =
     leb 1 (yearCount f) && leb (yearCount f) 16 && ltb (yearCount f) (blockCount f) && every (blockCount f) (inOrder f)
 
--- 'day n of the year (from 0) is the bit of value 2^(7 − n mod 8) in byte 16 + n div 8; 1 means closed'
-unfoldable pub dayClosed : List ℕ → ℕ → Bool
-dayClosed b n = byteBit (getD b (16 + n / 8) 0) (n % 8)
+-- of the map that begins at byte `at`: 'day n of the year (from 0) is the bit of value 2^(7 − n mod 8) in byte 16 + n div 8; 1 means closed', and 'a second map in bytes 62–107, same bit order' (02, note 4)
+unfoldable pub mapBit : ℕ → List ℕ → ℕ → Bool
+mapBit at b n = byteBit (getD b (at + n / 8) 0) (n % 8)
 
--- 'Weekend bits, bits after the year's end .. are zero', of the bit n
+-- 'Weekend bits, bits after the year's end .. are zero', of the bit n; that of the second map 'may be set only where the first map has its bit'
 abbrev pub dayClean : List ℕ → ℕ → Bool
-dayClean b n = not (dayClosed b n) || mayClose (yearOfBlock b) n
+dayClean b n = bitsClean (mayClose (yearOfBlock b) n) (mapBit 16 b n) (mapBit 62 b n)
 
--- 'Weekend bits, bits after the year's end and bytes 62–509 are zero'; the bits are those of bytes 16 to 61
+-- 'Weekend bits, bits after the year's end and bytes .. –509 are zero', since note 4 after both maps; the bits are those of bytes 16 to 61 and of bytes 62 to 107
 unfoldable pub blockClean : List ℕ → Bool
-blockClean b = every 368 (dayClean b) && zeros b 62 448
+blockClean b = every 368 (dayClean b) && zeros b 108 402
 
 -- 5 'Is every calendar block clean as stated?'
 unfoldable pub calendarsClean : List ℕ → Bool
@@ -53,25 +53,31 @@ listed i (suc n) value = value i ∷ listed (suc i) n value
 unfoldable pub upTo : ℕ → (ℕ → ℕ) → ℕ → ℕ
 upTo n value i = cond (ltb i n) (value i) 0
 
--- byte i of the maps of all years: each calendar block has 46 bytes from byte 16 on
-unfoldable pub mapByte : List ℕ → ℕ → ℕ
-mapByte f i = getD (blockOf f (i / 46)) (16 + i % 46) 0
+-- byte i of the maps of all years: each calendar block has 46 bytes from byte `at` on
+unfoldable pub mapByte : ℕ → List ℕ → ℕ → ℕ
+mapByte at f i = getD (blockOf f (i / 46)) (at + i % 46) 0
 
 -- the maps of the first years of a file, then zeros up to 16 years
-unfoldable pub closedMaps : List ℕ → ℕ → List ℕ
-closedMaps f years = listed 0 736 (upTo (46 * years) (mapByte f))
+unfoldable pub mapsFrom : ℕ → List ℕ → ℕ → List ℕ
+mapsFrom at f years = listed 0 736 (upTo (46 * years) (mapByte at f))
 
--- the calendar of 1 to 16 calendar blocks
+-- the calendar of 1 to 16 calendar blocks: the first map from byte 16 on, the second from byte 62 on
 abbrev pub calendarBlocks : List ℕ → Calendar
 calendarBlocks f =
     record {
       cover = record { «first_year» = yearOfBlock (blockOf f 0); years = yearCount f };
-      closed = closedMaps f (yearCount f);
+      closed = mapsFrom 16 f (yearCount f);
+      exchange = mapsFrom 62 f (yearCount f);
     }
 
--- no year, and nothing closed
+-- no year, and nothing in the maps
 abbrev pub noCalendar : Calendar
-noCalendar = record { cover = record { «first_year» = 0; years = 0 }; closed = listed 0 736 (λ i. 0) }
+noCalendar =
+    record {
+      cover = record { «first_year» = 0; years = 0 };
+      closed = listed 0 736 (λ i. 0);
+      exchange = listed 0 736 (λ i. 0);
+    }
 
 -- 'the file's calendar'; a file that has not 1 to 16 calendar blocks has no year
 unfoldable pub calendarOf : List ℕ → Calendar
@@ -80,3 +86,7 @@ calendarOf f = cond (leb 1 (yearCount f) && leb (yearCount f) 16) (calendarBlock
 -- 6 'Does every run of seven days in the cover hold a trading day?'
 unfoldable pub weeksRight : List ℕ → Bool
 weeksRight f = everyWeek (calendarOf f)
+
+-- 'An old file, whose second map is zero' (02, note 4): bytes 62 to 107 of its calendar blocks are zero
+unfoldable pub oldFile : List ℕ → Bool
+oldFile f = every (yearCount f) (λ k. zeros (blockOf f k) 62 46)

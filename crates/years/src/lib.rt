@@ -5,7 +5,7 @@ ghost use mathlib.Core.Path.{_≡_};
 ghost use Prim.Native.Nat.{_≤_, _<_};
 ghost use Rattle.questions.specs.Search.{every};
 ghost use Rattle.blocks.specs.Blocks.{blockCount, blockOf, numberAt, zeros};
-ghost use Rattle.years.specs.Calendars.{yearCount, inOrder, orderRight, closedMaps, calendarBlocks, calendarOf, weeksRight};
+ghost use Rattle.years.specs.Calendars.{yearCount, inOrder, orderRight, mapsFrom, calendarBlocks, calendarOf, weeksRight};
 
 // How many calendar blocks the file has.
 pub fn year_count(file: &[u8]) -> usize
@@ -70,16 +70,16 @@ pub fn order_right(file: &[u8]) -> bool
     all_in_order(file, years)
 }
 
-// The maps of closed days, 46 bytes for each year, then zeros.
-fn closed_maps(file: &[u8], years: usize) -> [u8; 736]
-    requires { ⌜ (years ≤ 16) × (years ≤ blockCount (now file)) ⌝ }
-    ensures { λ r. ⌜ r ≡ closedMaps (now (file .entry)) years ⌝ }
+// The maps that begin at a byte of the calendar blocks, 46 bytes for each year, then zeros.
+fn maps_from(file: &[u8], years: usize, at: usize) -> [u8; 736]
+    requires { ⌜ (years ≤ 16) × (years ≤ blockCount (now file)) × (at ≤ 466) ⌝ }
+    ensures { λ r. ⌜ r ≡ mapsFrom at (now (file .entry)) years ⌝ }
 {
     let mut maps = [0u8; 736];
     let n = 46 * years;
     let mut i: usize = 0;
     while i < n {
-        maps[i] = file[512 * (i / 46) + (16 + i % 46)];
+        maps[i] = file[512 * (i / 46) + (at + i % 46)];
         i += 1;
     }
     maps
@@ -91,13 +91,15 @@ fn calendar_blocks(file: &[u8], years: usize) -> Calendar
     ensures { λ r. ⌜ r ≡ calendarBlocks (now (file .entry)) ⌝ }
 {
     let first = blocks::number_at(blocks::block_at(file, 0), 2);
-    let closed = closed_maps(file, years);
+    let closed = maps_from(file, years, 16);
+    let exchange = maps_from(file, years, 62);
     Calendar {
         cover: Cover {
             first_year: first as u16,
             years: years as u16,
         },
         closed,
+        exchange,
     }
 }
 
@@ -110,22 +112,24 @@ pub fn calendar_of(file: &[u8]) -> Calendar
         return calendar_blocks(file, years);
     }
     let closed = [0u8; 736];
+    let exchange = [0u8; 736];
     Calendar {
         cover: Cover {
             first_year: 0,
             years: 0,
         },
         closed,
+        exchange,
     }
 }
 
-// Whether bytes 62 to 509 of the first blocks are zero.
+// Whether bytes 108 to 509 of the first blocks are zero.
 pub fn tails_zero(file: &[u8], years: usize) -> bool
-    ensures { λ r. ⌜ r ≡ every years (λ k. zeros (blockOf (now (file .entry)) k) 62 448) ⌝ }
+    ensures { λ r. ⌜ r ≡ every years (λ k. zeros (blockOf (now (file .entry)) k) 108 402) ⌝ }
 {
     let mut k: usize = 0;
     while k < years {
-        if !blocks::are_zero(blocks::block_at(file, k), 62, 448) {
+        if !blocks::are_zero(blocks::block_at(file, k), 108, 402) {
             return false;
         }
         k += 1;

@@ -12,7 +12,9 @@ use Rattle.calendar_questions.proofs.rest_days.Reads as rest-days-reads
 use Rattle.calendar_questions.proofs.rest_length.Reads as rest-length-reads
 
 returns : tie.Need-returns
-returns c = first-before _ _ _ (c .if1 .taken)
+returns c =
+    let start = c .before in
+    first-before (calendarWith (start .args .cover) (start .args .closed .now)) _ _ (c .if1 .taken)
 
 sub-rest-days : tie.Need-sub-rest-days
 sub-rest-days c = search needs

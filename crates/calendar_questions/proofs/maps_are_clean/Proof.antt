@@ -2,7 +2,7 @@ use Rattle.calendar_questions.proofs.Maps.{slots-year, every-fails}
 use Rattle.questions.specs.Search.{every}
 use Rattle.questions.proofs.Search.{every-none, every-add}
 use Rattle.questions.proofs.Bools.{said-no, said-yes}
-use Rattle.calendar.specs.Trading.{calendarWith, cleanSlot, clean}
+use Rattle.calendar.specs.Trading.{calendarOfMaps, cleanSlot, clean}
 use mathlib.Core.Bool.{true}
 use mathlib.Core.Path.{_≡_, _∙_, sym, ap}
 use Prim.Native.Nat.{ℕ, _+_, _-_, _*_, _≤_}
@@ -13,10 +13,10 @@ use Rattle.calendar_questions.proofs.year_is_clean.Reads as year-is-cle
 use Rattle.calendar_questions.proofs.year_of_map.Reads as year-of-map-reads
 
 abbrev Inv-loop : tie.InvT-loop
-Inv-loop cover closed k₀ k = (k ≤ 16) × (every (368 * k) (cleanSlot (calendarWith cover closed)) ≡ true)
+Inv-loop cover closed exchange k₀ k = (k ≤ 16) × (every (368 * k) (cleanSlot (calendarOfMaps cover closed exchange)) ≡ true)
 
 abbrev μ-loop : tie.MeasureT-loop
-μ-loop cover closed k₀ k = 16 - k
+μ-loop cover closed exchange k₀ k = 16 - k
 
 loop-holds : tie.Need-loop-holds Inv-loop μ-loop
 loop-holds c = (omega arith, every-none _)
@@ -31,7 +31,8 @@ returns : tie.Need-returns Inv-loop μ-loop
 unfolding clean
 returns c =
     let at-loop = c .before .before .before .before in
-    let cal = calendarWith (at-loop .before .args .cover) (at-loop .before .args .closed .now) in
+    let start = at-loop .before in
+    let cal = calendarOfMaps (start .args .cover) (start .args .closed .now) (start .args .exchange .now) in
     let k = at-loop .loop .k in
     let e = slots-year cal k _ (c .before .before .year-of-map .ensures .1) in
     sym (every-fails (cleanSlot cal) (368 * k) 368 5888 (e ∙ said-no (c .before .year-is-clean .ensures) (c .if1 .taken)) (omega arith))
@@ -45,7 +46,8 @@ loop-less c = omega arith
 loop-again : tie.Need-loop-again Inv-loop μ-loop
 loop-again c =
     let at-loop = c .before .before .before .before in
-    let cal = calendarWith (at-loop .before .args .cover) (at-loop .before .args .closed .now) in
+    let start = at-loop .before in
+    let cal = calendarOfMaps (start .args .cover) (start .args .closed .now) (start .args .exchange .now) in
     let k = at-loop .loop .k in
     let e = slots-year cal k _ (c .before .before .year-of-map .ensures .1) in
     let q : 368 * (k + 1) ≡ 368 * k + 368 = omega arith in

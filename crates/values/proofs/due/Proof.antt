@@ -45,8 +45,8 @@ settlement-days-requires c κs = tt
 cast-n : tie.Need-cast-n
 cast-n c = search needs
 
-nth-trading-day-requires : tie.Need-nth-trading-day-requires
-nth-trading-day-requires c κs = tt
+nth-exchange-day-requires : tie.Need-nth-exchange-day-requires
+nth-exchange-day-requires c κs = tt
 
 in-cover-requires-2 : tie.Need-in-cover-requires-2
 in-cover-requires-2 c κs = tt
@@ -56,8 +56,8 @@ no-day-requires-4 c κs = tt
 
 returns-4 : tie.Need-returns-4
 returns-4 c =
-    let at-nth-trading-day = c .before .before .before in
-    let at-settlement-days = at-nth-trading-day .before in
+    let at-nth-exchange-day = c .before .before .before in
+    let at-settlement-days = at-nth-exchange-day .before in
     let at-if3 = at-settlement-days .before .before .before in
     let at-is-trading-day = at-if3 .before in
     let at-if2 = at-is-trading-day .before in
@@ -67,7 +67,7 @@ returns-4 c =
     let yes-is-sound = said-yes (at-is-sound .is-sound .ensures) (at-if1 .if1 .left) in
     let yes-in-cover = said-yes (at-in-cover .in-cover .ensures) (at-if2 .if2 .left) in
     let yes-is-trading-day = said-yes (at-is-trading-day .is-trading-day .ensures) (at-if3 .if3 .left) in
-    c .no-day4 .ensures ∙ sym (due-17 _ _ yes-is-sound yes-in-cover yes-is-trading-day _ (due-is _ _ _ _ (at-settlement-days .settlement-days .ensures) (at-nth-trading-day .nth-trading-day .ensures)) (said-no (c .before .before .in-cover2 .ensures) (c .before .if4 .taken)))
+    c .no-day4 .ensures ∙ sym (due-17 _ _ yes-is-sound yes-in-cover yes-is-trading-day _ (due-is _ _ _ _ (at-settlement-days .settlement-days .ensures) (at-nth-exchange-day .nth-exchange-day .ensures)) (said-no (c .before .before .in-cover2 .ensures) (c .before .if4 .taken)))
 
 returns-5 : tie.Need-returns-5
 returns-5 c =
@@ -81,7 +81,7 @@ returns-5 c =
     let yes-is-sound = said-yes (at-is-sound .is-sound .ensures) (at-if1 .if1 .left) in
     let yes-in-cover = said-yes (at-in-cover .in-cover .ensures) (at-if2 .if2 .left) in
     let yes-is-trading-day = said-yes (at-is-trading-day .is-trading-day .ensures) (at-if3 .if3 .left) in
-    sym (due-yes _ _ yes-is-sound yes-in-cover yes-is-trading-day _ (due-is _ _ _ _ (at-settlement-days .settlement-days .ensures) (c .before .before .nth-trading-day .ensures)) (said-yes (c .before .in-cover2 .ensures) (c .if4 .left)))
+    sym (due-yes _ _ yes-is-sound yes-in-cover yes-is-trading-day _ (due-is _ _ _ _ (at-settlement-days .settlement-days .ensures) (c .before .before .nth-exchange-day .ensures)) (said-yes (c .before .in-cover2 .ensures) (c .if4 .left)))
 
 pub due-spec : {M : Type 1} → statement M
 due-spec =
@@ -98,7 +98,7 @@ due-spec =
     returns-3
     settlement-days-requires
     cast-n
-    nth-trading-day-requires
+    nth-exchange-day-requires
     in-cover-requires-2
     no-day-requires-4
     returns-4

@@ -9,14 +9,17 @@ block-at-requires c κs = tt
 number-at-requires : tie.Need-number-at-requires
 number-at-requires c κs = tt
 
-closed-maps-requires : tie.Need-closed-maps-requires
-closed-maps-requires c κs = search needs
+maps-from-requires : tie.Need-maps-from-requires
+maps-from-requires c κs = search needs
 
-cast-t6 : tie.Need-cast-t6
-cast-t6 c = search needs
+maps-from-requires-2 : tie.Need-maps-from-requires-2
+maps-from-requires-2 c κs = search needs
 
 cast-t7 : tie.Need-cast-t7
 cast-t7 c = search needs
+
+cast-t8 : tie.Need-cast-t8
+cast-t8 c = search needs
 
 returns : tie.Need-returns
 returns c = cc
@@ -24,4 +27,11 @@ returns c = cc
 pub calendar-blocks-spec : {M : Type 1} → statement M
 calendar-blocks-spec =
     tie.close
-    (tie.spec block-at-requires number-at-requires closed-maps-requires cast-t6 cast-t7 returns)
+    (tie.spec
+    block-at-requires
+    number-at-requires
+    maps-from-requires
+    maps-from-requires-2
+    cast-t7
+    cast-t8
+    returns)

@@ -1,13 +1,13 @@
 use Prim.Native.Nat.{_+_, _*_, _≤_}
 use borrow.Author.Needs.{needs}
-use Rattle.tables.proofs.show.calendar_sum.Statement.{statement}
-use Rattle.tables.proofs.show.calendar_sum.Tie as tie
+use Rattle.tables.proofs.show.map_sum.Statement.{statement}
+use Rattle.tables.proofs.show.map_sum.Tie as tie
 
 abbrev Inv-loop : tie.InvT-loop
-Inv-loop closed bytes₀ sum₀ i₀ bytes sum i = (i ≤ 736) × (bytes + 255 * i ≤ 187680) × (sum + 187680 * i ≤ 138132480)
+Inv-loop map bytes₀ sum₀ i₀ bytes sum i = (i ≤ 736) × (bytes + 255 * i ≤ 187680) × (sum + 187680 * i ≤ 138132480)
 
 abbrev μ-loop : tie.MeasureT-loop
-μ-loop closed bytes₀ sum₀ i₀ bytes sum i = i
+μ-loop map bytes₀ sum₀ i₀ bytes sum i = i
 
 loop-holds : tie.Need-loop-holds Inv-loop μ-loop
 loop-holds c = search needs
@@ -15,8 +15,8 @@ loop-holds c = search needs
 sub-i : tie.Need-sub-i Inv-loop μ-loop
 sub-i c = search needs
 
-array-read-wide : tie.Need-array-read-wide Inv-loop μ-loop
-array-read-wide c = search needs
+element-copy-out-wide : tie.Need-element-copy-out-wide Inv-loop μ-loop
+element-copy-out-wide c = search needs
 
 wide-requires : tie.Need-wide-requires Inv-loop μ-loop
 wide-requires c κs = tt
@@ -36,15 +36,15 @@ loop-again c = search needs
 returns : tie.Need-returns Inv-loop μ-loop
 returns c = search needs
 
-pub calendar-sum-spec : {M : Type 1} → statement M
-calendar-sum-spec =
+pub map-sum-spec : {M : Type 1} → statement M
+map-sum-spec =
     tie.close
     (tie.spec
     Inv-loop
     μ-loop
     loop-holds
     sub-i
-    array-read-wide
+    element-copy-out-wide
     wide-requires
     add-bytes
     add-sum

@@ -2,23 +2,23 @@ use mathlib.Core.Path.{_≡_, sym, ap, _∙_}
 use Prim.Native.Nat.{ℕ, _-_, _*_, _≤_}
 use native.Mathlib.Omega.{arith}
 use denote.Ref.{now}
-use Rattle.years.specs.Calendars.{listed, upTo, mapByte, closedMaps}
+use Rattle.years.specs.Calendars.{listed, upTo, mapByte, mapsFrom}
 use Rattle.years.proofs.Filling.{Filled, filled-none, filled-more, filled-all}
 use Rattle.blocks.proofs.Files.{block-byte}
-use Rattle.years.proofs.closed_maps.Statement.{statement}
-use Rattle.years.proofs.closed_maps.Tie as tie
+use Rattle.years.proofs.maps_from.Statement.{statement}
+use Rattle.years.proofs.maps_from.Tie as tie
 
 abbrev Inv-loop : tie.InvT-loop
-Inv-loop file years maps₀ n i₀ maps i = (i ≤ n) × Filled (mapByte file) 736 i maps
+Inv-loop file years at maps₀ n i₀ maps i = (i ≤ n) × Filled (mapByte at file) 736 i maps
 
 abbrev μ-loop : tie.MeasureT-loop
-μ-loop file years maps₀ n i₀ maps i = n - i
+μ-loop file years at maps₀ n i₀ maps i = n - i
 
 mul-n : tie.Need-mul-n Inv-loop μ-loop
 mul-n c = omega arith
 
 loop-holds : tie.Need-loop-holds Inv-loop μ-loop
-loop-holds c = (omega arith, filled-none (mapByte _) 736)
+loop-holds c = (omega arith, filled-none (mapByte _ _) 736)
 
 mul-maps : tie.Need-mul-maps Inv-loop μ-loop
 mul-maps c = omega arith
@@ -46,13 +46,13 @@ unfolding mapByte
 loop-again c = (omega arith, filled-more _ 736 _ _ _ (omega arith) (sym (block-byte _ _ _ (omega arith) (omega arith))) (c .before .before .loop .inv .1))
 
 returns : tie.Need-returns Inv-loop μ-loop
-unfolding closedMaps
+unfolding mapsFrom
 returns c =
     let e : c .before .loop .i ≡ 46 * c .before .before .args .years = omega arith in
-    filled-all _ 736 _ _ (c .before .loop .inv .1) ∙ ap (λ (n : ℕ). listed 0 736 (upTo n (mapByte (c .before .before .args .file .now)))) e
+    filled-all _ 736 _ _ (c .before .loop .inv .1) ∙ ap (λ (n : ℕ). listed 0 736 (upTo n (mapByte (c .before .before .args .at) (c .before .before .args .file .now)))) e
 
-pub closed-maps-spec : {M : Type 1} → statement M
-closed-maps-spec =
+pub maps-from-spec : {M : Type 1} → statement M
+maps-from-spec =
     tie.close
     (tie.spec
     Inv-loop

@@ -1,18 +1,18 @@
 use Rattle.questions.proofs.Search.{search-none, search-here, search-next}
 use Rattle.calendar.proofs.Next.{next-start}
 use Rattle.questions.specs.Search.{firstFrom}
-use Rattle.calendar.specs.Trading.{tradingDay, nextTradingDay}
+use Rattle.calendar.specs.Trading.{calendarOfMaps, exchangeDay, nextExchangeDay}
 use Prim.Native.Nat.{_+_, _-_, _≤_}
 use native.Mathlib.Omega.{arith}
 use mathlib.Core.Path.{_≡_, _∙_, sym}
-use Rattle.calendar.proofs.next_trading_day.Statement.{statement}
-use Rattle.calendar.proofs.next_trading_day.Tie as tie
+use Rattle.calendar.proofs.next_exchange_day_in.Statement.{statement}
+use Rattle.calendar.proofs.next_exchange_day_in.Tie as tie
 
 abbrev Inv-loop : tie.InvT-loop
-Inv-loop cal day end d₀ d = (d ≤ end) × (firstFrom (tradingDay cal) 36525 (end - d) d ≡ nextTradingDay cal day)
+Inv-loop cover closed exchange day end d₀ d = (d ≤ end) × (firstFrom (exchangeDay (calendarOfMaps cover closed exchange)) 36525 (end - d) d ≡ nextExchangeDay (calendarOfMaps cover closed exchange) day)
 
 abbrev μ-loop : tie.MeasureT-loop
-μ-loop cal day end d₀ d = end - d
+μ-loop cover closed exchange day end d₀ d = end - d
 
 cover-end-requires : tie.Need-cover-end-requires Inv-loop μ-loop
 cover-end-requires c κs = tt
@@ -20,7 +20,7 @@ cover-end-requires c κs = tt
 returns : tie.Need-returns Inv-loop μ-loop
 returns c =
     let q = c .before .cover-end .ensures .0 in
-    let day = c .before .before .args .day in
+    let day = c .before .before .before .before .args .day in
     sym (sym (next-start _ day _ q) ∙ search-none _ _ _ (day + 1) (omega arith))
 
 add-d : tie.Need-add-d Inv-loop μ-loop
@@ -29,11 +29,11 @@ add-d c = omega arith
 loop-holds : tie.Need-loop-holds Inv-loop μ-loop
 loop-holds c = (omega arith, next-start _ _ _ (c .before .cover-end .ensures .0))
 
-is-trading-day-requires : tie.Need-is-trading-day-requires Inv-loop μ-loop
-is-trading-day-requires c κs = tt
+is-exchange-day-in-requires : tie.Need-is-exchange-day-in-requires Inv-loop μ-loop
+is-exchange-day-in-requires c κs = tt
 
 returns-2 : tie.Need-returns-2 Inv-loop μ-loop
-returns-2 c = sym (search-here _ _ _ _ (c .before .before .loop-test .taken) (sym (c .before .is-trading-day .ensures) ∙ c .if2 .taken)) ∙ c .before .before .before .loop .inv .1
+returns-2 c = sym (search-here _ _ _ _ (c .before .before .loop-test .taken) (sym (c .before .is-exchange-day-in .ensures) ∙ c .if2 .taken)) ∙ c .before .before .before .loop .inv .1
 
 add-d-2 : tie.Need-add-d-2 Inv-loop μ-loop
 add-d-2 c = omega arith
@@ -42,13 +42,13 @@ loop-less : tie.Need-loop-less Inv-loop μ-loop
 loop-less c = omega arith
 
 loop-again : tie.Need-loop-again Inv-loop μ-loop
-loop-again c = (omega arith, search-next _ _ _ _ (c .before .before .loop-test .taken) (sym (c .before .is-trading-day .ensures) ∙ c .if2 .left) ∙ c .before .before .before .loop .inv .1)
+loop-again c = (omega arith, search-next _ _ _ _ (c .before .before .loop-test .taken) (sym (c .before .is-exchange-day-in .ensures) ∙ c .if2 .left) ∙ c .before .before .before .loop .inv .1)
 
 returns-3 : tie.Need-returns-3 Inv-loop μ-loop
 returns-3 c = sym (search-none _ _ _ _ (c .loop-test .left)) ∙ c .before .loop .inv .1
 
-pub next-trading-day-spec : {M : Type 1} → statement M
-next-trading-day-spec =
+pub next-exchange-day-in-spec : {M : Type 1} → statement M
+next-exchange-day-in-spec =
     tie.close
     (tie.spec
     Inv-loop
@@ -57,7 +57,7 @@ next-trading-day-spec =
     returns
     add-d
     loop-holds
-    is-trading-day-requires
+    is-exchange-day-in-requires
     returns-2
     add-d-2
     loop-less

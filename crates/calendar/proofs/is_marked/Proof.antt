@@ -1,0 +1,55 @@
+use Rattle.calendar.proofs.Bits.{bit-past}
+use Rattle.questions.proofs.Bools.{said-no, said-yes}
+use Rattle.calendar.specs.Bits.{bitAt}
+use Prim.Native.Nat.{_-_}
+use native.Mathlib.Omega.{arith}
+use mathlib.Core.Path.{_≡_, sym}
+use borrow.Author.Needs.{needs}
+use Rattle.calendar.proofs.is_marked.Statement.{statement}
+use Rattle.calendar.proofs.is_marked.Tie as tie
+
+has-year-of-requires : tie.Need-has-year-of-requires
+has-year-of-requires c κs = tt
+
+returns : tie.Need-returns
+returns c = simp (said-no (c .before .has-year-of .ensures) (c .if1 .taken))
+
+slot-of-requires : tie.Need-slot-of-requires
+slot-of-requires c κs = tt
+
+returns-2 : tie.Need-returns-2
+returns-2 c =
+    let at-has-year-of = c .before .before .before in
+    sym
+    (rw (said-yes (at-has-year-of .has-year-of .ensures) (c .before .before .if1 .left))
+    (bit-past _ _ (omega (arith, c .before .slot-of .ensures))))
+
+shared-slice-read-byte : tie.Need-shared-slice-read-byte
+shared-slice-read-byte c = search needs
+
+sub-result : tie.Need-sub-result
+sub-result c = search needs
+
+cast-result : tie.Need-cast-result
+cast-result c = search needs
+
+shr-result : tie.Need-shr-result
+shr-result c = search needs
+
+returns-3 : tie.Need-returns-3
+unfolding bitAt
+returns-3 c = simp (said-yes (c .before .before .before .before .has-year-of .ensures) (c .before .before .before .if1 .left), sym (c .before .before .slot-of .ensures))
+
+pub is-marked-spec : {M : Type 1} → statement M
+is-marked-spec =
+    tie.close
+    (tie.spec
+    has-year-of-requires
+    returns
+    slot-of-requires
+    returns-2
+    shared-slice-read-byte
+    sub-result
+    cast-result
+    shr-result
+    returns-3)

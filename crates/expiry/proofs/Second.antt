@@ -1,0 +1,23 @@
+-- The second map takes no part in last trading days (02, note 4: 'Last trading days and listings don't change').
+-- Assumes nothing.
+use mathlib.Core.Path.{_≡_, refl}
+use mathlib.Core.List.{List}
+use Prim.Native.Nat.{ℕ}
+use Rattle.calendar.specs.declared.Calendar.{Calendar}
+use Rattle.calendar.specs.Trading.{closedOn, tradingDay}
+use Rattle.calendar.proofs.Second.{withSecond}
+use Rattle.expiry.specs.LastDays.{lastDay, lastTradingDay, workedOut}
+
+module _ (cal : Calendar) (second : List ℕ) where
+  pub last-day-second : (anchor : ℕ) → lastDay (withSecond cal second) anchor ≡ lastDay cal anchor
+  unfolding lastDay tradingDay closedOn
+  last-day-second anchor = refl
+
+  pub last-trading-day-second : (group : List ℕ) (m : ℕ) → lastTradingDay (withSecond cal second) group m ≡ lastTradingDay cal group m
+  unfolding lastTradingDay lastDay tradingDay closedOn
+  last-trading-day-second group m = refl
+
+  -- with the days stepped back (02, note 2)
+  pub worked-second : (group : List ℕ) (m : ℕ) → workedOut (withSecond cal second) group m ≡ workedOut cal group m
+  unfolding workedOut lastTradingDay lastDay tradingDay closedOn
+  worked-second group m = refl

@@ -1,0 +1,61 @@
+-- The second map through a history: no roll and no closure changes it, so tables of an old file keep their old due days (02, note 4).
+-- Assumes nothing.
+use mathlib.Core.Path.{_≡_, refl, _∙_, ap}
+use mathlib.Core.Bool.{Bool, true, false, cond}
+use mathlib.Core.List.{List, [], _∷_}
+use Prim.Native.Nat.{ℕ}
+use lib.Dec.{eqb}
+use Rattle.calendar.specs.declared.Calendar.{Calendar}
+use Rattle.calendar.specs.Bits.{bitAt}
+use Rattle.calendar.specs.Trading.{nthTradingDay}
+use Rattle.calendar.proofs.Closing.{close-exchange}
+use Rattle.product.specs.declared.Product.{Product}
+use Rattle.product.specs.Settlement.{settlementDays}
+use Rattle.years.specs.Calendars.{calendarOf, oldFile}
+use Rattle.years.proofs.Years.{ordered, old-bits}
+use Rattle.master.specs.Load.{productOf}
+use Rattle.master.proofs.Answers.{all-yes}
+use Rattle.table.specs.declared.Table.{Table}
+use Rattle.table.specs.Table.{openCall, openedTable}
+use Rattle.table.proofs.Opens.{accepted-from}
+use Rattle.values.specs.Values.{dueDay}
+use Rattle.values.proofs.Answers.{old-due}
+use Rattle.history.specs.Book.{Call, roll, close, Reply, calendarAfter}
+use Rattle.history.specs.History.{tableRun, tableReplies, calendarOfCalls, Demand3}
+use Rattle.history.proofs.FromFile.{from-file}
+
+exchange-after : (cal : Calendar) (c : Call) → calendarAfter cal c .exchange ≡ cal .exchange
+exchange-after cal (roll date) = refl
+exchange-after cal (close day) = close-exchange cal day
+
+exchange-of-calls : (cal : Calendar) (cs : List Call) (rs : List Reply) → calendarOfCalls cal cs rs .exchange ≡ cal .exchange
+unfolding calendarOfCalls
+exchange-of-calls cal [] rs = refl
+exchange-of-calls cal (c ∷ cs) [] = refl
+exchange-of-calls cal (c ∷ cs) (r ∷ rs) = exchange-of-calls (cond (eqb (r .refusal) 0) (calendarAfter cal c) cal) cs rs ∙ go (eqb (r .refusal) 0)
+  where
+    go : (b : Bool) → cond b (calendarAfter cal c) cal .exchange ≡ cal .exchange
+    go true = exchange-after cal c
+    go false = refl
+
+module _ (p : Product) (cal : Calendar) (date : ℕ) (cs ds : List Call) (h : Demand3 p cal date cs ds) where
+  -- the table's second map stays the opened one
+  pub exchange-stays : tableRun (openedTable p cal date) cs .calendar .exchange ≡ cal .exchange
+  exchange-stays = ap (λ (c : Calendar). c .exchange) (h .calendar-is) ∙ exchange-of-calls cal cs (tableReplies (openedTable p cal date) cs)
+
+-- a table's due day is the one that counts trading days alone
+abbrev pub OldDueDay : Table → ℕ → Type 0
+OldDueDay t day = dueDay t day ≡ nthTradingDay (t .calendar) (settlementDays (t .product .kind) (t .product .group)) day
+
+-- 'An old file, whose second map is zero, yields its old due days' (02, note 4): of every table opened from it, after any list of calls
+module _ (f id : List ℕ) (date : ℕ) (e : openCall f id date .refusal ≡ 0) (old : oldFile f ≡ true) where
+  old-bits-stay : (cs : List Call) (s : ℕ) → bitAt (tableRun (openCall f id date .table) cs .calendar .exchange) s ≡ false
+  old-bits-stay cs s =
+      let h = from-file f id date e cs [] in
+      let o = ordered f (all-yes f (accepted-from f id date e .loaded) .yes4) in
+      ap (λ (t : Table). bitAt (tableRun t cs .calendar .exchange) s) (h .opened) ∙
+      ap (λ (map : List ℕ). bitAt map s) (exchange-stays (productOf f id) (calendarOf f) date cs [] (h .demand)) ∙
+      old-bits f o old s
+
+  pub old-due-stays : (cs : List Call) (day : ℕ) → OldDueDay (tableRun (openCall f id date .table) cs) day
+  old-due-stays cs day = old-due (tableRun (openCall f id date .table) cs) (old-bits-stay cs) day
