@@ -72,6 +72,7 @@ nthTradingDay cal n d = nthDay (tradingDay cal) (coverEnd (cal .cover)) n d
 unfoldable pub nextExchangeDay : Calendar → ℕ → ℕ
 nextExchangeDay cal d = nextDay (exchangeDay cal) (coverEnd (cal .cover)) d
 
+-- 'Due days count trading days and these days' (02, note 4): the n-th exchange day after a day
 unfoldable pub nthExchangeDay : Calendar → ℕ → ℕ → ℕ
 nthExchangeDay cal n d = nthDay (exchangeDay cal) (coverEnd (cal .cover)) n d
 

@@ -62,10 +62,11 @@ placesOf [] sets = []
 placesOf (count ∷ counts) [] = []
 placesOf (count ∷ counts) (set ∷ sets) = replicate count set ++ placesOf counts sets
 
--- the row of counts of a kind, and the sets of its steps
+-- the row of counts of a kind: 'the counts stand in four rows of four'
 abbrev pub rowOf : Kind → List ℕ
 rowOf kind = getD counts (kindNumber kind) []
 
+-- the sets of its steps: the head of the table, or the seven names (02, note 1)
 abbrev pub setsOf : Kind → List (ℕ → Bool)
 setsOf kind = getD stepSets (kindNumber kind) []
 
