@@ -1,6 +1,6 @@
 // The blocks of a master file, their checks and their headers: questions 1 to 3.
 ghost use mathlib.Core.Path.{_≡_};
-ghost use Prim.Native.Nat.{_+_, _≤_, _<_};
+ghost use Prim.Native.Nat.{_+_, _*_, _≤_, _<_};
 ghost use lib.Dec.{eqb};
 ghost use lib.ListN.{length, getD};
 ghost use Rattle.blocks.specs.Blocks.{blockCount, blockOf, numberAt, zeros, weightedSum, checkRight, blockKindRight, headerRight, lengthRight, checksRight, headersRight};
@@ -91,10 +91,18 @@ pub fn length_right(file: &[u8]) -> bool
     (n % 512 == 0) & (1024 <= n) & (n <= 65536)
 }
 
-fn weight(byte: u8) -> u32
+fn weight(byte: u8) -> u16
     ensures { λ r. ⌜ (r ≡ byte) × (r < 256) ⌝ }
 {
-    byte as u32
+    byte as u16
+}
+
+// Bytes i and 255 + i, each times its place from 1. Each product fits 16 bits, so the compiler multiplies many at once.
+fn two_terms(i: u16, first: u16, second: u16) -> u32
+    requires { ⌜ (i < 255) × (first < 256) × (second < 256) ⌝ }
+    ensures { λ r. ⌜ (r ≡ (i + 1) * first + (255 + i + 1) * second) × (r ≤ 195075) ⌝ }
+{
+    ((i + 1) * first) as u32 + ((i + 1) * second) as u32 + (255 * second) as u32
 }
 
 // The sum of each of the first 510 bytes of a block times its place from 1.
@@ -103,10 +111,11 @@ fn weighted_sum(bytes: &[u8]) -> u32
     ensures { λ r. ⌜ r ≡ weightedSum (now (bytes .entry)) 510 ⌝ }
 {
     let mut sum: u32 = 0;
-    let mut i: u32 = 0;
-    while i < 510 {
-        let byte = weight(bytes[i as usize]);
-        sum += (i + 1) * byte;
+    let mut i: u16 = 0;
+    while i < 255 {
+        let first = weight(bytes[i as usize]);
+        let second = weight(bytes[255 + i as usize]);
+        sum += two_terms(i, first, second);
         i += 1;
     }
     sum

@@ -4,8 +4,10 @@ use mathlib.Core.Path.{_≡_, refl, _∙_, sym}
 use mathlib.Core.Bool.{Bool, true, false, not, _&&_, _||_, true≢false}
 use mathlib.Core.Logic.{_⊎_, inl, inr}
 use Prim.Native.Nat.{ℕ, _≤_, _<_}
-use lib.Dec.{ltb}
-use borrow.Author.Tests.{ltb-true, ltb-false, not-true, not-false}
+use native.Mathlib.Omega.{arith}
+use lib.Bits.{bitOr, or-add-and, and-le-l, and-le-r}
+use lib.Dec.{eqb, ltb}
+use borrow.Author.Tests.{eqb-true, eq-eqb, ltb-true, ltb-false, not-true, not-false}
 
 pub clash {ℓ} : {A : Type ℓ} {b : Bool} → b ≡ true → b ≡ false → A
 clash t f = absurd (true≢false (sym t ∙ f))
@@ -58,3 +60,18 @@ lt-or-ge m n = go (ltb m n) refl
     go : (b : Bool) → ltb m n ≡ b → (m < n) ⊎ (n ≤ m)
     go true e = inl (ltb-true m n e)
     go false e = inr (ltb-false m n e)
+
+-- numbers that have no bit together are zero
+pub or-zero : (a b : ℕ) → eqb (bitOr a b) 0 ≡ (eqb a 0 && eqb b 0)
+or-zero a b =
+    same-test _ _
+    (λ h.
+    let z : bitOr a b ≡ 0 = eqb-true _ _ h in
+    let x : a ≡ 0 = omega (arith, z, or-add-and a b, and-le-r a b) in
+    let y : b ≡ 0 = omega (arith, z, or-add-and a b, and-le-l a b) in
+    and-both (eq-eqb a 0 x) (eq-eqb b 0 y))
+    (λ h.
+    let (x, y) = both (eqb a 0) (eqb b 0) h in
+    let p : a ≡ 0 = eqb-true _ _ x in
+    let q : b ≡ 0 = eqb-true _ _ y in
+    eq-eqb (bitOr a b) 0 (rw (p, q)))

@@ -2,19 +2,17 @@ use mathlib.Core.Path.{_≡_, refl}
 use Prim.Native.Nat.{_+_, _-_, _*_, _≤_}
 use native.Mathlib.Omega.{arith}
 use Rattle.blocks.specs.Blocks.{weightedSum}
-use Rattle.blocks.proofs.Files.{term-most, weighted-more}
+use Rattle.blocks.proofs.Files.{halves-more}
 use Rattle.blocks.proofs.weighted_sum.Statement.{statement}
 use Rattle.blocks.proofs.weighted_sum.Tie as tie
+use Rattle.blocks.proofs.two_terms.Reads as two-terms-reads
 use Rattle.blocks.proofs.weight.Reads as weight-reads
 
 abbrev Inv-loop : tie.InvT-loop
-Inv-loop bytes sum₀ i₀ sum i = (i ≤ 510) × (sum ≤ 130050 * i) × (sum ≡ weightedSum bytes i)
+Inv-loop bytes sum₀ i₀ sum i = (i ≤ 255) × (sum ≤ 195075 * i) × (sum + weightedSum bytes 255 ≡ weightedSum bytes i + weightedSum bytes (255 + i))
 
 abbrev μ-loop : tie.MeasureT-loop
-μ-loop bytes sum₀ i₀ sum i = 510 - i
-
-small : (c : tie.After-weight Inv-loop μ-loop) → (c .before .before .before .loop .i + 1) * c .weight .result ≤ 130050
-small c = term-most _ _ (omega arith) (omega arith)
+μ-loop bytes sum₀ i₀ sum i = 255 - i
 
 loop-holds : tie.Need-loop-holds Inv-loop μ-loop
 unfolding weightedSum
@@ -29,14 +27,23 @@ shared-slice-read-weight c = omega (arith, c .before .before .before .before .pr
 weight-requires : tie.Need-weight-requires Inv-loop μ-loop
 weight-requires c κs = tt
 
+cast-weight-2 : tie.Need-cast-weight-2 Inv-loop μ-loop
+cast-weight-2 c = omega arith
+
+add-weight : tie.Need-add-weight Inv-loop μ-loop
+add-weight c = omega arith
+
+shared-slice-read-weight-2 : tie.Need-shared-slice-read-weight-2 Inv-loop μ-loop
+shared-slice-read-weight-2 c = omega (arith, c .before .before .before .before .before .before .pre)
+
+weight-requires-2 : tie.Need-weight-requires-2 Inv-loop μ-loop
+weight-requires-2 c κs = tt
+
+two-terms-requires : tie.Need-two-terms-requires Inv-loop μ-loop
+two-terms-requires c κs = (omega arith, omega arith, omega arith)
+
 add-sum : tie.Need-add-sum Inv-loop μ-loop
 add-sum c = omega arith
-
-mul-sum : tie.Need-mul-sum Inv-loop μ-loop
-mul-sum c = omega (arith, small c)
-
-add-sum-2 : tie.Need-add-sum-2 Inv-loop μ-loop
-add-sum-2 c = omega (arith, small c)
 
 add-i : tie.Need-add-i Inv-loop μ-loop
 add-i c = omega arith
@@ -46,13 +53,14 @@ loop-less c = omega arith
 
 loop-again : tie.Need-loop-again Inv-loop μ-loop
 loop-again c =
-    let l = c .before .before .before .loop in
-    (omega arith, omega (arith, small c), rw (weighted-more, ← l .inv .2, c .weight .ensures .0))
+    let l = c .before .before .before .before .before .before .loop in
+    (omega arith, omega arith, halves-more _ _ _ _ (l .inv .2) (rw (← c .before .before .before .weight .ensures .0, ← c .before .weight2 .ensures .0) (c .two-terms .ensures .0)))
 
 returns : tie.Need-returns Inv-loop μ-loop
 returns c =
-    let e : c .before .loop .i ≡ 510 = omega arith in
-    rw (c .before .loop .inv .2, e)
+    let l = c .before .loop in
+    let e : l .i ≡ 255 = omega arith in
+    omega (arith, rw e at (l .inv .2))
 
 pub weighted-sum-spec : {M : Type 1} → statement M
 weighted-sum-spec =
@@ -64,9 +72,12 @@ weighted-sum-spec =
     cast-weight
     shared-slice-read-weight
     weight-requires
+    cast-weight-2
+    add-weight
+    shared-slice-read-weight-2
+    weight-requires-2
+    two-terms-requires
     add-sum
-    mul-sum
-    add-sum-2
     add-i
     loop-less
     loop-again
