@@ -6,7 +6,6 @@ use mathlib.Core.List.{[], _∷_}
 use mathlib.Core.Logic.{_⊎_, inl, inr, ⊎-elim}
 use Prim.Native.Nat.{ℕ, zero, suc, _+_, _-_, _*_, _/_, _%_, _≤_, _<_}
 use native.Mathlib.Nat.{add-zero, add-suc, le-refl}
-use native.Mathlib.Numerals.{add-one}
 use native.Mathlib.Omega.{arith}
 use lib.Dec.{leb, ltb, eqb}
 use borrow.Author.Tests.{eqb-true, ne-eqb, leb-true, ltb-true, ltb-false, lt-ltb, le-ltb}
@@ -96,11 +95,6 @@ rising i (suc n) = rw (add-suc i n) (omega (arith, rising i n, first-suc (i + n)
 -- of two months the later starts at least 28 days after for each month between
 pub first-apart : (i j : ℕ) → i ≤ j → firstDay i + 28 * (j - i) ≤ firstDay j
 first-apart i j h = subst (λ (k : ℕ). firstDay i + 28 * (j - i) ≤ firstDay k) (omega arith) (rising i (j - i))
-
--- and at most 31 days after
-pub first-near : (i n : ℕ) → firstDay (i + n) ≤ firstDay i + 31 * n
-first-near i zero = rw (add-zero i) (omega arith)
-first-near i (suc n) = rw (add-suc i n) (omega (arith, first-near i n, first-suc (i + n), length-bounds (i + n)))
 
 pub first-le : (i j : ℕ) → i ≤ j → firstDay i ≤ firstDay j
 first-le i j h = omega (arith, first-apart i j h)
@@ -210,18 +204,6 @@ first-of-le i j h = go (lt-or-ge j 1200)
     go : (j < 1200) ⊎ (1200 ≤ j) → firstOf i ≤ firstOf j
     go (inl l) = omega (arith, first-in i (omega arith), first-in j l, first-le i j h)
     go (inr l) = omega (arith, first-of-most i, first-out j l)
-
--- the search for the month of a day of 2000 to 2099: the next month starts by the day, or after it
-pub month-next : (k d r : ℕ) → k < 1200 → d < 36525 → r ≡ firstOf (k + 1) → r ≤ d → (k + 1 < 1200) × (firstDay (k + 1) ≤ d)
-month-next k d r h l q a =
-    let e = first-to (k + 1) (omega arith) in
-    (month-lt 1200 (k + 1) d (omega arith) (omega (arith, first-end)), omega arith)
-
-pub month-here : (k d r : ℕ) → k < 1200 → firstDay k ≤ d → r ≡ firstOf (k + 1) → d < r → k ≡ monthOf d
-month-here k d r h a q l =
-    let e : firstOf (suc k) ≡ firstDay (suc k) = first-to (suc k) h in
-    let s : r ≡ firstOf (suc k) = rw (add-one k) at q in
-    sym (month-is k d (omega arith) a (omega arith))
 
 pub month-most : (d : ℕ) → monthOf d ≤ 1200
 month-most d = go (lt-or-ge d 36525)

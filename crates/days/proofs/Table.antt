@@ -1,16 +1,17 @@
 -- A table that follows the month lengths has the first day of each month.
 -- Assumes nothing.
 use mathlib.Core.Path.{_≡_, refl, _∙_, sym, ap}
-use mathlib.Core.Bool.{Bool, true, false, _&&_, cond}
+use mathlib.Core.Bool.{true, _&&_}
 use mathlib.Core.List.{List, [], _∷_}
-use Prim.Native.Nat.{ℕ, zero, suc, _+_, _-_, _*_, _/_, _%_, _<_}
+use Prim.Native.Nat.{ℕ, zero, suc, _+_, _*_, _/_, _%_, _<_}
 use native.Mathlib.Nat.{add-zero, zero-add, add-suc, suc-add, le-of-suc-le-suc, not-suc-le-zero}
-use lib.Dec.{eqb, ltb}
+use lib.Dec.{eqb}
 use lib.ListN.{length, getD}
 use borrow.Author.Tests.{eqb-true}
 use Rattle.questions.specs.Search.{oneOf}
 use Rattle.questions.proofs.Bools.{both, and-fst, and-snd}
 use Rattle.days.specs.Gregorian.{followsFrom, followsMonths, lengthOf, firstDay, monthLength, lengthIn, leapYear}
+use Rattle.days.specs.Dates.{marchIn, startIn}
 
 next : (i s : ℕ) → s ≡ firstDay i → s + lengthOf i ≡ firstDay (suc i)
 unfolding firstDay
@@ -40,12 +41,9 @@ pub first-end : firstDay 1200 ≡ 36525
 unfolding firstDay lengthOf monthLength lengthIn leapYear oneOf
 first-end = refl
 
--- the first day by arithmetic: the year's, then two months of at most 31 days, then five months of 153 days and so on
+-- the first day by arithmetic: the year's, then the month's in the year
 abbrev pub byRule : ℕ → ℕ
-byRule k =
-    365 * (k / 12) + (k / 12 + 3) / 4 +
-    cond (ltb (k % 12) 2) (31 * (k % 12))
-    (cond (eqb (k / 12 % 4) 0) ((153 * (k % 12) - 304) / 5 + 60) ((153 * (k % 12) - 304) / 5 + 59))
+byRule k = 365 * (k / 12) + (k / 12 + 3) / 4 + startIn (marchIn (k / 12)) (k % 12)
 
 -- what the rule gives for n months from month i on
 ruled : ℕ → ℕ → List ℕ
@@ -60,7 +58,7 @@ ruled-at (suc n) i (suc k) h = ruled-at n (suc i) k (le-of-suc-le-suc h) ∙ ap 
 
 -- that table follows the month lengths too: one computed test
 ruled-right : followsMonths (ruled 1200 0) ≡ true
-unfolding ruled followsFrom lengthOf monthLength lengthIn leapYear oneOf
+unfolding ruled followsFrom lengthOf monthLength lengthIn leapYear oneOf marchIn startIn
 ruled-right = refl
 
 pub first-rule : (k : ℕ) → k < 1200 → firstDay k ≡ byRule k

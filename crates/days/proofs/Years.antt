@@ -6,12 +6,13 @@ use mathlib.Core.Logic.{_⊎_, inl, inr, ⊎-elim}
 use Prim.Native.Nat.{ℕ, zero, suc, _+_, _-_, _*_, _/_, _%_, _≤_, _<_}
 use native.Mathlib.Omega.{arith}
 use lib.Dec.{eqb}
-use borrow.Author.Tests.{eqb-true, eqb-false, ne-eqb}
+use borrow.Author.Tests.{eqb-true, eqb-false, ne-eqb, lt-ltb, le-ltb}
 use Rattle.questions.specs.Search.{oneOf}
 use Rattle.questions.proofs.Bools.{lt-or-ge}
 use Rattle.days.specs.Gregorian.{lengthOf, firstDay, monthLength, lengthIn, leapYear}
-use Rattle.days.specs.Dates.{monthOf, firstOf, yearOf, yearStart, dayInYear}
-use Rattle.days.proofs.Months.{first-suc, first-zero, first-near, first-le, first-to, first-out, first-of-le, first-of-most, month-holds, month-past}
+use Rattle.days.specs.Dates.{monthOf, dateOf, firstOf, yearOf, yearStart, dayInYear, marchIn, startIn}
+use Rattle.days.proofs.Table.{first-rule}
+use Rattle.days.proofs.Months.{first-suc, first-zero, first-le, first-to, first-out, first-of-le, first-of-most, month-holds, month-past, month-is}
 
 -- the month after j months of the year 2000 + i, and the next
 month : (i j n : ℕ) → j < 12 → n ≡ 12 * i + j + 1 → firstDay n ≡ firstDay (12 * i + j) + monthLength (2000 + i) (j + 1)
@@ -130,14 +131,6 @@ in-year d l =
     let b = year-start-is (yearOf d + 1) (omega arith) (omega arith) in
     record { low = omega arith; high = omega arith; start = omega arith; end = omega arith }
 
--- the year's January starts by the day
-pub year-month : (d r : ℕ) → d < 36525 → r ≡ yearOf d → (12 * (r - 2000) < 1200) × (firstDay (12 * (r - 2000)) ≤ d)
-unfolding yearStart
-year-month d r l q =
-    let v = in-year d l in
-    let e : firstOf (12 * (r - 2000)) ≡ firstOf (12 * (yearOf d - 2000)) = ap (λ (y : ℕ). firstOf (12 * (y - 2000))) q in
-    (omega arith, omega (arith, first-to (12 * (r - 2000)) (omega arith)))
-
 -- no day is before its year
 pub year-started : (d : ℕ) → yearStart (yearOf d) ≤ d
 year-started d = go (lt-or-ge d 36525)
@@ -155,16 +148,87 @@ in-year-below d l =
     let b = year-start-is (yearOf d + 1) (omega arith) (omega arith) in
     omega arith
 
--- a month of at most 31 days for each 31 days of the year before the day: it starts by the day
-pub month-guess : (d r n : ℕ) → d < 36525 → r ≡ yearOf d → n ≡ dayInYear d → (12 * (r - 2000) + n / 31 < 1200) × (firstDay (12 * (r - 2000) + n / 31) ≤ d)
-unfolding dayInYear yearStart
-month-guess d r n l q e =
-    let v = in-year d l in
-    let b : dayInYear d < 366 = in-year-below d l in
-    let m = year-month d r l q in
-    let f : yearStart (yearOf d) ≡ firstDay (12 * (r - 2000)) = ap (λ (y : ℕ). firstOf (12 * (y - 2000))) (sym q) ∙ first-to (12 * (r - 2000)) (omega arith) in
-    let g : n ≡ d - firstDay (12 * (r - 2000)) = e ∙ ap (λ (x : ℕ). d - x) f in
-    (omega arith, omega (arith, first-near (12 * (r - 2000)) (n / 31)))
+-- the months of a year by arithmetic
+pub start-early : (march j : ℕ) → j < 2 → startIn march j ≡ 31 * j
+unfolding startIn
+start-early march j h = rw (lt-ltb j 2 h)
+
+pub start-late : (march j : ℕ) → 2 ≤ j → startIn march j ≡ march + (153 * j - 304) / 5
+unfolding startIn
+start-late march j h = rw (le-ltb j 2 h)
+
+-- the month, from 0, of a day of the year before March, and from March on
+pub early-month : (march n : ℕ) → (59 ≤ march) × (march ≤ 60) × (n ≤ march + 305) → n < march → (n / 31 < 12) × (startIn march (n / 31) ≤ n) × (n / 31 < 11 → n < startIn march (n / 31 + 1))
+early-month march n h l = (omega (arith, h), omega (arith, start-early march (n / 31) (omega (arith, h))), λ m. go (lt-or-ge (n / 31 + 1) 2))
+  where
+    go : (n / 31 + 1 < 2) ⊎ (2 ≤ n / 31 + 1) → n < startIn march (n / 31 + 1)
+    go (inl m) = omega (arith, start-early march (n / 31 + 1) m)
+    go (inr m) =
+        let e : n / 31 + 1 ≡ 2 = omega (arith, h) in
+        rw e (omega (arith, start-late march 2 (omega arith)))
+
+pub late-month : (march n : ℕ) → (59 ≤ march) × (march ≤ 60) × (n ≤ march + 305) → march ≤ n → ((5 * (n - march) + 308) / 153 < 12) × (startIn march ((5 * (n - march) + 308) / 153) ≤ n) × ((5 * (n - march) + 308) / 153 < 11 → n < startIn march ((5 * (n - march) + 308) / 153 + 1))
+late-month march n h l =
+    let r = (5 * (n - march) + 308) / 153 in
+    (omega (arith, h), omega (arith, start-late march r (omega arith)), λ m. omega (arith, start-late march (r + 1) (omega arith)))
+
+first-in-year : (i j : ℕ) → i < 100 → j < 12 → firstDay (12 * i + j) ≡ 365 * i + (i + 3) / 4 + startIn (marchIn i) j
+first-in-year i j h l =
+    let a : (12 * i + j) / 12 ≡ i = omega arith in
+    let b : (12 * i + j) % 12 ≡ j = omega arith in
+    first-rule (12 * i + j) (omega arith) ∙ rw (a, b)
+
+-- day n of the year 2000 + i, from 0
+module _ (d i march n : ℕ) (l : d < 36525) (q : i ≡ yearOf d - 2000) (e : march ≡ marchIn i) (f : n ≡ dayInYear d) where
+  year-begins : (i < 100) × (yearOf d ≡ 2000 + i) × (d ≡ 365 * i + (i + 3) / 4 + n)
+  unfolding dayInYear
+  year-begins =
+      let v = in-year d l in
+      (omega arith, omega arith, omega (arith, year-start-is (yearOf d) (omega arith) (omega arith)))
+
+  year-ends : d < 365 * (i + 1) + (i + 4) / 4
+  year-ends =
+      let v = in-year d l in
+      omega (arith, year-start-is (yearOf d + 1) (omega arith) (omega arith))
+
+  -- the year has 306 days from March on
+  pub days-from-march : (59 ≤ march) × (march ≤ 60) × (n ≤ march + 305)
+  unfolding marchIn
+  days-from-march = go (eqb (i % 4) 0) refl
+    where
+      go : (b : Bool) → eqb (i % 4) 0 ≡ b → (59 ≤ march) × (march ≤ 60) × (n ≤ march + 305)
+      go true t =
+          let m : march ≡ 60 = e ∙ rw t in
+          (omega arith, omega arith, omega (arith, year-begins, year-ends))
+      go false t =
+          let m : march ≡ 59 = e ∙ rw t in
+          let z : (i % 4 ≡ 0 → ⊥) = eqb-false _ _ t in
+          let w : (i + 4) / 4 ≡ (i + 3) / 4 = omega arith in
+          (omega arith, omega arith, omega (arith, year-begins, year-ends))
+
+  -- its month is the one that starts by it and of which the next starts after it
+  module _ (j : ℕ) (h : (j < 12) × (startIn march j ≤ n) × (j < 11 → n < startIn march (j + 1))) where
+    starts : (k : ℕ) → k < 12 → firstDay (12 * i + k) ≡ 365 * i + (i + 3) / 4 + startIn march k
+    starts k m = first-in-year i k (year-begins .0) m ∙ ap (λ (x : ℕ). 365 * i + (i + 3) / 4 + startIn x k) (sym e)
+
+    pub month-by-rule : 12 * i + j ≡ monthOf d
+    month-by-rule = sym (month-is (12 * i + j) d (omega (arith, year-begins, h)) (omega (arith, starts j (h .0), year-begins, h)) (go (lt-or-ge j 11)))
+      where
+        go : (j < 11) ⊎ (11 ≤ j) → d < firstDay (suc (12 * i + j))
+        go (inl m) =
+            let s : firstDay (suc (12 * i + j)) ≡ firstDay (12 * i + (j + 1)) = ap firstDay (omega arith) in
+            omega (arith, s, h .2 m, year-begins, starts (j + 1) (omega arith))
+        go (inr m) =
+            let s : firstDay (suc (12 * i + j)) ≡ firstDay (12 * (i + 1)) = ap firstDay (omega (arith, h)) in
+            omega (arith, s, start-is (i + 1) (omega (arith, year-begins)), year-ends)
+
+    pub date-by-rule : dateOf d ≡ record { year = 2000 + i; month = j + 1; day = n - startIn march j + 1 }
+    unfolding dateOf
+    date-by-rule =
+        let y : (12 * i + j) / 12 ≡ i = omega (arith, h) in
+        let m : (12 * i + j) % 12 ≡ j = omega (arith, h) in
+        let z : d - firstDay (12 * i + j) ≡ n - startIn march j = omega (arith, starts j (h .0), year-begins) in
+        rw (← month-by-rule, y, m, z)
 
 -- a day is in a year or later where the year has started, and before it where it has not
 pub year-from : (y d : ℕ) → d < 36525 → yearStart y ≤ d → y ≤ yearOf d

@@ -1,10 +1,10 @@
 -- Dates and day numbers, each from the other, and the years (01, Days and months; question 23).
 -- Assumes nothing.
-use Prim.Native.Nat.{ℕ, zero, suc, _+_, _-_, _*_}
+use Prim.Native.Nat.{ℕ, zero, suc, _+_, _-_, _*_, _/_, _%_}
 use mathlib.Core.Path.{_≡_}
 use mathlib.Core.Bool.{Bool, _&&_, cond}
 use mathlib.Core.List.{List, [], _∷_}
-use lib.Dec.{leb, ltb}
+use lib.Dec.{leb, ltb, eqb}
 use Rattle.questions.specs.Questions.{Ask, ask, Answer, answer}
 use Rattle.days.specs.declared.DayAnswer.{DayAnswer}
 use Rattle.days.specs.declared.DayAnswer.the-variants.{Day, NotADate}
@@ -79,6 +79,14 @@ yearStart y = firstOf (12 * (y - 2000))
 -- 'day n of the year (from 0)' (01, Master file)
 unfoldable pub dayInYear : ℕ → ℕ
 dayInYear d = d - yearStart (yearOf d)
+
+-- by arithmetic: the first of March of the year 2000 + i, counted from the year's first day
+unfoldable pub marchIn : ℕ → ℕ
+marchIn i = cond (eqb (i % 4) 0) 60 59
+
+-- the first day of month j, from 0, counted from the year's first day: from March on five months have 153 days
+unfoldable pub startIn : ℕ → ℕ → ℕ
+startIn march j = cond (ltb j 2) (31 * j) (march + (153 * j - 304) / 5)
 
 -- 'Date to day and day to date undo each other'
 pub record Undo : Type 0 where

@@ -1,9 +1,9 @@
 // Day numbers of 2000 to 2099, their dates, months, years and weekdays.
 ghost use mathlib.Core.Path.{_≡_};
 ghost use mathlib.Core.Bool.{true};
-ghost use Prim.Native.Nat.{_≤_};
+ghost use Prim.Native.Nat.{_+_, _≤_, _<_};
 ghost use Rattle.days.specs.Gregorian.{leapYear, monthLength, weekdayOf, followsMonths};
-ghost use Rattle.days.specs.Dates.{validDate, monthOf, dayCall, dateCall, dayAnswer, dateAnswer, firstOf, yearOf, yearStart, dayInYear};
+ghost use Rattle.days.specs.Dates.{validDate, monthOf, dayCall, dateCall, dayAnswer, dateAnswer, firstOf, yearOf, yearStart, dayInYear, marchIn, startIn};
 
 pub struct Date {
     pub year: u16,
@@ -1245,7 +1245,39 @@ pub fn first_day(month: u16) -> u16
     first[month as usize]
 }
 
-// The first day of a month by arithmetic, as the table has it: from March on five months have 153 days.
+// The first of March of the year 2000 + i, counted from the year's first day.
+fn march_in(i: u16) -> u16
+    ensures { λ r. ⌜ (r ≡ marchIn i) × (r ≤ 60) ⌝ }
+{
+    if i % 4 == 0 {
+        return 60;
+    }
+    59
+}
+
+// The first day of month j, from 0, counted from the year's first day: from March on five months have 153 days.
+fn start_in_year(march: u16, j: u16) -> u16
+    requires { ⌜ (march ≤ 60) × (j < 12) ⌝ }
+    ensures { λ r. ⌜ (r ≡ startIn march j) × (r ≤ 366) ⌝ }
+{
+    if j < 2 {
+        return 31 * j;
+    }
+    march + (153 * j - 304) / 5
+}
+
+// The month, from 0, of day n of a year, from 0: it starts by the day, and the next starts after it.
+fn month_in_year(march: u16, n: u16) -> u16
+    requires { ⌜ (59 ≤ march) × (march ≤ 60) × (n ≤ march + 305) ⌝ }
+    ensures { λ r. ⌜ (r < 12) × (startIn march r ≤ n) × (r < 11 → n < startIn march (r + 1)) ⌝ }
+{
+    if n < march {
+        return n / 31;
+    }
+    (5 * (n - march) + 308) / 153
+}
+
+// The first day of a month by arithmetic, as the table has it; 36,525 for a month after 2099.
 pub fn month_start(month: u16) -> u16
     ensures { λ r. ⌜ r ≡ firstOf month ⌝ }
 {
@@ -1253,22 +1285,14 @@ pub fn month_start(month: u16) -> u16
         return 36525;
     }
     let i = month / 12;
-    let j = month % 12;
-    let start = 365 * i + (i + 3) / 4;
-    if j < 2 {
-        return start + 31 * j;
-    }
-    if i % 4 == 0 {
-        return start + ((153 * j - 304) / 5 + 60);
-    }
-    start + ((153 * j - 304) / 5 + 59)
+    365 * i + (i + 3) / 4 + start_in_year(march_in(i), month % 12)
 }
 
-// Monday is 0.
+// Monday is 0. With 10,000 weeks added the compiler divides in 32 bits, which takes fewer instructions than in 16.
 pub fn weekday(day: u16) -> u16
     ensures { λ r. ⌜ r ≡ weekdayOf day ⌝ }
 {
-    (day % 7 + 5) % 7
+    ((day as u32 + 70005) % 7) as u16
 }
 
 pub fn is_leap_year(year: u16) -> bool
@@ -1375,11 +1399,8 @@ pub fn month_of(day: u16) -> u16
     if 36525 <= day {
         return 1200;
     }
-    let mut m = 12 * (year_of(day) - 2000) + day_in_year(day) / 31;
-    while month_start(m + 1) <= day {
-        m += 1;
-    }
-    m
+    let i = year_of(day) - 2000;
+    12 * i + month_in_year(march_in(i), day_in_year(day))
 }
 
 pub fn date_of_day(day: u16) -> DateAnswer
@@ -1388,10 +1409,13 @@ pub fn date_of_day(day: u16) -> DateAnswer
     if 36525 <= day {
         return DateAnswer::NotADay;
     }
-    let m = month_of(day);
+    let i = year_of(day) - 2000;
+    let n = day_in_year(day);
+    let march = march_in(i);
+    let m = month_in_year(march, n);
     DateAnswer::Is(Date {
-        year: 2000 + m / 12,
-        month: m % 12 + 1,
-        day: day - month_start(m) + 1,
+        year: 2000 + i,
+        month: m + 1,
+        day: n - start_in_year(march, m) + 1,
     })
 }

@@ -1,45 +1,69 @@
+use Rattle.days.proofs.Years.{in-year, in-year-below, days-from-march, date-by-rule}
 use Rattle.days.proofs.Dates.{date-accepted, date-refused}
-use Rattle.days.proofs.Months.{Holds, month-holds, first-in}
-use Rattle.days.specs.Gregorian.{firstDay}
-use Rattle.days.specs.Dates.{dateOf}
+use Prim.Native.Nat.{ℕ, _-_}
 use native.Mathlib.Omega.{arith}
-use mathlib.Core.Path.{_≡_, _∙_, sym}
+use mathlib.Core.Path.{_∙_, sym, ap}
 use borrow.Author.Needs.{needs}
 use Rattle.days.proofs.date_of_day.Statement.{statement}
 use Rattle.days.proofs.date_of_day.Tie as tie
+use Rattle.days.proofs.day_in_year.Reads as day-in-year-reads
+use Rattle.days.proofs.march_in.Reads as march-in-reads
+use Rattle.days.proofs.month_in_year.Reads as month-in-year-reads
+use Rattle.days.proofs.start_in_year.Reads as start-in-year-reads
+use Rattle.days.proofs.year_of.Reads as year-of-reads
 
 returns : tie.Need-returns
 returns c = sym (date-refused _ (c .if1 .taken))
 
-month-of-requires : tie.Need-month-of-requires
-month-of-requires c κs = tt
+year-of-requires : tie.Need-year-of-requires
+year-of-requires c κs = tt
 
-add-t5 : tie.Need-add-t5
-add-t5 c = search needs
+sub-i : tie.Need-sub-i
+sub-i c = omega (arith, in-year _ (c .before .if1 .left))
+
+day-in-year-requires : tie.Need-day-in-year-requires
+day-in-year-requires c κs = tt
+
+march-in-requires : tie.Need-march-in-requires
+march-in-requires c κs = tt
+
+month-in-year-requires : tie.Need-month-in-year-requires
+month-in-year-requires c κs =
+    days-from-march _ _ _ _ (c .before .before .before .if1 .left) (ap (λ (y : ℕ). y - 2000) (c .before .before .year-of .ensures)) (c .march-in .ensures .0) (c .before .day-in-year .ensures)
 
 add-t7 : tie.Need-add-t7
 add-t7 c = search needs
 
-month-start-requires : tie.Need-month-start-requires
-month-start-requires c κs = tt
+add-t8 : tie.Need-add-t8
+add-t8 c = search needs
 
-holds : (c : tie.After-month-start) → Holds (c .before .before .before .args .day) (c .before .month-of .result)
-holds c = rw (c .before .month-of .ensures) (month-holds _ (c .before .before .if1 .left))
+start-in-year-requires : tie.Need-start-in-year-requires
+start-in-year-requires c κs = (c .before .march-in .ensures .1, c .month-in-year .ensures .0)
 
-first : (c : tie.After-month-start) → c .month-start .result ≡ firstDay (c .before .month-of .result)
-first c = c .month-start .ensures ∙ first-in _ (holds c .within)
+sub-t10 : tie.Need-sub-t10
+sub-t10 c = omega (arith, c .before .month-in-year .ensures)
 
-sub-t9 : tie.Need-sub-t9
-sub-t9 c = omega (arith, holds c, first c)
-
-add-t10 : tie.Need-add-t10
-add-t10 c = search needs
+add-t11 : tie.Need-add-t11
+add-t11 c = omega (arith, in-year-below _ (c .before .before .before .before .before .if1 .left))
 
 returns-2 : tie.Need-returns-2
-unfolding dateOf
-returns-2 c = sym (date-accepted _ (c .before .before .if1 .left) ∙ simp (sym (c .before .month-of .ensures), sym (first c)))
+returns-2 c =
+    let d = date-by-rule _ _ _ _ (c .before .before .before .before .before .if1 .left) (ap (λ (y : ℕ). y - 2000) (c .before .before .before .before .year-of .ensures)) (c .before .before .march-in .ensures .0) (c .before .before .before .day-in-year .ensures) _ (c .before .month-in-year .ensures) in
+    sym (date-accepted _ (c .before .before .before .before .before .if1 .left) ∙ simp (d, sym (c .start-in-year .ensures .0)))
 
 pub date-of-day-spec : {M : Type 1} → statement M
 date-of-day-spec =
     tie.close
-    (tie.spec returns month-of-requires add-t5 add-t7 month-start-requires sub-t9 add-t10 returns-2)
+    (tie.spec
+    returns
+    year-of-requires
+    sub-i
+    day-in-year-requires
+    march-in-requires
+    month-in-year-requires
+    add-t7
+    add-t8
+    start-in-year-requires
+    sub-t10
+    add-t11
+    returns-2)

@@ -1,73 +1,55 @@
-use Rattle.days.proofs.Years.{in-year, in-year-below, month-guess}
-use Rattle.days.proofs.Months.{month-past, month-next, month-here}
-use Rattle.days.specs.Gregorian.{firstDay}
-use Prim.Native.Nat.{_-_, _≤_, _<_}
+use Rattle.days.proofs.Years.{in-year, days-from-march, month-by-rule}
+use Rattle.days.proofs.Months.{month-past}
+use Prim.Native.Nat.{ℕ, _-_}
 use native.Mathlib.Omega.{arith}
-use mathlib.Core.Path.{sym}
+use mathlib.Core.Path.{sym, ap}
+use borrow.Author.Needs.{needs}
 use Rattle.days.proofs.month_of.Statement.{statement}
 use Rattle.days.proofs.month_of.Tie as tie
+use Rattle.days.proofs.day_in_year.Reads as day-in-year-reads
+use Rattle.days.proofs.march_in.Reads as march-in-reads
+use Rattle.days.proofs.month_in_year.Reads as month-in-year-reads
+use Rattle.days.proofs.year_of.Reads as year-of-reads
 
-abbrev Inv-loop : tie.InvT-loop
-Inv-loop day m₀ m = (m < 1200) × (firstDay m ≤ day)
-
-abbrev μ-loop : tie.MeasureT-loop
-μ-loop day m₀ m = 1200 - m
-
-returns : tie.Need-returns Inv-loop μ-loop
+returns : tie.Need-returns
 returns c = sym (month-past _ (c .if1 .taken))
 
-year-of-requires : tie.Need-year-of-requires Inv-loop μ-loop
+year-of-requires : tie.Need-year-of-requires
 year-of-requires c κs = tt
 
-sub-m : tie.Need-sub-m Inv-loop μ-loop
-sub-m c = omega (arith, in-year _ (c .before .if1 .left))
+sub-i : tie.Need-sub-i
+sub-i c = omega (arith, in-year _ (c .before .if1 .left))
 
-mul-m : tie.Need-mul-m Inv-loop μ-loop
-mul-m c = omega (arith, in-year _ (c .before .if1 .left))
+mul-result : tie.Need-mul-result
+mul-result c = omega (arith, in-year _ (c .before .if1 .left))
 
-day-in-year-requires : tie.Need-day-in-year-requires Inv-loop μ-loop
+march-in-requires : tie.Need-march-in-requires
+march-in-requires c κs = tt
+
+day-in-year-requires : tie.Need-day-in-year-requires
 day-in-year-requires c κs = tt
 
-add-m : tie.Need-add-m Inv-loop μ-loop
-add-m c = omega (arith, in-year _ (c .before .before .if1 .left), in-year-below _ (c .before .before .if1 .left))
+month-in-year-requires : tie.Need-month-in-year-requires
+month-in-year-requires c κs =
+    days-from-march _ _ _ _ (c .before .before .before .if1 .left) (ap (λ (y : ℕ). y - 2000) (c .before .before .year-of .ensures)) (c .before .march-in .ensures .0) (c .day-in-year .ensures)
 
-loop-holds : tie.Need-loop-holds Inv-loop μ-loop
-loop-holds c = month-guess _ _ _ (c .before .before .if1 .left) (c .before .year-of .ensures) (c .day-in-year .ensures)
+add-result : tie.Need-add-result
+add-result c = omega (arith, in-year _ (c .before .before .before .before .if1 .left))
 
-add-month-start : tie.Need-add-month-start Inv-loop μ-loop
-add-month-start c = omega arith
-
-month-start-requires : tie.Need-month-start-requires Inv-loop μ-loop
-month-start-requires c κs = tt
-
-add-m-2 : tie.Need-add-m-2 Inv-loop μ-loop
-add-m-2 c = omega arith
-
-loop-less : tie.Need-loop-less Inv-loop μ-loop
-loop-less c = omega (arith, month-next _ _ _ (c .before .before .loop .inv .0) (c .before .before .before .before .before .if1 .left) (c .before .month-start .ensures) (c .if2 .taken))
-
-loop-again : tie.Need-loop-again Inv-loop μ-loop
-loop-again c = month-next _ _ _ (c .before .before .loop .inv .0) (c .before .before .before .before .before .if1 .left) (c .before .month-start .ensures) (c .if2 .taken)
-
-returns-2 : tie.Need-returns-2 Inv-loop μ-loop
-returns-2 c = month-here _ _ _ (c .before .before .loop .inv .0) (c .before .before .loop .inv .1) (c .before .month-start .ensures) (c .if2 .left)
+returns-2 : tie.Need-returns-2
+returns-2 c =
+    month-by-rule _ _ _ _ (c .before .before .before .before .if1 .left) (ap (λ (y : ℕ). y - 2000) (c .before .before .before .year-of .ensures)) (c .before .before .march-in .ensures .0) (c .before .day-in-year .ensures) _ (c .month-in-year .ensures)
 
 pub month-of-spec : {M : Type 1} → statement M
 month-of-spec =
     tie.close
     (tie.spec
-    Inv-loop
-    μ-loop
     returns
     year-of-requires
-    sub-m
-    mul-m
+    sub-i
+    mul-result
+    march-in-requires
     day-in-year-requires
-    add-m
-    loop-holds
-    add-month-start
-    month-start-requires
-    add-m-2
-    loop-less
-    loop-again
+    month-in-year-requires
+    add-result
     returns-2)
