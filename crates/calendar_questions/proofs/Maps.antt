@@ -6,8 +6,8 @@ use mathlib.Core.Logic.{_⊎_, inl, inr}
 use mathlib.Core.List.{List}
 use Prim.Native.Nat.{ℕ, _+_, _-_, _*_, _/_, _%_, _^_, _≤_, _<_}
 use native.Mathlib.Omega.{arith}
-use lib.Bits.{bitOr, bitAnd}
-use lib.Dec.{eqb, leb, ltb}
+use lib.Bits.{bitOr}
+use lib.Dec.{leb, ltb}
 use borrow.Author.Tests.{le-leb, lt-leb, lt-ltb, le-ltb}
 use Rattle.questions.specs.Search.{every}
 use Rattle.questions.proofs.Bools.{same-test, lt-or-ge}
@@ -18,10 +18,11 @@ use Rattle.days.proofs.Years.{year-start-is, year-start-before, year-start-past
 use Rattle.calendar.specs.declared.Cover.{Cover}
 use Rattle.calendar.specs.declared.Calendar.{Calendar}
 use Rattle.calendar.specs.Bits.{bitAt}
-use Rattle.calendar.specs.Trading.{mayClose, mayBeClosed, bitsClean, cleanSlot}
+use Rattle.calendar.specs.Trading.{mayClose, mayBeClosed, bitsClean, clean}
 use Rattle.calendar.proofs.Covered.{may-not, may-day, may-past}
 use Rattle.day_words.specs.Words.{dayBit, Weekends}
-use Rattle.day_words.proofs.Words.{or-day, shr-day, all-days, last-days}
+use Rattle.day_words.proofs.Words.{or-day, shr-day, every-same, both-every}
+use Rattle.calendar_questions.specs.Maps.{Barred, Used}
 
 -- a year that has days has 365 or 366
 pub year-days : (y : ℕ) → yearStart y < yearStart (y + 1) → (2000 ≤ y) × (y < 2100) × (yearStart y + 365 ≤ yearStart (y + 1)) × (yearStart (y + 1) ≤ yearStart y + 366)
@@ -35,18 +36,19 @@ year-days y h = go (lt-or-ge y 2000) (lt-or-ge y 2100)
         let e = year-start-is (y + 1) (omega arith) (omega arith) in
         (a, b, omega arith, omega arith)
 
--- all days of a year without days, and the weekends of one that has days
-pub barred-all : (y n w p : ℕ) → yearStart (y + 1) ≤ yearStart y → every w (dayBit w (2 ^ w - 1)) ≡ true → p < w → dayBit w (2 ^ w - 1) p ≡ not (mayClose y (n + p))
-barred-all y n w p h e l = every-at (dayBit w (2 ^ w - 1)) w p e l ∙ sym (ap not (may-not y (n + p) (omega arith)))
-
-pub barred-weeks : (y x j p : ℕ) → yearStart y < yearStart (y + 1) → Weekends (yearStart y) x → j < 6 → p < 56 → dayBit 56 (x / 2 ^ 8) p ≡ not (mayClose y (56 * j + p))
+-- the weekends of a year that has days
+barred-weeks : (y x j p : ℕ) → yearStart y < yearStart (y + 1) → Weekends (yearStart y) x → j < 6 → p < 56 → dayBit 56 (x / 2 ^ 8) p ≡ not (mayClose y (56 * j + p))
 barred-weeks y x j p h v k l =
     let d = year-days y h in
     let e : weekdayOf (yearStart y + p) ≡ weekdayOf (yearStart y + (56 * j + p)) = omega arith in
     shr-day 56 8 x p l ∙ v p (omega arith) ∙ ap (λ (n : ℕ). not (ltb n 5)) e ∙ sym (ap not (may-day y (56 * j + p) (omega (arith, d))))
 
+or-false : (q : Bool) → (q || false) ≡ q
+or-false true = refl
+or-false false = refl
+
 -- the rest of the map: its last days are after the year's end
-pub barred-rest : (y x m c p : ℕ) → yearStart (y + 1) ≡ yearStart y + 336 + c → c ≤ 32 → Weekends (yearStart y) x → every 32 (λ p. cond (leb c p) (dayBit 32 m p) (not (dayBit 32 m p))) ≡ true → p < 32 → dayBit 32 (bitOr (x / 2 ^ 32) m) p ≡ not (mayClose y (336 + p))
+barred-rest : (y x m c p : ℕ) → yearStart (y + 1) ≡ yearStart y + 336 + c → c ≤ 32 → Weekends (yearStart y) x → every 32 (λ p. cond (leb c p) (dayBit 32 m p) (not (dayBit 32 m p))) ≡ true → p < 32 → dayBit 32 (bitOr (x / 2 ^ 32) m) p ≡ not (mayClose y (336 + p))
 barred-rest y x m c p s b v t l = or-day 32 (x / 2 ^ 32) m p ∙ ap (λ (q : Bool). q || dayBit 32 m p) (shr-day 32 32 x p l ∙ v p (omega arith)) ∙ go (lt-or-ge p c)
   where
     tested : cond (leb c p) (dayBit 32 m p) (not (dayBit 32 m p)) ≡ true
@@ -55,10 +57,6 @@ barred-rest y x m c p s b v t l = or-day 32 (x / 2 ^ 32) m p ∙ ap (λ (q : Boo
     off : (q : Bool) → not q ≡ true → q ≡ false
     off true h = sym h
     off false h = refl
-
-    or-false : (q : Bool) → (q || false) ≡ q
-    or-false true = refl
-    or-false false = refl
 
     or-true : (q : Bool) → (q || true) ≡ true
     or-true true = refl
@@ -73,6 +71,38 @@ barred-rest y x m c p s b v t l = or-day 32 (x / 2 ^ 32) m p ∙ ap (λ (q : Boo
         let o : dayBit 32 m p ≡ true = rw (le-leb c p h) at tested in
         rw o (or-true (not (ltb (weekdayOf (yearStart y + p)) 5))) ∙ sym (ap not (may-not y (336 + p) (omega arith)))
 
+-- the words that the code makes of them
+module _ (y x : ℕ) (b : Barred y x) where
+  none-open : yearStart (y + 1) ≤ yearStart y → (n p : ℕ) → p < 64 → dayBit 64 x p ≡ not (mayClose y (n + p))
+  none-open h n p l = every-at (dayBit 64 x) 64 p (b .1 h) l ∙ sym (ap not (may-not y (n + p) (omega arith)))
+
+  pub weeks-barred : (j p : ℕ) → j < 6 → p < 56 → dayBit 56 (x / 2 ^ 8) p ≡ not (mayClose y (56 * j + p))
+  weeks-barred j p k l = go (lt-or-ge (yearStart y) (yearStart (y + 1)))
+    where
+      go : (yearStart y < yearStart (y + 1)) ⊎ (yearStart (y + 1) ≤ yearStart y) → dayBit 56 (x / 2 ^ 8) p ≡ not (mayClose y (56 * j + p))
+      go (inl h) = barred-weeks y x j p h (b .0 h) k l
+      go (inr h) = shr-day 56 8 x p l ∙ none-open h (56 * j) p (omega arith)
+
+  pub rest-barred : (m c : ℕ) → (yearStart y < yearStart (y + 1) → yearStart (y + 1) ≡ yearStart y + 336 + c) → c ≤ 32 → every 32 (λ p. cond (leb c p) (dayBit 32 m p) (not (dayBit 32 m p))) ≡ true → (p : ℕ) → p < 32 → dayBit 32 (bitOr (x / 2 ^ 32) m) p ≡ not (mayClose y (336 + p))
+  rest-barred m c s k t p l = go (lt-or-ge (yearStart y) (yearStart (y + 1)))
+    where
+      go : (yearStart y < yearStart (y + 1)) ⊎ (yearStart (y + 1) ≤ yearStart y) → dayBit 32 (bitOr (x / 2 ^ 32) m) p ≡ not (mayClose y (336 + p))
+      go (inl h) = barred-rest y x m c p (s h) k (b .0 h) t l
+      go (inr h) = or-day 32 (x / 2 ^ 32) m p ∙ rw (shr-day 32 32 x p l, every-at (dayBit 64 x) 64 p (b .1 h) (omega arith)) (sym (ap not (may-not y (336 + p) (omega arith))))
+
+-- how many days a year that has days has after six times eight weeks
+pub rest-leap : (y : ℕ) → y % 4 ≡ 0 → yearStart y < yearStart (y + 1) → yearStart (y + 1) ≡ yearStart y + 336 + 30
+rest-leap y z h =
+    let (a, b, _, _) = year-days y h in
+    let w : (y - 2000 + 4) / 4 ≡ (y - 2000 + 3) / 4 + 1 = omega arith in
+    omega (arith, year-start-is y a (omega arith), year-start-is (y + 1) (omega arith) (omega arith))
+
+pub rest-other : (y : ℕ) → (y % 4 ≡ 0 → ⊥) → yearStart y < yearStart (y + 1) → yearStart (y + 1) ≡ yearStart y + 336 + 29
+rest-other y z h =
+    let (a, b, _, _) = year-days y h in
+    let w : (y - 2000 + 4) / 4 ≡ (y - 2000 + 3) / 4 = omega arith in
+    omega (arith, year-start-is y a (omega arith), year-start-is (y + 1) (omega arith) (omega arith))
+
 -- a test over the next n numbers
 module _ (f : ℕ → Bool) (m n : ℕ) where
   pub every-split : every m f ≡ true → every (m + n) f ≡ every n (λ j. f (m + j))
@@ -82,34 +112,56 @@ module _ (f : ℕ → Bool) (m n : ℕ) where
   pub every-fails : (k : ℕ) → every n (λ j. f (m + j)) ≡ false → m + n ≤ k → every k f ≡ false
   every-fails k e l = let p = every-one (λ j. f (m + j)) n e in every-not f k (m + p .at) (p .fails) (omega (arith, p .below))
 
--- 5, of day n of the maps k of a year
-abbrev pub mapDay : List ℕ → List ℕ → ℕ → ℕ → ℕ → Bool
-mapDay first second k y n = bitsClean (mayClose y n) (bitAt first (368 * k + n)) (bitAt second (368 * k + n))
+-- 5, of day n of the map k of a year, and of a slot of the maps
+abbrev pub mapDay : List ℕ → ℕ → ℕ → ℕ → Bool
+mapDay map k y n = not (bitAt map (368 * k + n)) || mayClose y n
 
--- the slots of maps k are the days of their year
-pub slots-year : (cal : Calendar) (k y : ℕ) → ((n : ℕ) → n < 368 → mayBeClosed (cal .cover) (368 * k + n) ≡ mayClose y n) → every 368 (λ n. cleanSlot cal (368 * k + n)) ≡ every 368 (mapDay (cal .closed) (cal .exchange) k y)
-slots-year cal k y h =
-    same-test _ _
-    (λ e. every-all (mapDay (cal .closed) (cal .exchange) k y) 368 (λ n l. ap (bits n) (sym (h n l)) ∙ every-at (λ n. cleanSlot cal (368 * k + n)) 368 n e l))
-    (λ e. every-all (λ n. cleanSlot cal (368 * k + n)) 368 (λ n l. ap (bits n) (h n l) ∙ every-at (mapDay (cal .closed) (cal .exchange) k y) 368 n e l))
-  where
-    bits : ℕ → Bool → Bool
-    bits n may = bitsClean may (bitAt (cal .closed) (368 * k + n)) (bitAt (cal .exchange) (368 * k + n))
+abbrev pub slotDay : List ℕ → Cover → ℕ → Bool
+slotDay map c s = not (bitAt map s) || mayBeClosed c s
 
--- the year of map k, by the cover
-module _ (c : Cover) (k n : ℕ) (l : n < 368) where
-  slot-k : mayBeClosed c (368 * k + n) ≡ (ltb k (c .years) && mayClose (c .«first_year» + k) n)
+-- the slots of map k are the days of its year, and those after the last are not closed
+module _ (map : List ℕ) (c : Cover) (n : ℕ) (u : Used c n) where
+  pub slots-year : (k : ℕ) → k < n → every 368 (λ m. slotDay map c (368 * k + m)) ≡ every 368 (mapDay map k (c .«first_year» + k))
+  slots-year k h =
+      every-same (λ m. slotDay map c (368 * k + m)) (mapDay map k (c .«first_year» + k)) 368
+      (λ m l. ap (λ (q : Bool). not (bitAt map (368 * k + m)) || q) (u .here k m h l))
+
+  pub slots-after : every (368 * n) (slotDay map c) ≡ true → every 5888 (slotDay map c) ≡ every (5888 - 368 * n) (λ p. not (bitAt map (368 * n + p)))
+  slots-after h =
+      let e : 5888 ≡ 368 * n + (5888 - 368 * n) = omega (arith, u .most) in
+      ap (λ (m : ℕ). every m (slotDay map c)) e ∙ every-split (slotDay map c) (368 * n) (5888 - 368 * n) h ∙
+      every-same (λ p. slotDay map c (368 * n + p)) (λ p. not (bitAt map (368 * n + p))) (5888 - 368 * n)
+      (λ p l. ap (λ (q : Bool). not (bitAt map (368 * n + p)) || q) (u .beyond (368 * n + p) (omega arith) (omega arith)) ∙ or-false (not (bitAt map (368 * n + p))))
+
+-- 5, of both maps
+pub both-clean : (cal : Calendar) → (every 5888 (slotDay (cal .closed) (cal .cover)) && every 5888 (λ s. not (bitAt (cal .exchange) s) || bitAt (cal .closed) s)) ≡ clean cal
+unfolding clean bitsClean
+both-clean cal = both-every (slotDay (cal .closed) (cal .cover)) (λ s. not (bitAt (cal .exchange) s) || bitAt (cal .closed) s) 5888
+
+-- the maps of a cover
+module _ (c : Cover) where
+  slot-is : (s : ℕ) → mayBeClosed c s ≡ (ltb (s / 368) (c .years) && mayClose (c .«first_year» + s / 368) (s % 368))
   unfolding mayBeClosed
-  slot-k =
-      let a : (368 * k + n) / 368 ≡ k = omega arith in
-      let b : (368 * k + n) % 368 ≡ n = omega arith in
-      rw (a, b)
+  slot-is s = refl
 
-  pub map-none : c .years ≤ k → mayBeClosed c (368 * k + n) ≡ mayClose 2100 n
-  map-none h = slot-k ∙ rw (le-ltb k (c .years) h) (sym (may-past 2100 n (omega arith)))
+  late : (s : ℕ) → 2100 ≤ c .«first_year» + s / 368 → mayBeClosed c s ≡ false
+  late s h = slot-is s ∙ rw (may-past (c .«first_year» + s / 368) (s % 368) h) (and-false (ltb (s / 368) (c .years)))
 
-  pub map-late : 2100 ≤ c .«first_year» → mayBeClosed c (368 * k + n) ≡ mayClose 2100 n
-  map-late h = slot-k ∙ rw (may-past (c .«first_year» + k) n (omega arith)) (and-false (ltb k (c .years))) ∙ sym (may-past 2100 n (omega arith))
+  after : (s : ℕ) → c .years ≤ s / 368 → mayBeClosed c s ≡ false
+  after s h = slot-is s ∙ rw (le-ltb (s / 368) (c .years) h)
 
-  pub map-year : k < c .years → mayBeClosed c (368 * k + n) ≡ mayClose (c .«first_year» + k) n
-  map-year h = slot-k ∙ rw (lt-ltb k (c .years) h)
+  within : (k m : ℕ) → k < c .years → m < 368 → mayBeClosed c (368 * k + m) ≡ mayClose (c .«first_year» + k) m
+  within k m h l =
+      let a : (368 * k + m) / 368 ≡ k = omega arith in
+      let b : (368 * k + m) % 368 ≡ m = omega arith in
+      slot-is (368 * k + m) ∙ rw (a, b, lt-ltb k (c .years) h)
+
+  pub used-none : 2100 ≤ c .«first_year» → Used c 0
+  used-none h =
+      record { most = omega arith; early = λ z. absurd (omega (arith, z)); here = λ k m z. absurd (omega (arith, z)); beyond = λ s z v. late s (omega arith) }
+
+  pub used-years : c .«first_year» < 2100 → c .years ≤ 16 → Used c (c .years)
+  used-years h l = record { most = l; early = λ z. h; here = within; beyond = λ s z v. after s (omega (arith, z)) }
+
+  pub used-all : c .«first_year» < 2100 → 16 < c .years → Used c 16
+  used-all h l = record { most = omega arith; early = λ z. h; here = λ k m z. within k m (omega (arith, z)); beyond = λ s z v. absurd (omega (arith, z, v)) }

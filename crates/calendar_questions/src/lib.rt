@@ -2,18 +2,19 @@
 use calendar::Calendar;
 use calendar::Cover;
 ghost use mathlib.Core.Path.{_≡_};
-ghost use mathlib.Core.Bool.{not, _&&_, cond, true};
+ghost use mathlib.Core.Bool.{not, _&&_, _||_, cond, true};
 ghost use Prim.Native.Nat.{ℕ, _+_, _-_, _*_, _%_, _^_, _≤_, _<_};
-ghost use lib.Bits.{bitAnd, bitOr};
+ghost use lib.Bits.{bitAnd};
 ghost use lib.Dec.{eqb, ltb};
 ghost use lib.ListN.{getD};
 ghost use Rattle.questions.specs.Search.{every};
 ghost use Rattle.days.specs.Gregorian.{weekdayOf};
 ghost use Rattle.days.specs.Dates.{yearStart};
 ghost use Rattle.calendar.specs.Bits.{byteBit, bitAt};
-ghost use Rattle.calendar.specs.Trading.{calendarOfMaps, calendarWith, validCover, coverStart, coverEnd, mayClose, mayBeClosed, bitsClean, clean, everyWeek, closeDay};
+ghost use Rattle.calendar.specs.Trading.{calendarOfMaps, calendarWith, validCover, coverStart, coverEnd, mayClose, mayBeClosed, clean, everyWeek, closeDay};
 ghost use Rattle.calendar.proofs.Weeks.{weeksIn};
 ghost use Rattle.day_words.specs.Words.{dayBit, Shows};
+ghost use Rattle.calendar_questions.specs.Maps.{Barred, Used};
 ghost use Rattle.day_words.proofs.Windows.{Ends, TradesUntil};
 
 // Whether the year has a day n, from 0, and it is a Monday to Friday.
@@ -34,89 +35,85 @@ pub fn may_close(year: u16, n: u16) -> bool
     days::weekday(start + n) < 5
 }
 
-// The year of map k of a calendar; one after 2099, which has no days, where the cover has none.
-fn year_of_map(cover: Cover, k: u16) -> u16
-    requires { ⌜ k < 16 ⌝ }
-    ensures { λ r. ⌜ (r ≤ 2115) × ((n : ℕ) → n < 368 → mayBeClosed cover (368 * k + n) ≡ mayClose r n) ⌝ }
-{
-    let first = cover.first_year;
-    if cover.years <= k {
-        return 2100;
-    }
-    if 2100 <= first {
-        return 2100;
-    }
-    first + k
-}
-
-// The days of eight weeks of a year that may not be closed: the weekends, which are the same in each eight weeks; all where the year has no days.
-fn weeks_barred(year: u16) -> u64
+// The days of 64 from a year's first on that may not be closed: the weekends; all where the year has no days.
+fn year_barred(year: u16) -> u64
     requires { ⌜ year ≤ 2115 ⌝ }
-    ensures { λ r. ⌜ ((j : ℕ) (p : ℕ) → j < 6 → p < 56 → dayBit 56 r p ≡ not (mayClose year (56 * j + p))) ⌝ }
+    ensures { λ r. ⌜ Barred year r ⌝ }
 {
     let start = days::year_start(year);
     if days::year_start(year + 1) <= start {
-        return 0xFFFFFFFFFFFFFF;
+        return 0xFFFFFFFFFFFFFFFF;
     }
-    day_words::weekends_from(start) >> 8
+    day_words::weekends_from(start)
 }
 
-// The days of the rest of its map that may not be closed: the weekends, and the bits after the year's end.
-fn rest_barred(year: u16) -> u64
-    requires { ⌜ year ≤ 2115 ⌝ }
+// The days of the rest of the year's map that may not be closed: these, and the bits after the year's end.
+fn rest_barred(year: u16, barred: u64) -> u64
+    requires { ⌜ Barred year barred ⌝ }
     ensures { λ r. ⌜ ((p : ℕ) → p < 32 → dayBit 32 r p ≡ not (mayClose year (336 + p))) ⌝ }
 {
-    let start = days::year_start(year);
-    let end = days::year_start(year + 1);
-    if end <= start {
-        return 0xFFFFFFFF;
+    if year % 4 == 0 {
+        return barred >> 32 | 3;
     }
-    let weekends = day_words::weekends_from(start) >> 32;
-    if end - start == 366 {
-        return weekends | 3;
-    }
-    weekends | 7
+    barred >> 32 | 7
 }
 
-// Question 5, of a word of each map: the first has no day that may not be closed, the second none that the first has not.
-fn word_is_clean(first: u64, second: u64, barred: u64) -> bool
-    ensures { λ r. ⌜ r ≡ (eqb (bitAnd first barred) 0 && eqb (bitOr first second) first) ⌝ }
+// Whether a word of closed days has no day that may not be closed.
+fn is_apart(word: u64, barred: u64) -> bool
+    ensures { λ r. ⌜ r ≡ eqb (bitAnd word barred) 0 ⌝ }
 {
-    (first & barred == 0) & (first | second == first)
+    word & barred == 0
 }
 
-// The same of the two maps of one year, eight weeks at a time.
-fn year_is_clean<'a>(closed: &'a [u8; 736], exchange: &'a [u8; 736], k: u16, year: u16) -> bool
+// Question 5, of the map of one year, eight weeks at a time, in which the weekends stand at the same bits.
+fn year_is_clean(closed: &[u8; 736], k: u16, year: u16) -> bool
     requires { ⌜ (k < 16) × (year ≤ 2115) ⌝ }
-    ensures { λ r. ⌜ r ≡ every 368 (λ n. bitsClean (mayClose year n) (bitAt (now (closed .entry)) (368 * k + n)) (bitAt (now (exchange .entry)) (368 * k + n))) ⌝ }
+    ensures { λ r. ⌜ r ≡ every 368 (λ n. not (bitAt (now (closed .entry)) (368 * k + n)) || mayClose year n) ⌝ }
 {
-    let barred = weeks_barred(year);
+    let barred = year_barred(year);
     let mut j: u16 = 0;
     while j < 6 {
-        let first = day_words::weeks_of(closed, k, j);
-        let second = day_words::weeks_of(exchange, k, j);
-        if !word_is_clean(first, second, barred) {
+        if !is_apart(day_words::weeks_of(closed, k, j), barred >> 8) {
             return false;
         }
         j += 1;
     }
-    let first = day_words::rest_of(closed, k);
-    let second = day_words::rest_of(exchange, k);
-    word_is_clean(first, second, rest_barred(year))
+    is_apart(day_words::rest_of(closed, k), rest_barred(year, barred))
 }
 
-// The same of every year's maps.
-fn maps_are_clean<'a>(cover: Cover, closed: &'a [u8; 736], exchange: &'a [u8; 736]) -> bool
-    ensures { λ r. ⌜ r ≡ clean (calendarOfMaps cover (now (closed .entry)) (now (exchange .entry))) ⌝ }
+// How many maps may have closed days: one for each year of the cover, of 16; none where it begins after 2099.
+fn maps_used(cover: Cover) -> u16
+    ensures { λ r. ⌜ Used cover r ⌝ }
 {
+    if 2100 <= cover.first_year {
+        return 0;
+    }
+    if 16 < cover.years {
+        return 16;
+    }
+    cover.years
+}
+
+// Question 5, of the first map: only Mondays to Fridays of the cover are closed. The years after the cover's last have no day.
+fn first_is_clean(cover: Cover, closed: &[u8; 736]) -> bool
+    ensures { λ r. ⌜ r ≡ every 5888 (λ s. not (bitAt (now (closed .entry)) s) || mayBeClosed cover s) ⌝ }
+{
+    let used = maps_used(cover);
     let mut k: u16 = 0;
-    while k < 16 {
-        if !year_is_clean(closed, exchange, k, year_of_map(cover, k)) {
+    while k < used {
+        if !year_is_clean(closed, k, cover.first_year + k) {
             return false;
         }
         k += 1;
     }
-    true
+    day_words::is_empty_after(closed, used)
+}
+
+// The same of both maps: the second has only days that the first has.
+fn maps_are_clean<'a>(cover: Cover, closed: &'a [u8; 736], exchange: &'a [u8; 736]) -> bool
+    ensures { λ r. ⌜ r ≡ clean (calendarOfMaps cover (now (closed .entry)) (now (exchange .entry))) ⌝ }
+{
+    first_is_clean(cover, closed) & day_words::is_within(exchange, closed)
 }
 
 // Question 5, of a calendar: only Mondays to Fridays of the cover are closed, and only closed days are in the second map.

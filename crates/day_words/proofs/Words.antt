@@ -1,6 +1,6 @@
 -- Laws of the bits of words: two words side by side, the bytes of a map, an and that is zero, seven in a row.
 -- Assumes nothing.
-use mathlib.Core.Path.{_≡_, refl, _∙_, sym, ap, ap₂}
+use mathlib.Core.Path.{_≡_, refl, _∙_, sym, ap}
 use mathlib.Core.Bool.{Bool, true, false, not, _&&_, _||_, cond}
 use mathlib.Core.Logic.{_⊎_, inl, inr}
 use mathlib.Core.List.{List}
@@ -16,7 +16,6 @@ use Rattle.questions.specs.Search.{every}
 use Rattle.questions.proofs.Bools.{clash, both, and-fst, and-snd, and-both, same-test, lt-or-ge}
 use Rattle.questions.proofs.Search.{every-at, every-all}
 use Rattle.calendar.specs.Bits.{byteBit, bitAt}
-use Rattle.calendar.specs.Trading.{bitsClean}
 use Rattle.day_words.specs.Words.{dayBit, Shows, bytesFrom, weekendDay, SevenFree}
 
 -- a number's lower m bits keep their bits
@@ -71,7 +70,7 @@ same-bits (suc w) x y a b h =
     one n = omega arith
 
 -- a number below 2^w with no bit is 0
-all-zero : (w y : ℕ) → y < 2 ^ w → ((j : ℕ) → j < w → y / 2 ^ j % 2 ≡ 0) → y ≡ 0
+pub all-zero : (w y : ℕ) → y < 2 ^ w → ((j : ℕ) → j < w → y / 2 ^ j % 2 ≡ 0) → y ≡ 0
 all-zero w y l h = same-bits w y 0 l (pow-pos w) (λ j k. h j k ∙ sym (ap (λ (n : ℕ). n % 2) (zero-div (2 ^ j))))
 
 -- a bit of an and, of an or
@@ -277,12 +276,12 @@ weekend-is v x p h = go (ltb ((v + p) % 7) 5) (dayBit 64 x p) h
     go false b h = h
 
 -- tests that agree below n
-every-same : (f g : ℕ → Bool) (n : ℕ) → ((k : ℕ) → k < n → f k ≡ g k) → every n f ≡ every n g
+pub every-same : (f g : ℕ → Bool) (n : ℕ) → ((k : ℕ) → k < n → f k ≡ g k) → every n f ≡ every n g
 every-same f g n h =
     same-test _ _ (λ e. every-all g n (λ k l. sym (h k l) ∙ every-at f n k e l)) (λ e. every-all f n (λ k l. h k l ∙ every-at g n k e l))
 
 -- a word of a map has no day of a mask of the days that may not be closed
-word-clean : (map : List ℕ) (may : ℕ → Bool) (base n w x m : ℕ) → x < 2 ^ w → Shows map (base + n) w x → ((p : ℕ) → p < w → dayBit w m p ≡ not (may (n + p))) → eqb (bitAnd x m) 0 ≡ every w (λ p. not (bitAt map (base + (n + p))) || may (n + p))
+pub word-clean : (map : List ℕ) (may : ℕ → Bool) (base n w x m : ℕ) → x < 2 ^ w → Shows map (base + n) w x → ((p : ℕ) → p < w → dayBit w m p ≡ not (may (n + p))) → eqb (bitAnd x m) 0 ≡ every w (λ p. not (bitAt map (base + (n + p))) || may (n + p))
 word-clean map may base n w x m l s b =
     apart w x m l ∙
     every-same (λ p. not (dayBit w x p) || not (dayBit w m p)) (λ p. not (bitAt map (base + (n + p))) || may (n + p)) w
@@ -295,32 +294,16 @@ word-clean map may base n w x m l s b =
     twice false = refl
 
 -- two tests as one
-both-every : (f g : ℕ → Bool) (n : ℕ) → (every n f && every n g) ≡ every n (λ k. f k && g k)
+pub both-every : (f g : ℕ → Bool) (n : ℕ) → (every n f && every n g) ≡ every n (λ k. f k && g k)
 both-every f g n =
     same-test _ _
     (λ e. let (a, b) = both (every n f) (every n g) e in every-all (λ k. f k && g k) n (λ k l. and-both (every-at f n k a l) (every-at g n k b l)))
     (λ e. and-both (every-all f n (λ k l. and-fst (f k) (g k) (every-at (λ k. f k && g k) n k e l))) (every-all g n (λ k l. and-snd (f k) (g k) (every-at (λ k. f k && g k) n k e l))))
 
--- question 5 of a word of each map
-module _ (first second : List ℕ) (may : ℕ → Bool) (base n w x y m : ℕ) (l : x < 2 ^ w) (k : y < 2 ^ w) (s : Shows first (base + n) w x) (t : Shows second (base + n) w y) where
-  second-within : eqb (bitOr x y) x ≡ every w (λ p. not (bitAt second (base + (n + p))) || bitAt first (base + (n + p)))
-  second-within =
-      within w x y l k ∙
-      every-same (λ p. not (dayBit w y p) || dayBit w x p) (λ p. not (bitAt second (base + (n + p))) || bitAt first (base + (n + p))) w
-      (λ p h.
-      let e : base + n + p ≡ base + (n + p) = omega arith in
-      rw (s p h ∙ ap (bitAt first) e, t p h ∙ ap (bitAt second) e))
-
-  pub words-clean : ((p : ℕ) → p < w → dayBit w m p ≡ not (may (n + p))) → (eqb (bitAnd x m) 0 && eqb (bitOr x y) x) ≡ every w (λ p. bitsClean (may (n + p)) (bitAt first (base + (n + p))) (bitAt second (base + (n + p))))
-  unfolding bitsClean
-  words-clean b =
-      ap₂ _&&_ (word-clean first may base n w x m l s b) second-within ∙
-      both-every (λ p. not (bitAt first (base + (n + p))) || may (n + p)) (λ p. not (bitAt second (base + (n + p))) || bitAt first (base + (n + p))) w
-
 -- every bit of a mask of ones
-pub all-days : (every 56 (dayBit 56 0xFFFFFFFFFFFFFF) ≡ true) × (every 32 (dayBit 32 0xFFFFFFFF) ≡ true)
+pub all-days : every 64 (dayBit 64 0xFFFFFFFFFFFFFFFF) ≡ true
 unfolding every
-all-days = (refl, refl)
+all-days = refl
 
 -- the last days of a word of 32
 pub last-days : (every 32 (λ p. cond (leb 30 p) (dayBit 32 3 p) (not (dayBit 32 3 p))) ≡ true) × (every 32 (λ p. cond (leb 29 p) (dayBit 32 7 p) (not (dayBit 32 7 p))) ≡ true)

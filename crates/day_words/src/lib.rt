@@ -1,8 +1,11 @@
-// Words of days: eight weeks of a year's map of closed days as one number, the first day the highest bit. The compiler reads the bytes of a word at once.
+// Words of days: eight weeks of a year's map of closed days as one number, the first day the highest bit; and the bytes of whole maps. The compiler reads the bytes of a word at once, and many bytes of a map.
 ghost use mathlib.Core.Path.{_≡_};
-ghost use mathlib.Core.Bool.{true};
-ghost use Prim.Native.Nat.{_+_, _*_, _^_, _≤_, _<_};
+ghost use mathlib.Core.Bool.{true, not, _||_};
+ghost use Prim.Native.Nat.{_+_, _-_, _*_, _^_, _≤_, _<_};
+ghost use lib.Dec.{eqb};
+ghost use lib.ListN.{getD};
 ghost use Rattle.questions.specs.Search.{every};
+ghost use Rattle.calendar.specs.Bits.{byteBit, bitAt};
 ghost use Rattle.day_words.specs.Words.{Shows, bytesFrom, Weekends, weekendDay, Moved, SevenFree};
 
 fn wide(byte: u8) -> u64
@@ -106,4 +109,62 @@ pub fn no_seven(x: u64) -> bool
     let two = x & (x >> 1);
     let four = two & (two >> 2);
     four & (four >> 3) == 0
+}
+
+// A byte of a map, 0 where it has no day.
+fn days_of(byte: u8) -> u8
+    ensures { λ r. ⌜ eqb r 0 ≡ every 8 (λ p. not (byteBit byte p)) ⌝ }
+{
+    byte
+}
+
+// The days that the bytes of a map from a place on have together. The compiler reads many bytes at once.
+fn days_from(map: &[u8; 736], at: usize) -> u8
+    requires { ⌜ at ≤ 736 ⌝ }
+    ensures { λ r. ⌜ eqb r 0 ≡ every (736 - at) (λ k. every 8 (λ p. not (byteBit (getD (now (map .entry)) (at + k) 0) p))) ⌝ }
+{
+    let mut days: u8 = 0;
+    let mut i = at;
+    while i < 736 {
+        days = days | days_of(map[i]);
+        i += 1;
+    }
+    days
+}
+
+// Whether a map has no day after its first k years.
+pub fn is_empty_after(map: &[u8; 736], k: u16) -> bool
+    ensures { λ r. ⌜ r ≡ every (5888 - 368 * k) (λ p. not (bitAt (now (map .entry)) (368 * k + p))) ⌝ }
+{
+    if 16 <= k {
+        return true;
+    }
+    days_from(map, 46 * (k as usize)) == 0
+}
+
+// The days of the second of two bytes that the first has not.
+fn days_beyond(first: u8, second: u8) -> u8
+    ensures { λ r. ⌜ eqb r 0 ≡ every 8 (λ p. not (byteBit second p) || byteBit first p) ⌝ }
+{
+    (first | second) - first
+}
+
+// The same of all bytes of two maps together. The compiler reads many bytes at once.
+fn all_beyond<'a>(first: &'a [u8; 736], second: &'a [u8; 736]) -> u8
+    ensures { λ r. ⌜ eqb r 0 ≡ every 736 (λ k. every 8 (λ p. not (byteBit (getD (now (second .entry)) k 0) p) || byteBit (getD (now (first .entry)) k 0) p)) ⌝ }
+{
+    let mut days: u8 = 0;
+    let mut i: usize = 0;
+    while i < 736 {
+        days = days | days_beyond(first[i], second[i]);
+        i += 1;
+    }
+    days
+}
+
+// Whether a map has only days that another has.
+pub fn is_within<'a>(second: &'a [u8; 736], first: &'a [u8; 736]) -> bool
+    ensures { λ r. ⌜ r ≡ every 5888 (λ s. not (bitAt (now (second .entry)) s) || bitAt (now (first .entry)) s) ⌝ }
+{
+    all_beyond(first, second) == 0
 }

@@ -1,29 +1,29 @@
-use Rattle.calendar_questions.proofs.Maps.{mapDay, every-split, every-fails}
-use Rattle.day_words.proofs.Words.{words-clean}
+use Rattle.calendar_questions.proofs.Maps.{mapDay, weeks-barred, every-split, every-fails}
+use Rattle.day_words.proofs.Words.{word-clean}
 use Rattle.questions.specs.Search.{every}
 use Rattle.questions.proofs.Bools.{said-no, said-yes}
 use Rattle.questions.proofs.Search.{every-none, every-add}
 use Rattle.calendar.specs.Trading.{mayClose}
 use mathlib.Core.Bool.{Bool, true}
 use mathlib.Core.Path.{_≡_, _∙_, sym, ap}
-use Prim.Native.Nat.{ℕ, _+_, _-_, _*_, _≤_}
+use Prim.Native.Nat.{ℕ, _+_, _-_, _*_, _/_, _^_, _≤_}
 use native.Mathlib.Omega.{arith}
 use Rattle.calendar_questions.proofs.year_is_clean.Statement.{statement}
 use Rattle.calendar_questions.proofs.year_is_clean.Tie as tie
+use Rattle.calendar_questions.proofs.is_apart.Reads as is-apart-reads
 use Rattle.calendar_questions.proofs.rest_barred.Reads as rest-barred-reads
-use Rattle.calendar_questions.proofs.weeks_barred.Reads as weeks-barred-reads
-use Rattle.calendar_questions.proofs.word_is_clean.Reads as word-is-clean-reads
+use Rattle.calendar_questions.proofs.year_barred.Reads as year-barred-reads
 use Rattle.day_words.proofs.rest_of.Reads as rest-of-reads
 use Rattle.day_words.proofs.weeks_of.Reads as weeks-of-reads
 
 abbrev Inv-loop : tie.InvT-loop
-Inv-loop closed exchange k year barred j₀ j = (j ≤ 6) × (every (56 * j) (mapDay closed exchange k year) ≡ true)
+Inv-loop closed k year barred j₀ j = (j ≤ 6) × (every (56 * j) (mapDay closed k year) ≡ true)
 
 abbrev μ-loop : tie.MeasureT-loop
-μ-loop closed exchange k year barred j₀ j = 6 - j
+μ-loop closed k year barred j₀ j = 6 - j
 
-weeks-barred-requires : tie.Need-weeks-barred-requires Inv-loop μ-loop
-weeks-barred-requires c κs = c .pre .1
+year-barred-requires : tie.Need-year-barred-requires Inv-loop μ-loop
+year-barred-requires c κs = c .pre .1
 
 loop-holds : tie.Need-loop-holds Inv-loop μ-loop
 loop-holds c = (omega arith, every-none _)
@@ -31,33 +31,30 @@ loop-holds c = (omega arith, every-none _)
 weeks-of-requires : tie.Need-weeks-of-requires Inv-loop μ-loop
 weeks-of-requires c κs = tt
 
-weeks-of-requires-2 : tie.Need-weeks-of-requires-2 Inv-loop μ-loop
-weeks-of-requires-2 c κs = tt
-
-word-is-clean-requires : tie.Need-word-is-clean-requires Inv-loop μ-loop
-word-is-clean-requires c κs = tt
+is-apart-requires : tie.Need-is-apart-requires Inv-loop μ-loop
+is-apart-requires c κs = tt
 
 -- question 5 of the day n of the year
-abbrev day-clean : tie.After-word-is-clean Inv-loop μ-loop → ℕ → Bool
+abbrev day-clean : tie.After-is-apart Inv-loop μ-loop → ℕ → Bool
 day-clean c n =
-    let start = c .before .before .before .before .before .before in
-    mapDay (start .args .closed .now) (start .args .exchange .now) (start .args .k) (start .args .year) n
+    let start = c .before .before .before .before .before in
+    mapDay (start .args .closed .now) (start .args .k) (start .args .year) n
 
--- the words of eight weeks that the loop looks at
-abbrev j-at : tie.After-word-is-clean Inv-loop μ-loop → ℕ
-j-at c = c .before .before .before .before .loop .j
+-- the word of eight weeks that the loop looks at
+abbrev j-at : tie.After-is-apart Inv-loop μ-loop → ℕ
+j-at c = c .before .before .before .loop .j
 
-weeks-clean : (c : tie.After-word-is-clean Inv-loop μ-loop) → c .word-is-clean .result ≡ every 56 (λ p. day-clean c (56 * j-at c + p))
+weeks-clean : (c : tie.After-is-apart Inv-loop μ-loop) → c .is-apart .result ≡ every 56 (λ p. day-clean c (56 * j-at c + p))
 weeks-clean c =
-    let at-first = c .before .before in
-    let at-loop = at-first .before .before in
+    let at-weeks = c .before in
+    let at-loop = at-weeks .before .before in
     let at-barred = at-loop .before in
     let start = at-barred .before in
-    let l = at-first .before .loop-test .taken in
-    c .word-is-clean .ensures ∙
-    words-clean (start .args .closed .now) (start .args .exchange .now) (mayClose (start .args .year)) (368 * start .args .k) (56 * at-loop .loop .j) 56 (at-first .weeks-of .result) (c .before .weeks-of2 .result) (at-barred .weeks-barred .result)
-    (at-first .weeks-of .ensures .1) (c .before .weeks-of2 .ensures .1) (at-first .weeks-of .ensures .0 (start .pre .0) l) (c .before .weeks-of2 .ensures .0 (start .pre .0) l)
-    (λ p h. at-barred .weeks-barred .ensures (at-loop .loop .j) p l h)
+    let l = at-weeks .before .loop-test .taken in
+    let barred = at-barred .year-barred .result in
+    c .is-apart .ensures ∙
+    word-clean (start .args .closed .now) (mayClose (start .args .year)) (368 * start .args .k) (56 * at-loop .loop .j) 56 (at-weeks .weeks-of .result) (barred / 2 ^ 8) (at-weeks .weeks-of .ensures .1) (at-weeks .weeks-of .ensures .0 (start .pre .0) l)
+    (λ p h. weeks-barred (start .args .year) barred (at-barred .year-barred .ensures) (at-loop .loop .j) p l h)
 
 returns : tie.Need-returns Inv-loop μ-loop
 returns c = sym (every-fails (day-clean (c .before)) (56 * j-at (c .before)) 56 368 (said-no (weeks-clean (c .before)) (c .if1 .taken)) (omega arith))
@@ -70,7 +67,7 @@ loop-less c = omega arith
 
 loop-again : tie.Need-loop-again Inv-loop μ-loop
 loop-again c =
-    let at-loop = c .before .before .before .before .before in
+    let at-loop = c .before .before .before .before in
     let j = at-loop .loop .j in
     let e : 56 * (j + 1) ≡ 56 * j + 56 = omega arith in
     (omega arith, ap (λ (n : ℕ). every n (day-clean (c .before))) e ∙ every-add (day-clean (c .before)) (56 * j) 56 (at-loop .loop .inv .1) (said-yes (weeks-clean (c .before)) (c .if1 .left)))
@@ -78,32 +75,25 @@ loop-again c =
 rest-of-requires : tie.Need-rest-of-requires Inv-loop μ-loop
 rest-of-requires c κs = tt
 
-rest-of-requires-2 : tie.Need-rest-of-requires-2 Inv-loop μ-loop
-rest-of-requires-2 c κs = tt
-
 rest-barred-requires : tie.Need-rest-barred-requires Inv-loop μ-loop
-rest-barred-requires c κs = c .before .before .before .before .before .pre .1
+rest-barred-requires c κs = c .before .before .before .year-barred .ensures
 
-word-is-clean-requires-2 : tie.Need-word-is-clean-requires-2 Inv-loop μ-loop
-word-is-clean-requires-2 c κs = tt
+is-apart-requires-2 : tie.Need-is-apart-requires-2 Inv-loop μ-loop
+is-apart-requires-2 c κs = tt
 
 returns-2 : tie.Need-returns-2 Inv-loop μ-loop
 returns-2 c =
     let at-barred = c .before in
-    let at-second = at-barred .before in
-    let at-first = at-second .before in
-    let at-loop = at-first .before .before in
+    let at-rest = at-barred .before in
+    let at-loop = at-rest .before .before in
     let start = at-loop .before .before in
-    let first = start .args .closed .now in
-    let second = start .args .exchange .now in
+    let map = start .args .closed .now in
     let k = start .args .k in
     let y = start .args .year in
-    let e : 56 * at-loop .loop .j ≡ 336 = omega (arith, at-first .before .loop-test .left) in
-    c .word-is-clean2 .ensures ∙
-    words-clean first second (mayClose y) (368 * k) 336 32 (at-first .rest-of .result) (at-second .rest-of2 .result) (at-barred .rest-barred .result)
-    (at-first .rest-of .ensures .1) (at-second .rest-of2 .ensures .1) (at-first .rest-of .ensures .0 (start .pre .0)) (at-second .rest-of2 .ensures .0 (start .pre .0))
-    (at-barred .rest-barred .ensures) ∙
-    sym (every-split (mapDay first second k y) 336 32 (rw e at (at-loop .loop .inv .1)))
+    let e : 56 * at-loop .loop .j ≡ 336 = omega (arith, at-rest .before .loop-test .left) in
+    c .is-apart2 .ensures ∙
+    word-clean map (mayClose y) (368 * k) 336 32 (at-rest .rest-of .result) (at-barred .rest-barred .result) (at-rest .rest-of .ensures .1) (at-rest .rest-of .ensures .0 (start .pre .0)) (at-barred .rest-barred .ensures) ∙
+    sym (every-split (mapDay map k y) 336 32 (rw e at (at-loop .loop .inv .1)))
 
 pub year-is-clean-spec : {M : Type 1} → statement M
 year-is-clean-spec =
@@ -111,17 +101,15 @@ year-is-clean-spec =
     (tie.spec
     Inv-loop
     μ-loop
-    weeks-barred-requires
+    year-barred-requires
     loop-holds
     weeks-of-requires
-    weeks-of-requires-2
-    word-is-clean-requires
+    is-apart-requires
     returns
     add-j
     loop-less
     loop-again
     rest-of-requires
-    rest-of-requires-2
     rest-barred-requires
-    word-is-clean-requires-2
+    is-apart-requires-2
     returns-2)
