@@ -29,7 +29,7 @@ fn month_lines(cal: Calendar, group: [u8; 4]) {
 fn put_maturities(maturities: [Maturity; 15]) {
     for i in 0..15usize {
         let m = maturities[i];
-        put(m.month);
+        put(m.key);
         put(m.day);
         put(m.back);
         put(m.number);

@@ -46,6 +46,6 @@ once-append (x ∷ xs) ys o q h =
     s = both (not (oneOf xs x)) (once xs) o
 
 -- the months of a rising list
-pub once-months : (ms : List Maturity) → Rising ms → once (map (λ m. m .month) ms) ≡ true
+pub once-months : (ms : List Maturity) → Rising ms → once (map (λ m. m .key) ms) ≡ true
 once-months [] rises = refl
-once-months (m ∷ ms) rises = and-both {a = not (oneOf (map (λ m. m .month) ms) (m .month))} (rw (← listed-one ms (m .month), rising-once m ms rises)) (once-months ms (rising-tail m ms rises))
+once-months (m ∷ ms) rises = and-both {a = not (oneOf (map (λ m. m .key) ms) (m .key))} (rw (← listed-one ms (m .key), rising-once m ms rises)) (once-months ms (rising-tail m ms rises))

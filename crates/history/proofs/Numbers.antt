@@ -21,7 +21,7 @@ use Rattle.places.proofs.Renumbering.{with-numbers, number-with, with-same, num
 
 -- a maturity by its key, with last trading days and numbers
 abbrev pub mat : (ℕ → LastDay) → (ℕ → ℕ) → ℕ → Maturity
-mat dy nu k = record { month = k; day = dy k .day; back = dy k .back; number = nu k }
+mat dy nu k = record { key = k; day = dy k .day; back = dy k .back; number = nu k }
 
 -- the keys of q that p has not
 abbrev pub but : (ℕ → Bool) → (ℕ → Bool) → ℕ → Bool
@@ -67,13 +67,13 @@ one-append (k ∷ ks) js x = rw (one-append ks js x) (go (eqb x k))
     go false = refl
 
 -- a month is listed where it is one of the months
-pub listed-one : (ms : List Maturity) (x : ℕ) → isListed ms x ≡ oneOf (map (λ m. m .month) ms) x
+pub listed-one : (ms : List Maturity) (x : ℕ) → isListed ms x ≡ oneOf (map (λ m. m .key) ms) x
 unfolding isListed oneOf
 listed-one [] x = refl
-listed-one (m ∷ ms) x = rw (eqb-either (m .month) x, listed-one ms x)
+listed-one (m ∷ ms) x = rw (eqb-either (m .key) x, listed-one ms x)
 
 module _ (dy : ℕ → LastDay) (nu : ℕ → ℕ) where
-  months-of : (ks : List ℕ) → map (λ m. m .month) (map (mat dy nu) ks) ≡ ks
+  months-of : (ks : List ℕ) → map (λ m. m .key) (map (mat dy nu) ks) ≡ ks
   months-of [] = refl
   months-of (k ∷ ks) = ap (_∷_ k) (months-of ks)
 

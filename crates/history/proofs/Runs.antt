@@ -84,7 +84,7 @@ module _ (p : Product) where
       -- 'Numbers given = months listed + months that left'
       moved-total : moved-book .given ≡ length (moved-book .maturities) + length (moved-book .gone)
       unfolding bookMoved
-      moved-total = rw same (omega (arith, I .total, moved-on .balance, length-append (b .gone) (map (λ m. m .month) left), length-map left (λ m. m .month)))
+      moved-total = rw same (omega (arith, I .total, moved-on .balance, length-append (b .gone) (map (λ m. m .key) left), length-map left (λ m. m .key)))
 
       -- every month that was listed is listed or has left
       moved-stays : (k : ℕ) → known b k ≡ true → known moved-book k ≡ true
@@ -93,7 +93,7 @@ module _ (p : Product) where
           rw (
             same,
             moved-on .listed k,
-            one-append (b .gone) (map (λ m. m .month) left) k,
+            one-append (b .gone) (map (λ m. m .key) left) k,
             ← listed-one left k,
             moved-on .left .holds k,
           )
@@ -106,22 +106,22 @@ module _ (p : Product) where
           go false false false e = e
 
       -- a month that left
-      left-one : (k : ℕ) → oneOf (map (λ m. m .month) left) k ≡ true → (frontIn p b ≤ k) × (k < front (ruleIn p b) cal date)
+      left-one : (k : ℕ) → oneOf (map (λ m. m .key) left) k ≡ true → (frontIn p b ≤ k) × (k < front (ruleIn p b) cal date)
       left-one k e = moved-on .between k (listed-one left k ∙ e)
 
       moved-past : (k : ℕ) → oneOf (moved-book .gone) k ≡ true → k < frontIn p moved-book
       unfolding bookMoved
       moved-past k e =
-          rw same (side (or-either (oneOf (b .gone) k) (oneOf (map (λ m. m .month) left) k) (rw (same, one-append (b .gone) (map (λ m. m .month) left) k) at e)))
+          rw same (side (or-either (oneOf (b .gone) k) (oneOf (map (λ m. m .key) left) k) (rw (same, one-append (b .gone) (map (λ m. m .key) left) k) at e)))
         where
-          side : (oneOf (b .gone) k ≡ true) ⊎ (oneOf (map (λ m. m .month) left) k ≡ true) → k < front (ruleIn p b) cal date
+          side : (oneOf (b .gone) k ≡ true) ⊎ (oneOf (map (λ m. m .key) left) k ≡ true) → k < front (ruleIn p b) cal date
           side (inl t) = omega (arith, I .past k t)
           side (inr t) = left-one k t .1
 
       moved-apart : once (moved-book .gone) ≡ true
       unfolding bookMoved
       moved-apart =
-          rw same (once-append (b .gone) (map (λ m. m .month) left) (I .apart) (once-months left (moved-on .left .rising)) (λ k e t. omega (arith, I .past k e, left-one k t .0)))
+          rw same (once-append (b .gone) (map (λ m. m .key) left) (I .apart) (once-months left (moved-on .left .rising)) (λ k e t. omega (arith, I .past k e, left-one k t .0)))
 
       book-moved : Later p b nu moved-book
       unfolding bookMoved

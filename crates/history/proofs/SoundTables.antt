@@ -40,20 +40,20 @@ use Rattle.history.proofs.Tables.{table-answer}
 number-listed : (ms : List Maturity) (k : ℕ) → 1 ≤ numberOf ms k → isListed ms k ≡ true
 unfolding numberOf isListed
 number-listed [] k h = absurd (omega arith)
-number-listed (m ∷ ms) k h = go (eqb (m .month) k) h (number-listed ms k)
+number-listed (m ∷ ms) k h = go (eqb (m .key) k) h (number-listed ms k)
   where
     go : (b : Bool) → 1 ≤ cond b (m .number) (numberOf ms k) → (1 ≤ numberOf ms k → isListed ms k ≡ true) → (b || isListed ms k) ≡ true
     go true h ih = refl
     go false h ih = ih h
 
 -- where months differ, the number of the month in a place is the place's
-number-place : (ms : List Maturity) (i : ℕ) → i < length ms → ((j : ℕ) → j < i → getD ms j unused .month ≡ getD ms i unused .month → ⊥)
-    → numberOf ms (getD ms i unused .month) ≡ getD ms i unused .number
+number-place : (ms : List Maturity) (i : ℕ) → i < length ms → ((j : ℕ) → j < i → getD ms j unused .key ≡ getD ms i unused .key → ⊥)
+    → numberOf ms (getD ms i unused .key) ≡ getD ms i unused .number
 unfolding numberOf
 number-place [] i h apart = absurd (omega arith)
-number-place (m ∷ ms) zero h apart = rw (eq-eqb (m .month) (m .month) refl)
+number-place (m ∷ ms) zero h apart = rw (eq-eqb (m .key) (m .key) refl)
 number-place (m ∷ ms) (suc i) h apart =
-    rw (ne-eqb (m .month) (getD ms i unused .month) (apart 0 (omega arith)))
+    rw (ne-eqb (m .key) (getD ms i unused .key) (apart 0 (omega arith)))
     (number-place ms i (omega arith) (λ j l. apart (suc j) (omega arith)))
 
 -- what question 10 asks
@@ -114,17 +114,17 @@ module _ (t : Table) (s : Sound t) where
   last i = lastOf r (t .calendar) (key i)
 
   -- the month, the day and the days stepped back are the fresh listing's
-  same-in : (i : ℕ) → i < n → (in-place i .month ≡ key i) × (in-place i .day ≡ last i .day) × (in-place i .back ≡ last i .back)
+  same-in : (i : ℕ) → i < n → (in-place i .key ≡ key i) × (in-place i .day ≡ last i .day) × (in-place i .back ≡ last i .back)
   unfolding listsFresh
   same-in i h =
       let l : i < 15 = omega (arith, places-most (t .product .kind)) in
       let e : sameMaturity (in-place i) (getD (places15 (fresh r (t .calendar) (t .date))) i unused) ≡ true = both _ _ (every-at _ 15 i (s .lists) l) .0 in
-      let (a, f) = both (eqb (in-place i .month) (key i)) (eqb (in-place i .day) (last i .day) && eqb (in-place i .back) (last i .back)) (rw (fresh-in i h) at e) in
+      let (a, f) = both (eqb (in-place i .key) (key i)) (eqb (in-place i .day) (last i .day) && eqb (in-place i .back) (last i .back)) (rw (fresh-in i h) at e) in
       let (b, c) = both (eqb (in-place i .day) (last i .day)) (eqb (in-place i .back) (last i .back)) f in
-      (eqb-true (in-place i .month) (key i) a, eqb-true (in-place i .day) (last i .day) b, eqb-true (in-place i .back) (last i .back) c)
+      (eqb-true (in-place i .key) (key i) a, eqb-true (in-place i .day) (last i .day) b, eqb-true (in-place i .back) (last i .back) c)
 
   -- so they are those that are worked out for the month
-  last-in : (i : ℕ) → i < n → _≡_ {A = LastDay} (record { day = in-place i .day; back = in-place i .back }) (workedOut (t .calendar) (t .product .group) (in-place i .month))
+  last-in : (i : ℕ) → i < n → _≡_ {A = LastDay} (record { day = in-place i .day; back = in-place i .back }) (workedOut (t .calendar) (t .product .group) (in-place i .key))
   unfolding monthly workedOut lastTradingDay
   last-in i h = rw (same-in i h .0, same-in i h .1, same-in i h .2)
 
@@ -172,15 +172,15 @@ module _ (t : Table) (s : Sound t) where
   -- the number of the month in a place
   number-key : (i : ℕ) → i < n → numberOf (listedIn t) (key i) ≡ in-place i .number
   number-key i h =
-      let q : getD (listedIn t) i unused .month ≡ key i = ap (λ (m : Maturity). m .month) (listed-at i h) ∙ same-in i h .0 in
+      let q : getD (listedIn t) i unused .key ≡ key i = ap (λ (m : Maturity). m .key) (listed-at i h) ∙ same-in i h .0 in
       ap (numberOf (listedIn t)) (sym q) ∙ number-place (listedIn t) i (omega (arith, listed-long)) (λ j l e. rises j l (e ∙ q))
       ∙ ap (λ (m : Maturity). m .number) (listed-at i h)
     where
-      rises : (j : ℕ) → j < i → getD (listedIn t) j unused .month ≡ key i → ⊥
+      rises : (j : ℕ) → j < i → getD (listedIn t) j unused .key ≡ key i → ⊥
       rises j l e =
           omega (
             arith,
-            ap (λ (m : Maturity). m .month) (listed-at j (omega arith)),
+            ap (λ (m : Maturity). m .key) (listed-at j (omega arith)),
             same-in j (omega arith) .0,
             keys-rise r w (t .calendar) (t .date) j i l (omega (arith, as-many)),
           )
@@ -201,15 +201,15 @@ module _ (t : Table) (s : Sound t) where
   record Placed (k : ℕ) : Type 0 where
     place : ℕ
     below : place < n
-    month : key place ≡ k
+    named : key place ≡ k
     number : numberOf (listedIn t) k ≡ in-place place .number
 
   placed-at : (k : ℕ) → isListed (listedIn t) k ≡ true → Placed k
   placed-at k e =
       let q = place-of (listedIn t) k e in
       let h : q .place < n = omega (arith, q .below, listed-long) in
-      let m : key (q .place) ≡ k = sym (same-in (q .place) h .0) ∙ sym (ap (λ (m : Maturity). m .month) (listed-at (q .place) h)) ∙ q .month in
-      record { place = q .place; below = h; month = m; number = ap (numberOf (listedIn t)) (sym m) ∙ number-key (q .place) h }
+      let m : key (q .place) ≡ k = sym (same-in (q .place) h .0) ∙ sym (ap (λ (m : Maturity). m .key) (listed-at (q .place) h)) ∙ q .key in
+      record { place = q .place; below = h; named = m; number = ap (numberOf (listedIn t)) (sym m) ∙ number-key (q .place) h }
 
   listed-is : (k : ℕ) → isListed (listedIn t) k ≡ now r (t .calendar) (t .date) k
   listed-is k = ap (λ (ms : List Maturity). isListed ms k) listing-is ∙ listed-now r w (t .calendar) (t .date) (numberOf (listedIn t)) k
@@ -236,7 +236,7 @@ module _ (t : Table) (s : Sound t) where
           let u : a .place < b .place → ⊥ = λ l. number-in (b .place) (b .below) .apart (a .place) l c in
           let v : b .place < a .place → ⊥ = λ l. number-in (a .place) (a .below) .apart (b .place) l (sym c) in
           let q : a .place ≡ b .place = omega arith in
-          sym (a .month) ∙ ap key q ∙ b .month
+          sym (a .named) ∙ ap key q ∙ b .named
 
   numbered : Numbered r (t .calendar) (t .date) (listedIn t) (t .given) (numberOf (listedIn t))
   numbered = record {
@@ -297,7 +297,7 @@ module _ (t : Table) (e : sound t ≡ true) where
 
   -- 'a sound table has it right': the day and the days stepped back of each maturity are those that are worked out (02, note 2)
   pub last-right : (i : ℕ) → i < placesOfKind (t .product .kind)
-      → _≡_ {A = LastDay} (record { day = getD (t .maturities) i unused .day; back = getD (t .maturities) i unused .back }) (workedOut (t .calendar) (t .product .group) (getD (t .maturities) i unused .month))
+      → _≡_ {A = LastDay} (record { day = getD (t .maturities) i unused .day; back = getD (t .maturities) i unused .back }) (workedOut (t .calendar) (t .product .group) (getD (t .maturities) i unused .key))
   last-right = last-in t (sounds t e)
 
   -- 'the number of days it stepped back from the anchor, 0 to 6' (02, note 2)

@@ -71,7 +71,7 @@ bookMoved kind group b cal date =
       date = date;
       maturities = renumbered (b .maturities) (b .given) fresh;
       given = b .given + length (missing fresh (b .maturities));
-      gone = b .gone ++ map (λ m. m .month) (missing (b .maturities) fresh);
+      gone = b .gone ++ map (λ m. m .key) (missing (b .maturities) fresh);
     }
 
 -- 'The call's two counts are the months that entered and that left in it'

@@ -39,7 +39,7 @@ places-least (Option Months60) = lit≤ tt
 
 -- a month as the code lists it
 abbrev pub matOf : Calendar → List ℕ → ℕ → Maturity
-matOf cal group m = record { month = m; day = workedOut cal group m .day; back = workedOut cal group m .back; number = 0 }
+matOf cal group m = record { key = m; day = workedOut cal group m .day; back = workedOut cal group m .back; number = 0 }
 
 module _ (cal : Calendar) (kind : Kind) (group : List ℕ) (date : ℕ) where
   -- the whole walk of the code is the definition's listing

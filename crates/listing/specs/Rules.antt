@@ -78,11 +78,11 @@ lastOf r cal k = steppedTo (r .anchor k) (lastDayOf r cal k)
 
 -- a maturity: 'month, last trading day, listing number', and the days stepped back: 'The table keeps it for each maturity' (02, note 2)
 abbrev pub maturity : Rule → Calendar → (ℕ → ℕ) → ℕ → Maturity
-maturity r cal number k = record { month = k; day = lastOf r cal k .day; back = lastOf r cal k .back; number = number k }
+maturity r cal number k = record { key = k; day = lastOf r cal k .day; back = lastOf r cal k .back; number = number k }
 
 -- an unused place
 abbrev pub unused : Maturity
-unused = record { month = 0; day = 0; back = 0; number = 0 }
+unused = record { key = 0; day = 0; back = 0; number = 0 }
 
 -- 'up to 15 maturities by rising month ..; unused places zero'
 unfoldable pub places15 : List Maturity → List Maturity

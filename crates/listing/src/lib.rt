@@ -15,7 +15,7 @@ ghost use Rattle.listing.specs.Months.{monthSets, names2005, inSet, setA
 
 // A listed maturity: its month, its last trading day, and how many days that day lies before the anchor. A listing that is not yet numbered has number 0.
 pub struct Maturity {
-    pub month: u16,
+    pub key: u16,
     pub day: u16,
     pub back: u16,
     pub number: u16,
@@ -158,7 +158,7 @@ pub fn list_in(cover: Cover, closed: &[u8], kind: Kind, group: [u8; 4], date: u1
     let row = product::kind_number(kind) as usize;
     let end = expiry::end_month(cover);
     let unused = Maturity {
-        month: 0,
+        key: 0,
         day: 0,
         back: 0,
         number: 0,
@@ -177,7 +177,7 @@ pub fn list_in(cover: Cover, closed: &[u8], kind: Kind, group: [u8; 4], date: u1
             }
             let last = expiry::last_trading_day_in(cover, closed, group, month);
             maturities[listed] = Maturity {
-                month: month,
+                key: month,
                 day: last.day,
                 back: last.back,
                 number: 0,

@@ -56,7 +56,7 @@ fn refused_opening(number: u8) -> Opening
     let product = zero_product();
     let calendar = zero_calendar();
     let unused = Maturity {
-        month: 0,
+        key: 0,
         day: 0,
         back: 0,
         number: 0,

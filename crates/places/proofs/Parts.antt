@@ -28,11 +28,11 @@ module _ (a : List Maturity) (n i : ℕ) (fits : n ≤ length a) where
 
   module _ (m : ℕ) where
     -- the search for a month
-    pub listed-here : i < n → getD a i unused .month ≡ m → isListed (drop i (take n a)) m ≡ true
+    pub listed-here : i < n → getD a i unused .key ≡ m → isListed (drop i (take n a)) m ≡ true
     unfolding isListed
     listed-here h e = rw (part-next h, eq-eqb _ _ e)
 
-    pub listed-next : i < n → (getD a i unused .month ≡ m → ⊥) → isListed (drop (i + 1) (take n a)) m ≡ isListed (drop i (take n a)) m
+    pub listed-next : i < n → (getD a i unused .key ≡ m → ⊥) → isListed (drop (i + 1) (take n a)) m ≡ isListed (drop i (take n a)) m
     unfolding isListed
     listed-next h e = sym (rw (part-next h, ne-eqb _ _ e))
 
@@ -40,11 +40,11 @@ module _ (a : List Maturity) (n i : ℕ) (fits : n ≤ length a) where
     unfolding isListed
     listed-none h = rw (part-done h)
 
-    pub number-here : i < n → getD a i unused .month ≡ m → numberOf (drop i (take n a)) m ≡ getD a i unused .number
+    pub number-here : i < n → getD a i unused .key ≡ m → numberOf (drop i (take n a)) m ≡ getD a i unused .number
     unfolding numberOf
     number-here h e = rw (part-next h, eq-eqb _ _ e)
 
-    pub number-next : i < n → (getD a i unused .month ≡ m → ⊥) → numberOf (drop (i + 1) (take n a)) m ≡ numberOf (drop i (take n a)) m
+    pub number-next : i < n → (getD a i unused .key ≡ m → ⊥) → numberOf (drop (i + 1) (take n a)) m ≡ numberOf (drop i (take n a)) m
     unfolding numberOf
     number-next h e = sym (rw (part-next h, ne-eqb _ _ e))
 
@@ -54,9 +54,9 @@ module _ (a : List Maturity) (n i : ℕ) (fits : n ≤ length a) where
 
   module _ (others : List Maturity) where
     -- the count of those that are missing elsewhere
-    pub missing-next : i < n → length (missing (drop i (take n a)) others) ≡ cond (isListed others (getD a i unused .month)) 0 1 + length (missing (drop (i + 1) (take n a)) others)
+    pub missing-next : i < n → length (missing (drop i (take n a)) others) ≡ cond (isListed others (getD a i unused .key)) 0 1 + length (missing (drop (i + 1) (take n a)) others)
     unfolding missing
-    missing-next h = rw (part-next h) (go (isListed others (getD a i unused .month)))
+    missing-next h = rw (part-next h) (go (isListed others (getD a i unused .key)))
       where
         go : (b : Bool) → length (cond b (missing (drop (i + 1) (take n a)) others) (getD a i unused ∷ missing (drop (i + 1) (take n a)) others)) ≡ cond b 0 1 + length (missing (drop (i + 1) (take n a)) others)
         go true = omega arith
@@ -81,12 +81,12 @@ put-place done m out i e l q =
 -- what is still to be numbered, after a list of those that are
 module _ (old : List Maturity) where
   renumber-cons : (g : ℕ) (m : Maturity) (ms : List Maturity) → renumbered old g (m ∷ ms)
-      ≡ withNumber m (cond (isListed old (m .month)) (numberOf old (m .month)) (g + 1)) ∷ renumbered old (cond (isListed old (m .month)) g (g + 1)) ms
+      ≡ withNumber m (cond (isListed old (m .key)) (numberOf old (m .key)) (g + 1)) ∷ renumbered old (cond (isListed old (m .key)) g (g + 1)) ms
   unfolding renumbered
-  renumber-cons g m ms = rw (add-one g) (go (isListed old (m .month)))
+  renumber-cons g m ms = rw (add-one g) (go (isListed old (m .key)))
     where
-      go : (b : Bool) → cond b (withNumber m (numberOf old (m .month)) ∷ renumbered old g ms) (withNumber m (suc g) ∷ renumbered old (suc g) ms)
-          ≡ withNumber m (cond b (numberOf old (m .month)) (suc g)) ∷ renumbered old (cond b g (suc g)) ms
+      go : (b : Bool) → cond b (withNumber m (numberOf old (m .key)) ∷ renumbered old g ms) (withNumber m (suc g) ∷ renumbered old (suc g) ms)
+          ≡ withNumber m (cond b (numberOf old (m .key)) (suc g)) ∷ renumbered old (cond b g (suc g)) ms
       go true = refl
       go false = refl
 
@@ -105,15 +105,15 @@ module _ (old : List Maturity) where
     starts = record { done = []; filled = refl; within = omega arith; few = omega arith; places = refl; whole = refl }
 
     pub next : (out : List Maturity) (g i : ℕ) (m : Maturity) (h : ℕ) → Numbering fresh n given out g i → i < n
-        → m ≡ withNumber (getD fresh i unused) (cond (isListed old (getD fresh i unused .month)) (numberOf old (getD fresh i unused .month)) (g + 1))
-        → h ≡ cond (isListed old (getD fresh i unused .month)) g (g + 1)
+        → m ≡ withNumber (getD fresh i unused) (cond (isListed old (getD fresh i unused .key)) (numberOf old (getD fresh i unused .key)) (g + 1))
+        → h ≡ cond (isListed old (getD fresh i unused .key)) g (g + 1)
         → Numbering fresh n given (set out i m) h (i + 1)
     next out g i m h s l p q =
         record {
           done = s .done ++ (m ∷ []);
           filled = length-append (s .done) (m ∷ []) ∙ (omega (arith, s .filled));
           within = omega arith;
-          few = omega (arith, s .few, q, step (isListed old (getD fresh i unused .month)));
+          few = omega (arith, s .few, q, step (isListed old (getD fresh i unused .key)));
           places = placed;
           whole = grown;
         }

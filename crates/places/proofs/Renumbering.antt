@@ -19,17 +19,17 @@ use Rattle.places.proofs.Rising.{rising-tail, rising-above, rising-once
 
 -- each maturity with the number of its month
 abbrev pub with-numbers : (ℕ → ℕ) → List Maturity → List Maturity
-with-numbers nu ms = map (λ m. withNumber m (nu (m .month))) ms
+with-numbers nu ms = map (λ m. withNumber m (nu (m .key))) ms
 
 module _ (nu : ℕ → ℕ) where
   pub number-with : (ms : List Maturity) (k : ℕ) → numberOf (with-numbers nu ms) k ≡ cond (isListed ms k) (nu k) 0
   unfolding numberOf isListed
   number-with [] k = refl
-  number-with (m ∷ ms) k = go (eqb (m .month) k) refl (number-with ms k)
+  number-with (m ∷ ms) k = go (eqb (m .key) k) refl (number-with ms k)
     where
-      go : (b : Bool) → eqb (m .month) k ≡ b → numberOf (with-numbers nu ms) k ≡ cond (isListed ms k) (nu k) 0
-          → cond b (nu (m .month)) (numberOf (with-numbers nu ms) k) ≡ cond (b || isListed ms k) (nu k) 0
-      go true e ih = ap nu (eqb-true (m .month) k e)
+      go : (b : Bool) → eqb (m .key) k ≡ b → numberOf (with-numbers nu ms) k ≡ cond (isListed ms k) (nu k) 0
+          → cond b (nu (m .key)) (numberOf (with-numbers nu ms) k) ≡ cond (b || isListed ms k) (nu k) 0
+      go true e ih = ap nu (eqb-true (m .key) k e)
       go false e ih = ih
 
   unnumbered-with : (ms : List Maturity) → unnumbered (with-numbers nu ms) ≡ unnumbered ms
@@ -40,37 +40,37 @@ module _ (nu : ℕ → ℕ) where
   unfolding isListed
   with-same mu [] h = refl
   with-same mu (m ∷ ms) h =
-      rw (h (m .month) (or-left (isListed ms (m .month)) (eq-eqb (m .month) (m .month) refl)))
-      (ap (_∷_ (withNumber m (mu (m .month)))) (with-same mu ms (λ k t. h k (or-right (eqb (m .month) k) t))))
+      rw (h (m .key) (or-left (isListed ms (m .key)) (eq-eqb (m .key) (m .key) refl)))
+      (ap (_∷_ (withNumber m (mu (m .key)))) (with-same mu ms (λ k t. h k (or-right (eqb (m .key) k) t))))
 
 -- a month more, before the others
 module _ (old : List Maturity) (m : Maturity) (ms : List Maturity) (rises : Rising (m ∷ ms)) where
   abbrev here : ℕ → Bool
-  here k = eqb (m .month) k && not (isListed old k)
+  here k = eqb (m .key) k && not (isListed old k)
 
   apart : (k : ℕ) → bit (only (m ∷ ms) old k) + bit false ≡ bit (here k) + bit (only ms old k)
   unfolding isListed
-  apart k = go (eqb (m .month) k) refl
+  apart k = go (eqb (m .key) k) refl
     where
-      go : (b : Bool) → eqb (m .month) k ≡ b → bit ((b || isListed ms k) && not (isListed old k)) + bit false ≡ bit (b && not (isListed old k)) + bit (isListed ms k && not (isListed old k))
-      go true e = rw (← eqb-true (m .month) k e, rising-once m ms rises)
+      go : (b : Bool) → eqb (m .key) k ≡ b → bit ((b || isListed ms k) && not (isListed old k)) + bit false ≡ bit (b && not (isListed old k)) + bit (isListed ms k && not (isListed old k))
+      go true e = rw (← eqb-true (m .key) k e, rising-once m ms rises)
       go false e = omega arith
 
   -- it counts where old has it not
-  pub count-cons : (n : ℕ) → m .month < n → countFrom (only (m ∷ ms) old) n 0 ≡ bit (not (isListed old (m .month))) + countFrom (only ms old) n 0
+  pub count-cons : (n : ℕ) → m .key < n → countFrom (only (m ∷ ms) old) n 0 ≡ bit (not (isListed old (m .key))) + countFrom (only ms old) n 0
   count-cons n l =
-      let e : bit (here (m .month)) ≡ bit (not (isListed old (m .month))) = rw (eq-eqb (m .month) (m .month) refl) in
+      let e : bit (here (m .key)) ≡ bit (not (isListed old (m .key))) = rw (eq-eqb (m .key) (m .key) refl) in
       omega (
         arith,
         count-balance (only (m ∷ ms) old) (λ k. false) here (only ms old) apart n 0,
         count-zero (λ k. false) n 0 (λ k x y. refl),
-        count-one here (m .month) n l (λ k t. sym (eqb-true (m .month) k (and-fst (eqb (m .month) k) (not (isListed old k)) t))),
+        count-one here (m .key) n l (λ k t. sym (eqb-true (m .key) k (and-fst (eqb (m .key) k) (not (isListed old k)) t))),
       )
 
   -- none of the others is up to it
-  pub count-above : countFrom (only ms old) (suc (m .month)) 0 ≡ 0
+  pub count-above : countFrom (only ms old) (suc (m .key)) 0 ≡ 0
   count-above =
-      count-zero (only ms old) (suc (m .month)) 0
+      count-zero (only ms old) (suc (m .key)) 0
       (λ k x y. is-false (only ms old k) (λ t. absurd (omega (arith, rising-above m ms rises k (and-fst (isListed ms k) (not (isListed old k)) t)))))
 
 module _ (old : List Maturity) where
@@ -82,12 +82,12 @@ module _ (old : List Maturity) where
   unfolding renumbered
   renumbered-with given [] rises = refl
   renumbered-with given (m ∷ ms) rises =
-      go (isListed old (m .month)) refl (λ g. renumbered-with g ms (rising-tail m ms rises))
+      go (isListed old (m .key)) refl (λ g. renumbered-with g ms (rising-tail m ms rises))
     where
-      first : countFrom (only (m ∷ ms) old) (suc (m .month)) 0 ≡ bit (not (isListed old (m .month)))
-      first = omega (arith, count-cons old m ms rises (suc (m .month)) (omega arith), count-above old m ms rises)
+      first : countFrom (only (m ∷ ms) old) (suc (m .key)) 0 ≡ bit (not (isListed old (m .key)))
+      first = omega (arith, count-cons old m ms rises (suc (m .key)) (omega arith), count-above old m ms rises)
 
-      rest : (g : ℕ) → g ≡ given + bit (not (isListed old (m .month))) → with-numbers (number-in g ms) ms ≡ with-numbers (number-in given (m ∷ ms)) ms
+      rest : (g : ℕ) → g ≡ given + bit (not (isListed old (m .key))) → with-numbers (number-in g ms) ms ≡ with-numbers (number-in given (m ∷ ms)) ms
       rest g e = with-same (number-in g ms) (number-in given (m ∷ ms)) ms each
         where
           each : (k : ℕ) → isListed ms k ≡ true → number-in g ms k ≡ number-in given (m ∷ ms) k
@@ -95,11 +95,11 @@ module _ (old : List Maturity) where
               let c : g + countFrom (only ms old) (suc k) 0 ≡ given + countFrom (only (m ∷ ms) old) (suc k) 0 = omega (arith, count-cons old m ms rises (suc k) (omega (arith, rising-above m ms rises k t))) in
               rw c
 
-      go : (b : Bool) → isListed old (m .month) ≡ b → ((g : ℕ) → renumbered old g ms ≡ with-numbers (number-in g ms) ms)
-          → cond b (withNumber m (numberOf old (m .month)) ∷ renumbered old given ms) (withNumber m (suc given) ∷ renumbered old (suc given) ms) ≡ with-numbers (number-in given (m ∷ ms)) (m ∷ ms)
-      go true e ih = rw (e, ih given) (ap (_∷_ (withNumber m (numberOf old (m .month)))) (rest given (omega (arith, ap (λ (x : Bool). bit (not x)) e))))
+      go : (b : Bool) → isListed old (m .key) ≡ b → ((g : ℕ) → renumbered old g ms ≡ with-numbers (number-in g ms) ms)
+          → cond b (withNumber m (numberOf old (m .key)) ∷ renumbered old given ms) (withNumber m (suc given) ∷ renumbered old (suc given) ms) ≡ with-numbers (number-in given (m ∷ ms)) (m ∷ ms)
+      go true e ih = rw (e, ih given) (ap (_∷_ (withNumber m (numberOf old (m .key)))) (rest given (omega (arith, ap (λ (x : Bool). bit (not x)) e))))
       go false e ih =
-          let c : given + countFrom (only (m ∷ ms) old) (suc (m .month)) 0 ≡ suc given = omega (arith, first, ap (λ (x : Bool). bit (not x)) e) in
+          let c : given + countFrom (only (m ∷ ms) old) (suc (m .key)) 0 ≡ suc given = omega (arith, first, ap (λ (x : Bool). bit (not x)) e) in
           rw (e, c, ih (suc given)) (ap (_∷_ (withNumber m (suc given))) (rest (suc given) (omega (arith, ap (λ (x : Bool). bit (not x)) e))))
 
   pub renumbered-law : (given : ℕ) (fresh : List Maturity) → Rising fresh → RenumberedLaw old given fresh (renumbered old given fresh)
@@ -119,23 +119,23 @@ module _ (others : List Maturity) where
   missing-holds : (ms : List Maturity) (k : ℕ) → isListed (missing ms others) k ≡ only ms others k
   unfolding missing isListed
   missing-holds [] k = refl
-  missing-holds (m ∷ ms) k = go (isListed others (m .month)) refl (eqb (m .month) k) refl (missing-holds ms k)
+  missing-holds (m ∷ ms) k = go (isListed others (m .key)) refl (eqb (m .key) k) refl (missing-holds ms k)
     where
-      go : (b : Bool) → isListed others (m .month) ≡ b → (c : Bool) → eqb (m .month) k ≡ c → isListed (missing ms others) k ≡ only ms others k
+      go : (b : Bool) → isListed others (m .key) ≡ b → (c : Bool) → eqb (m .key) k ≡ c → isListed (missing ms others) k ≡ only ms others k
           → isListed (cond b (missing ms others) (m ∷ missing ms others)) k ≡ ((c || isListed ms k) && not (isListed others k))
-      go true e true q ih = ih ∙ rw (← eqb-true (m .month) k q, e) (none (isListed ms (m .month)))
+      go true e true q ih = ih ∙ rw (← eqb-true (m .key) k q, e) (none (isListed ms (m .key)))
         where
           none : (x : Bool) → (x && false) ≡ false
           none true = refl
           none false = refl
       go true e false q ih = ih
-      go false e true q ih = rw (q, ← eqb-true (m .month) k q, e)
+      go false e true q ih = rw (q, ← eqb-true (m .key) k q, e)
       go false e false q ih = rw q ih
 
   missing-rises : (ms : List Maturity) → Rising ms → Rising (missing ms others)
   unfolding missing
   missing-rises [] rises = rises
-  missing-rises (m ∷ ms) rises = go (isListed others (m .month)) (missing-rises ms (rising-tail m ms rises))
+  missing-rises (m ∷ ms) rises = go (isListed others (m .key)) (missing-rises ms (rising-tail m ms rises))
     where
       go : (b : Bool) → Rising (missing ms others) → Rising (cond b (missing ms others) (m ∷ missing ms others))
       go true ih = ih
@@ -147,12 +147,12 @@ module _ (others : List Maturity) where
   unfolding missing isListed
   missing-count [] rises n h = sym (count-zero (only [] others) n 0 (λ k x y. refl))
   missing-count (m ∷ ms) rises n h =
-      go (isListed others (m .month)) refl (missing-count ms (rising-tail m ms rises) n (λ k t. h k (or-right (eqb (m .month) k) t)))
+      go (isListed others (m .key)) refl (missing-count ms (rising-tail m ms rises) n (λ k t. h k (or-right (eqb (m .key) k) t)))
     where
-      first : m .month < n
-      first = h (m .month) (or-left (isListed ms (m .month)) (eq-eqb (m .month) (m .month) refl))
+      first : m .key < n
+      first = h (m .key) (or-left (isListed ms (m .key)) (eq-eqb (m .key) (m .key) refl))
 
-      go : (b : Bool) → isListed others (m .month) ≡ b → length (missing ms others) ≡ countFrom (only ms others) n 0
+      go : (b : Bool) → isListed others (m .key) ≡ b → length (missing ms others) ≡ countFrom (only ms others) n 0
           → length (cond b (missing ms others) (m ∷ missing ms others)) ≡ countFrom (only (m ∷ ms) others) n 0
       go true e ih = omega (arith, count-cons others m ms rises n first, ap (λ (x : Bool). bit (not x)) e)
       go false e ih = omega (arith, count-cons others m ms rises n first, ap (λ (x : Bool). bit (not x)) e)

@@ -23,26 +23,26 @@ use Rattle.places.specs.Laws.{Rising}
 pub record Place (ms : List Maturity) (k : ℕ) : Type 0 where
   pub place : ℕ
   pub below : place < length ms
-  pub month : getD ms place unused .month ≡ k
+  pub key : getD ms place unused .key ≡ k
 
 next-place : (m : Maturity) (ms : List Maturity) (k : ℕ) → Place ms k → Place (m ∷ ms) k
-next-place m ms k s = record { place = suc (s .place); below = omega (arith, s .below); month = s .month }
+next-place m ms k s = record { place = suc (s .place); below = omega (arith, s .below); key = s .key }
 
 pub place-of : (ms : List Maturity) (k : ℕ) → isListed ms k ≡ true → Place ms k
 unfolding isListed
 place-of [] k t = clash t refl
-place-of (m ∷ ms) k t = go (eqb (m .month) k) refl t (place-of ms k)
+place-of (m ∷ ms) k t = go (eqb (m .key) k) refl t (place-of ms k)
   where
-    go : (b : Bool) → eqb (m .month) k ≡ b → (b || isListed ms k) ≡ true → (isListed ms k ≡ true → Place ms k) → Place (m ∷ ms) k
-    go true e t ih = record { place = 0; below = omega arith; month = eqb-true (m .month) k e }
+    go : (b : Bool) → eqb (m .key) k ≡ b → (b || isListed ms k) ≡ true → (isListed ms k ≡ true → Place ms k) → Place (m ∷ ms) k
+    go true e t ih = record { place = 0; below = omega arith; key = eqb-true (m .key) k e }
     go false e t ih = next-place m ms k (ih t)
 
 -- the month in a place is listed
-in-place : (ms : List Maturity) (i : ℕ) → i < length ms → isListed ms (getD ms i unused .month) ≡ true
+in-place : (ms : List Maturity) (i : ℕ) → i < length ms → isListed ms (getD ms i unused .key) ≡ true
 unfolding isListed
 in-place [] i h = absurd (omega arith)
-in-place (m ∷ ms) zero h = rw (eq-eqb (m .month) (m .month) refl)
-in-place (m ∷ ms) (suc i) h = or-right (eqb (m .month) (getD ms i unused .month)) (in-place ms i (omega arith))
+in-place (m ∷ ms) zero h = rw (eq-eqb (m .key) (m .key) refl)
+in-place (m ∷ ms) (suc i) h = or-right (eqb (m .key) (getD ms i unused .key)) (in-place ms i (omega arith))
 
 module _ (m : Maturity) (ms : List Maturity) where
   module _ (rises : Rising (m ∷ ms)) where
@@ -50,18 +50,18 @@ module _ (m : Maturity) (ms : List Maturity) where
     rising-tail i j l h = rises (suc i) (suc j) (omega arith) (omega arith)
 
     -- the months after the first are above it
-    pub rising-above : (k : ℕ) → isListed ms k ≡ true → m .month < k
+    pub rising-above : (k : ℕ) → isListed ms k ≡ true → m .key < k
     rising-above k t =
         let s = place-of ms k t in
-        omega (arith, s .month, rises 0 (suc (s .place)) (omega arith) (omega (arith, s .below)))
+        omega (arith, s .key, rises 0 (suc (s .place)) (omega arith) (omega (arith, s .below)))
 
     -- so the first is there once
-    pub rising-once : isListed ms (m .month) ≡ false
-    rising-once = is-false (isListed ms (m .month)) (λ t. absurd (omega (arith, rising-above (m .month) t)))
+    pub rising-once : isListed ms (m .key) ≡ false
+    rising-once = is-false (isListed ms (m .key)) (λ t. absurd (omega (arith, rising-above (m .key) t)))
 
-  pub rising-cons : ((k : ℕ) → isListed ms k ≡ true → m .month < k) → Rising ms → Rising (m ∷ ms)
+  pub rising-cons : ((k : ℕ) → isListed ms k ≡ true → m .key < k) → Rising ms → Rising (m ∷ ms)
   rising-cons above rises i zero l h = absurd (omega arith)
-  rising-cons above rises zero (suc j) l h = above (getD ms j unused .month) (in-place ms j (omega arith))
+  rising-cons above rises zero (suc j) l h = above (getD ms j unused .key) (in-place ms j (omega arith))
   rising-cons above rises (suc i) (suc j) l h = rises i j (omega arith) (omega arith)
 
 pub at-map : {A : Type 0} (f : ℕ → A) (d : A) (ks : List ℕ) (i : ℕ) → i < length ks → getD (map f ks) i d ≡ f (getD ks i 0)
@@ -74,13 +74,13 @@ module _ (r : Rule) (w : Lawful r) (cal : Calendar) (date : ℕ) (nu : ℕ → �
   abbrev keys : List ℕ
   keys = freshKeys r cal date
 
-  month-at : (i : ℕ) → i < length keys → getD (map (maturity r cal nu) keys) i unused .month ≡ getD keys i 0
-  month-at i h = ap (λ (m : Maturity). m .month) (at-map (maturity r cal nu) unused keys i h)
+  key-at-place : (i : ℕ) → i < length keys → getD (map (maturity r cal nu) keys) i unused .key ≡ getD keys i 0
+  key-at-place i h = ap (λ (m : Maturity). m .key) (at-map (maturity r cal nu) unused keys i h)
 
   pub listing-rises : Rising (map (maturity r cal nu) keys)
   listing-rises i j l h =
       let n : j < length keys = omega (arith, length-map keys (maturity r cal nu)) in
-      omega (arith, month-at i (omega arith), month-at j n, keys-rise r w cal date i j l n)
+      omega (arith, key-at-place i (omega arith), key-at-place j n, keys-rise r w cal date i j l n)
 
 pub fresh-rises : (cal : Calendar) (kind : Kind) (group : List ℕ) (date : ℕ) → Rising (freshOf cal kind group date)
 fresh-rises cal kind group date = listing-rises (ruleOf cal kind group) (monthly-lawful (cal .cover) kind group) cal date (λ k. 0)

@@ -11,7 +11,7 @@ use Rattle.places.specs.Numbering.{isListed, numberOf, unnumbered}
 
 -- 'by rising month': each month is after the months of the places before it
 abbrev pub Rising : List Maturity → Type 0
-Rising ms = (i j : ℕ) → i < j → j < length ms → getD ms i unused .month < getD ms j unused .month
+Rising ms = (i j : ℕ) → i < j → j < length ms → getD ms i unused .key < getD ms j unused .key
 
 -- one list has the month and another has not
 abbrev pub only : List Maturity → List Maturity → ℕ → Bool

@@ -11,22 +11,22 @@ use Rattle.listing.specs.Rules.{unused}
 
 -- the month is among the maturities
 unfoldable pub isListed : List Maturity → ℕ → Bool
-isListed [] month = false
-isListed (m ∷ ms) month = eqb (m .month) month || isListed ms month
+isListed [] key = false
+isListed (m ∷ ms) key = eqb (m .key) key || isListed ms key
 
 -- the listing number of a month; 0 where it is not listed
 unfoldable pub numberOf : List Maturity → ℕ → ℕ
-numberOf [] month = 0
-numberOf (m ∷ ms) month = cond (eqb (m .month) month) (m .number) (numberOf ms month)
+numberOf [] key = 0
+numberOf (m ∷ ms) key = cond (eqb (m .key) key) (m .number) (numberOf ms key)
 
 -- the maturities of one list whose months another has not
 unfoldable pub missing : List Maturity → List Maturity → List Maturity
 missing [] others = []
-missing (m ∷ ms) others = cond (isListed others (m .month)) (missing ms others) (m ∷ missing ms others)
+missing (m ∷ ms) others = cond (isListed others (m .key)) (missing ms others) (m ∷ missing ms others)
 
 -- a maturity with a listing number
 abbrev pub withNumber : Maturity → ℕ → Maturity
-withNumber m n = record { month = m .month; day = m .day; back = m .back; number = n }
+withNumber m n = record { key = m .key; day = m .day; back = m .back; number = n }
 
 -- the months, the days and the days stepped back, without the numbers
 abbrev pub unnumbered : List Maturity → List Maturity
@@ -36,7 +36,7 @@ unnumbered ms = map (λ m. withNumber m 0) ms
 unfoldable pub renumbered : List Maturity → ℕ → List Maturity → List Maturity
 renumbered old given [] = []
 renumbered old given (m ∷ ms) =
-    cond (isListed old (m .month)) (withNumber m (numberOf old (m .month)) ∷ renumbered old given ms)
+    cond (isListed old (m .key)) (withNumber m (numberOf old (m .key)) ∷ renumbered old given ms)
     (withNumber m (suc given) ∷ renumbered old (suc given) ms)
 
 -- 'numbered 1, 2, .. by rising month'
@@ -45,7 +45,7 @@ numberedFresh fresh = renumbered [] 0 fresh
 
 -- 'its months and days are the fresh listing': the same month and the same day; 'a sound table has it right': the same days stepped back (02, note 2)
 abbrev pub sameMaturity : Maturity → Maturity → Bool
-sameMaturity m fresh = eqb (m .month) (fresh .month) && (eqb (m .day) (fresh .day) && eqb (m .back) (fresh .back))
+sameMaturity m fresh = eqb (m .key) (fresh .key) && (eqb (m .day) (fresh .day) && eqb (m .back) (fresh .back))
 
 -- 'its months and days are the fresh listing .., and unused places are zero', of place i where n places are used; so are the days stepped back (02, note 2)
 abbrev pub placeRight : List Maturity → List Maturity → ℕ → ℕ → Bool

@@ -27,7 +27,7 @@ fn is_place_right(maturities: [Maturity; 15], fresh: [Maturity; 15], n: usize, i
 {
     let m = maturities[i];
     let f = fresh[i];
-    if m.month != f.month {
+    if m.key != f.key {
         return false;
     }
     if m.day != f.day {
@@ -58,14 +58,14 @@ pub fn are_places_right(maturities: [Maturity; 15], fresh: [Maturity; 15], kind:
 }
 
 // Whether a month is among the first n maturities.
-fn is_among(maturities: [Maturity; 15], n: usize, month: u16) -> bool
+fn is_among(maturities: [Maturity; 15], n: usize, key: u16) -> bool
     requires { ⌜ n ≤ 15 ⌝ }
-    ensures { λ r. ⌜ r ≡ isListed (take n maturities) month ⌝ }
+    ensures { λ r. ⌜ r ≡ isListed (take n maturities) key ⌝ }
 {
     let mut i: usize = 0;
     while i < n {
         let m = maturities[i];
-        if m.month == month {
+        if m.key == key {
             return true;
         }
         i += 1;
@@ -74,22 +74,22 @@ fn is_among(maturities: [Maturity; 15], n: usize, month: u16) -> bool
 }
 
 // Whether a month is in the places that a kind uses.
-pub fn is_listed(maturities: [Maturity; 15], kind: Kind, month: u16) -> bool
-    ensures { λ r. ⌜ r ≡ isListed (take (placesOfKind kind) maturities) month ⌝ }
+pub fn is_listed(maturities: [Maturity; 15], kind: Kind, key: u16) -> bool
+    ensures { λ r. ⌜ r ≡ isListed (take (placesOfKind kind) maturities) key ⌝ }
 {
     let n = listing::months_listed(kind) as usize;
-    is_among(maturities, n, month)
+    is_among(maturities, n, key)
 }
 
 // The listing number of a month among the first n maturities; 0 where it is not there.
-fn number_of(maturities: [Maturity; 15], n: usize, month: u16) -> u16
+fn number_of(maturities: [Maturity; 15], n: usize, key: u16) -> u16
     requires { ⌜ n ≤ 15 ⌝ }
-    ensures { λ r. ⌜ r ≡ numberOf (take n maturities) month ⌝ }
+    ensures { λ r. ⌜ r ≡ numberOf (take n maturities) key ⌝ }
 {
     let mut i: usize = 0;
     while i < n {
         let m = maturities[i];
-        if m.month == month {
+        if m.key == key {
             return m.number;
         }
         i += 1;
@@ -98,11 +98,11 @@ fn number_of(maturities: [Maturity; 15], n: usize, month: u16) -> u16
 }
 
 // 1 where a month is not among the first n maturities.
-fn absent(others: [Maturity; 15], n: usize, month: u16) -> u16
+fn absent(others: [Maturity; 15], n: usize, key: u16) -> u16
     requires { ⌜ n ≤ 15 ⌝ }
-    ensures { λ r. ⌜ r ≡ cond (isListed (take n others) month) 0 1 ⌝ }
+    ensures { λ r. ⌜ r ≡ cond (isListed (take n others) key) 0 1 ⌝ }
 {
-    if is_among(others, n, month) {
+    if is_among(others, n, key) {
         return 0;
     }
     1
@@ -117,7 +117,7 @@ fn count_absent(maturities: [Maturity; 15], others: [Maturity; 15], n: usize) ->
     let mut i: usize = 0;
     while i < n {
         let m = maturities[i];
-        count += absent(others, n, m.month);
+        count += absent(others, n, m.key);
         i += 1;
     }
     count
@@ -134,15 +134,15 @@ pub fn count_missing(maturities: [Maturity; 15], others: [Maturity; 15], kind: K
 // A month that was there keeps its number, and one that enters takes the next.
 fn numbered(old: [Maturity; 15], n: usize, m: Maturity, given: u16) -> NumberedMaturity
     requires { ⌜ (n ≤ 15) × (given < 65535) ⌝ }
-    ensures { λ r. ⌜ (r .maturity ≡ withNumber m (cond (isListed (take n old) (m .month)) (numberOf (take n old) (m .month)) (given + 1))) × (r .given ≡ cond (isListed (take n old) (m .month)) given (given + 1)) ⌝ }
+    ensures { λ r. ⌜ (r .maturity ≡ withNumber m (cond (isListed (take n old) (m .key)) (numberOf (take n old) (m .key)) (given + 1))) × (r .given ≡ cond (isListed (take n old) (m .key)) given (given + 1)) ⌝ }
 {
-    let month = m.month;
+    let key = m.key;
     let day = m.day;
     let back = m.back;
-    if is_among(old, n, month) {
-        let number = number_of(old, n, month);
+    if is_among(old, n, key) {
+        let number = number_of(old, n, key);
         let maturity = Maturity {
-            month,
+            key,
             day,
             back,
             number,
@@ -151,7 +151,7 @@ fn numbered(old: [Maturity; 15], n: usize, m: Maturity, given: u16) -> NumberedM
     }
     let number = given + 1;
     let maturity = Maturity {
-        month,
+        key,
         day,
         back,
         number,
@@ -168,7 +168,7 @@ fn number_fresh(old: Places, k: usize, fresh: Places, n: usize, given: u16) -> P
     ensures { λ r. ⌜ r ≡ places15 (renumbered (take k old) given (take n fresh)) ⌝ }
 {
     let unused = Maturity {
-        month: 0,
+        key: 0,
         day: 0,
         back: 0,
         number: 0,

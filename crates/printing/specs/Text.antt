@@ -55,7 +55,7 @@ spaced n = 32 ∷ decimal n
 
 -- 'number, month, last trading day for each maturity', the days stepped back 'as a fourth number' (02, note 2), and a line feed, 10
 unfoldable pub maturityText : Maturity → List ℕ
-maturityText m = decimal (m .number) ++ (32 ∷ (monthText (m .month) ++ (32 ∷ (dayText (m .day) ++ (spaced (m .back) ++ (10 ∷ []))))))
+maturityText m = decimal (m .number) ++ (32 ∷ (monthText (m .key) ++ (32 ∷ (dayText (m .day) ++ (spaced (m .back) ++ (10 ∷ []))))))
 
 -- the lines of the first n maturities
 unfoldable pub maturitiesText : ℕ → List Maturity → List ℕ

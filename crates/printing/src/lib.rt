@@ -127,7 +127,7 @@ fn put_maturity(out: &mut [u8], at: usize, m: Maturity) -> usize
 {
     let space = put_decimal(out, at, m.number);
     let month = put(out, space, b' ');
-    let second = put_month(out, month, m.month);
+    let second = put_month(out, month, m.key);
     let day = put(out, second, b' ');
     let third = put_day(out, day, m.day);
     let end = put_spaced(out, third, m.back);

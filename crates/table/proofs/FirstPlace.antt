@@ -25,15 +25,15 @@ use Rattle.table.specs.Table.{listsFresh}
 
 -- the first place of a listing that is the fresh one holds the front
 pub first-front : (t : Table) → allInCover (t .calendar) (t .product .kind) (t .product .group) (t .date) ≡ true → listsFresh t ≡ true
-    → getD (t .maturities) 0 unused .month ≡ front (ruleOf (t .calendar) (t .product .kind) (t .product .group)) (t .calendar) (t .date)
+    → getD (t .maturities) 0 unused .key ≡ front (ruleOf (t .calendar) (t .product .kind) (t .product .group)) (t .calendar) (t .date)
 unfolding listsFresh complete monthly places15
 first-front t w a =
     let same = both (sameMaturity m (getD (places15 fresh) 0 unused)) (ltb 0 (placesOfKind (t .product .kind)) || eqb (m .number) 0) (every-at (placeRight (t .maturities) (places15 fresh) (placesOfKind (t .product .kind))) 15 0 a (omega arith)) .0 in
-    let month : m .month ≡ getD (places15 fresh) 0 unused .month = eqb-true (m .month) (getD (places15 fresh) 0 unused .month) (both (eqb (m .month) (getD (places15 fresh) 0 unused .month)) _ same .0) in
+    let same-key : m .key ≡ getD (places15 fresh) 0 unused .key = eqb-true (m .key) (getD (places15 fresh) 0 unused .key) (both (eqb (m .key) (getD (places15 fresh) 0 unused .key)) _ same .0) in
     let long : length (freshKeys r (t .calendar) (t .date)) ≡ placesOfKind (t .product .kind) = eqb-true _ _ w in
     let some : 1 ≤ length (freshKeys r (t .calendar) (t .date)) = omega (arith, long, places-least (t .product .kind)) in
-    month
-    ∙ ap (λ (x : Maturity). x .month) (List·getD-append fresh (replicate (15 - length fresh) unused) unused 0 (omega (arith, some, length-map (freshKeys r (t .calendar) (t .date)) (maturity r (t .calendar) (λ k. 0)))))
+    same-key
+    ∙ ap (λ (x : Maturity). x .key) (List·getD-append fresh (replicate (15 - length fresh) unused) unused 0 (omega (arith, some, length-map (freshKeys r (t .calendar) (t .date)) (maturity r (t .calendar) (λ k. 0)))))
     ∙ head (freshKeys r (t .calendar) (t .date)) some ∙ fresh-first r (monthly-lawful (t .calendar .cover) (t .product .kind) (t .product .group)) (t .calendar) (t .date) some
   where
     r : Rule
@@ -45,13 +45,13 @@ first-front t w a =
     fresh : List Maturity
     fresh = freshOf (t .calendar) (t .product .kind) (t .product .group) (t .date)
 
-    head : (ks : List ℕ) → 1 ≤ length ks → getD (map (maturity r (t .calendar) (λ k. 0)) ks) 0 unused .month ≡ getD ks 0 0
+    head : (ks : List ℕ) → 1 ≤ length ks → getD (map (maturity r (t .calendar) (λ k. 0)) ks) 0 unused .key ≡ getD ks 0 0
     head [] h = absurd (omega arith)
     head (k ∷ ks) h = refl
 
 -- so the cover months before it are those before the front
 pub months-there : (t : Table) → allInCover (t .calendar) (t .product .kind) (t .product .group) (t .date) ≡ true → listsFresh t ≡ true
-    → (m : ℕ) → m ≡ getD (t .maturities) 0 unused .month - monthOf (coverStart (t .calendar .cover))
+    → (m : ℕ) → m ≡ getD (t .maturities) 0 unused .key - monthOf (coverStart (t .calendar .cover))
     → m ≡ monthsBefore (ruleOf (t .calendar) (t .product .kind) (t .product .group)) (t .calendar) (t .date)
 months-there t w a m e =
     e ∙ ap (λ (x : ℕ). x - monthOf (coverStart (t .calendar .cover))) (first-front t w a) ∙ sym (before-is (t .calendar) (t .product .kind) (t .product .group) (t .date))

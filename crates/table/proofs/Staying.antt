@@ -57,7 +57,7 @@ taken-rises e (set ∷ rest) k = go (ltb (nextOf e set k) e) refl (taken-rises e
 
 -- the months of a list
 abbrev months : List Maturity → List ℕ
-months ms = map (λ m. m .month) ms
+months ms = map (λ m. m .key) ms
 
 -- a maturity without its number
 abbrev blank : Maturity → Maturity
@@ -66,19 +66,19 @@ blank m = withNumber m 0
 -- each maturity of a list is found in another, with its number
 abbrev Known : List Maturity → List Maturity → Type 0
 Known old [] = _≡_ {A = ℕ} 0 0
-Known old (m ∷ ms) = (isListed old (m .month) ≡ true) × (numberOf old (m .month) ≡ m .number) × Known old ms
+Known old (m ∷ ms) = (isListed old (m .key) ≡ true) × (numberOf old (m .key) ≡ m .number) × Known old ms
 
-known-more : (m : Maturity) (old ms : List Maturity) (k : ℕ) → m .month < k → Rises k (months ms) → Known old ms → Known (m ∷ old) ms
+known-more : (m : Maturity) (old ms : List Maturity) (k : ℕ) → m .key < k → Rises k (months ms) → Known old ms → Known (m ∷ old) ms
 unfolding isListed numberOf
 known-more m old [] k l r h = refl
 known-more m old (x ∷ xs) k l r h =
-    (or-right (eqb (m .month) (x .month)) (h .0), rw (ne-eqb (m .month) (x .month) (λ q. omega (arith, r .0, l, q))) (h .1), known-more m old xs (suc (x .month)) (omega (arith, r .0)) (r .1) (h .2))
+    (or-right (eqb (m .key) (x .key)) (h .0), rw (ne-eqb (m .key) (x .key) (λ q. omega (arith, r .0, l, q))) (h .1), known-more m old xs (suc (x .key)) (omega (arith, r .0)) (r .1) (h .2))
 
 known-all : (ms : List Maturity) (k : ℕ) → Rises k (months ms) → Known ms ms
 unfolding isListed numberOf
 known-all [] k r = refl
 known-all (m ∷ ms) k r =
-    (or-left (isListed ms (m .month)) (eq-eqb (m .month) (m .month) refl), rw (eq-eqb (m .month) (m .month) refl), known-more m ms ms (suc (m .month)) (omega arith) (r .1) (known-all ms (suc (m .month)) (r .1)))
+    (or-left (isListed ms (m .key)) (eq-eqb (m .key) (m .key) refl), rw (eq-eqb (m .key) (m .key) refl), known-more m ms ms (suc (m .key)) (omega arith) (r .1) (known-all ms (suc (m .key)) (r .1)))
 
 known-numbers : (old ms : List Maturity) (given : ℕ) → Known old ms → renumbered old given (map blank ms) ≡ ms
 unfolding renumbered
@@ -93,12 +93,12 @@ none-missing old (m ∷ ms) h = rw (h .0) (none-missing old ms (h .2))
 blank-listed : (ms : List Maturity) (x : ℕ) → isListed (map blank ms) x ≡ isListed ms x
 unfolding isListed
 blank-listed [] x = refl
-blank-listed (m ∷ ms) x = ap (λ (b : Bool). eqb (m .month) x || b) (blank-listed ms x)
+blank-listed (m ∷ ms) x = ap (λ (b : Bool). eqb (m .key) x || b) (blank-listed ms x)
 
 none-left : (old ms : List Maturity) → Known old ms → missing ms (map blank old) ≡ []
 unfolding missing
 none-left old [] h = refl
-none-left old (m ∷ ms) h = rw (blank-listed old (m .month) ∙ h .0) (none-left old ms (h .2))
+none-left old (m ∷ ms) h = rw (blank-listed old (m .key) ∙ h .0) (none-left old ms (h .2))
 
 places-long : (xs : List Maturity) → length xs ≤ 15 → length (places15 xs) ≡ 15
 unfolding places15
@@ -111,7 +111,7 @@ keys-are r cal (k ∷ ks) = ap (λ (l : List ℕ). k ∷ l) (keys-are r cal ks)
 
 blank-months : (ms : List Maturity) → months (map blank ms) ≡ months ms
 blank-months [] = refl
-blank-months (m ∷ ms) = ap (λ (l : List ℕ). m .month ∷ l) (blank-months ms)
+blank-months (m ∷ ms) = ap (λ (l : List ℕ). m .key ∷ l) (blank-months ms)
 
 -- what a sound table lists, and its unused places
 module _ (t : Table) (s : sound t ≡ true) (len : length (t .maturities) ≡ 15) where
@@ -134,7 +134,7 @@ module _ (t : Table) (s : sound t ≡ true) (len : length (t .maturities) ≡ 15
 
   -- the place's parts
   pub record Place (i : ℕ) : Type 0 where
-    pub month : getD (t .maturities) i unused .month ≡ getD (places15 fresh) i unused .month
+    pub key : getD (t .maturities) i unused .key ≡ getD (places15 fresh) i unused .key
     pub day : getD (t .maturities) i unused .day ≡ getD (places15 fresh) i unused .day
     pub back : getD (t .maturities) i unused .back ≡ getD (places15 fresh) i unused .back
     pub zero-number : n ≤ i → getD (t .maturities) i unused .number ≡ 0
@@ -143,10 +143,10 @@ module _ (t : Table) (s : sound t ≡ true) (len : length (t .maturities) ≡ 15
   place i h =
       let m = getD (t .maturities) i unused in
       let f = getD (places15 fresh) i unused in
-      let (a, b) = both (eqb (m .month) (f .month) && (eqb (m .day) (f .day) && eqb (m .back) (f .back))) (ltb i n || eqb (m .number) 0) (right i h) in
-      let (c, e) = both (eqb (m .month) (f .month)) (eqb (m .day) (f .day) && eqb (m .back) (f .back)) a in
+      let (a, b) = both (eqb (m .key) (f .key) && (eqb (m .day) (f .day) && eqb (m .back) (f .back))) (ltb i n || eqb (m .number) 0) (right i h) in
+      let (c, e) = both (eqb (m .key) (f .key)) (eqb (m .day) (f .day) && eqb (m .back) (f .back)) a in
       let (d, g) = both (eqb (m .day) (f .day)) (eqb (m .back) (f .back)) e in
-      record { month = eqb-true _ _ c; day = eqb-true _ _ d; back = eqb-true _ _ g; zero-number = λ l. eqb-true _ _ (rw (le-ltb i n l) at b) }
+      record { key = eqb-true _ _ c; day = eqb-true _ _ d; back = eqb-true _ _ g; zero-number = λ l. eqb-true _ _ (rw (le-ltb i n l) at b) }
 
   in-places : (i : ℕ) → i < n → getD (places15 fresh) i unused ≡ getD fresh i unused
   unfolding places15
@@ -178,7 +178,7 @@ module _ (t : Table) (s : sound t ≡ true) (len : length (t .maturities) ≡ 15
       let q = getD-take n (t .maturities) i unused l in
       sym
       (List·getD-map blank (listedIn t) i unused ∙ ap blank q ∙
-      same-maturity (blank (getD (t .maturities) i unused)) (getD fresh i unused) (p .month ∙ ap (λ (m : Maturity). m .month) (in-places i l)) (p .day ∙ ap (λ (m : Maturity). m .day) (in-places i l)) (p .back ∙ ap (λ (m : Maturity). m .back) (in-places i l)) (sym (fresh-number i))))
+      same-maturity (blank (getD (t .maturities) i unused)) (getD fresh i unused) (p .key ∙ ap (λ (m : Maturity). m .key) (in-places i l)) (p .day ∙ ap (λ (m : Maturity). m .day) (in-places i l)) (p .back ∙ ap (λ (m : Maturity). m .back) (in-places i l)) (sym (fresh-number i))))
 
   in-old : (i : ℕ) → i < n → getD (places15 (listedIn t)) i unused ≡ getD (t .maturities) i unused
   unfolding places15
@@ -199,7 +199,7 @@ module _ (t : Table) (s : sound t ≡ true) (len : length (t .maturities) ≡ 15
           let p = place i h in
           let z = after-places fresh i (omega (arith, fresh-long)) h in
           after-places (listedIn t) i (omega (arith, old-long)) h ∙
-          sym (same-maturity (getD (t .maturities) i unused) unused (p .month ∙ ap (λ (m : Maturity). m .month) z) (p .day ∙ ap (λ (m : Maturity). m .day) z) (p .back ∙ ap (λ (m : Maturity). m .back) z) (p .zero-number l))
+          sym (same-maturity (getD (t .maturities) i unused) unused (p .key ∙ ap (λ (m : Maturity). m .key) z) (p .day ∙ ap (λ (m : Maturity). m .day) z) (p .back ∙ ap (λ (m : Maturity). m .back) z) (p .zero-number l))
 
   abbrev rule : Rule
   rule = ruleOf (t .calendar) (t .product .kind) (t .product .group)
@@ -214,7 +214,7 @@ module _ (t : Table) (s : sound t ≡ true) (len : length (t .maturities) ≡ 15
   unfolding freshKeys
   same-keys date e = ap (taken (rule .beyond) (rule .places)) (sym e)
 
-  pub stays : (date : ℕ) → eqb (getD (t .maturities) 0 unused .month) (front rule (t .calendar) date) ≡ true → cond (allInCover (t .calendar) (t .product .kind) (t .product .group) date) (moved t (t .calendar) date) (refusedWith t 16) ≡ keptOn t date
+  pub stays : (date : ℕ) → eqb (getD (t .maturities) 0 unused .key) (front rule (t .calendar) date) ≡ true → cond (allInCover (t .calendar) (t .product .kind) (t .product .group) date) (moved t (t .calendar) date) (refusedWith t 16) ≡ keptOn t date
   unfolding moved complete
   stays date e =
       let k = same-keys date (sym (first-front t (sound-parts t s .whole) (sound-parts t s .listed)) ∙ eqb-true _ _ e) in

@@ -63,7 +63,7 @@ fn is_listing_sound(t: Table) -> bool
         return false;
     }
     let first = maturities[0];
-    t.given - n <= listing::months_before(t.calendar.cover, first.month)
+    t.given - n <= listing::months_before(t.calendar.cover, first.key)
 }
 
 // Question 10.
@@ -89,13 +89,13 @@ pub fn is_sound(t: Table) -> bool
 }
 
 // Whether a month is listed in the places that are used.
-pub fn is_month_listed(t: Table, month: u16) -> bool
-    ensures { λ r. ⌜ r ≡ isListed (listedIn t) month ⌝ }
+pub fn is_listed(t: Table, key: u16) -> bool
+    ensures { λ r. ⌜ r ≡ isListed (listedIn t) key ⌝ }
 {
     let p = t.product;
     let kind = p.kind;
     let maturities = t.maturities;
-    places::is_listed(maturities, kind, month)
+    places::is_listed(maturities, kind, key)
 }
 
 // The same table with the number of a question and counts 0 and 0.
@@ -117,7 +117,7 @@ pub fn zero_table() -> Table
     let product = opening::zero_product();
     let calendar = opening::zero_calendar();
     let unused = Maturity {
-        month: 0,
+        key: 0,
         day: 0,
         back: 0,
         number: 0,
@@ -198,14 +198,14 @@ fn relisted(t: Table, cal: Calendar, date: u16) -> Outcome
 
 // Whether the front month on a date is the month in the first place, which is the front of a sound table.
 fn front_stays(t: Table, date: u16) -> bool
-    ensures { λ r. ⌜ r ≡ eqb (getD (t .maturities) 0 unused .month) (front (ruleOf (t .calendar) (t .product .kind) (t .product .group)) (t .calendar) date) ⌝ }
+    ensures { λ r. ⌜ r ≡ eqb (getD (t .maturities) 0 unused .key) (front (ruleOf (t .calendar) (t .product .kind) (t .product .group)) (t .calendar) date) ⌝ }
 {
     let p = t.product;
     let kind = p.kind;
     let group = p.group;
     let maturities = t.maturities;
     let first = maturities[0];
-    first.month == listing::front_month(t.calendar, kind, group, date)
+    first.key == listing::front_month(t.calendar, kind, group, date)
 }
 
 // The same table on another date: no month entered or left.

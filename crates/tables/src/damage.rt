@@ -183,13 +183,13 @@ fn damage_calendar(cal: Calendar, field: u8, i: u16, value: u16) -> Calendar {
 
 // A maturity with its month, day, days stepped back or number changed.
 fn damage_maturity(m: Maturity, field: u8, value: u16) -> Maturity {
-    let month = m.month;
+    let month = m.key;
     let day = m.day;
     let back = m.back;
     let number = m.number;
     match field {
         MONTH => Maturity {
-            month: value,
+            key: value,
             day,
             back,
             number,

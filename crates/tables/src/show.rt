@@ -71,7 +71,7 @@ fn product_sum(p: Product) -> u32 {
 fn put_maturities(maturities: [Maturity; 15]) {
     for i in 0..15usize {
         let m = maturities[i];
-        put(m.month);
+        put(m.key);
         put(m.day);
         put(m.back);
         put(m.number);

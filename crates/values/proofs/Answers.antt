@@ -16,20 +16,20 @@ use Rattle.places.specs.Numbering.{isListed}
 use Rattle.table.specs.Table.{listedIn, sound}
 use Rattle.values.specs.Values.{noDay, noLastDay, lastDayAsks, lastDayCall, dueDay, dueAsks, dueCall}
 
--- the last trading day of a listed month, by its first question answered no
-module _ (t : Table) (month : ℕ) where
-  pub last-day-10 : sound t ≡ false → lastDayCall t month ≡ noLastDay 10
+-- the last trading day of a listed key, by its first question answered no
+module _ (t : Table) (key : ℕ) where
+  pub last-day-10 : sound t ≡ false → lastDayCall t key ≡ noLastDay 10
   unfolding lastDayCall firstNo
-  last-day-10 a = refused (lastDayAsks t month) _ _ 9 (rw a)
+  last-day-10 a = refused (lastDayAsks t key) _ _ 9 (rw a)
 
   module _ (a : sound t ≡ true) where
-    pub last-day-18 : isListed (listedIn t) month ≡ false → lastDayCall t month ≡ noLastDay 18
+    pub last-day-18 : isListed (listedIn t) key ≡ false → lastDayCall t key ≡ noLastDay 18
     unfolding lastDayCall firstNo
-    last-day-18 b = refused (lastDayAsks t month) _ _ 17 (rw (a, b))
+    last-day-18 b = refused (lastDayAsks t key) _ _ 17 (rw (a, b))
 
-    pub last-day-yes : isListed (listedIn t) month ≡ true → (last : LastDay) → last ≡ workedOut (t .calendar) (t .product .group) month → lastDayCall t month ≡ record { refusal = 0; value = last }
+    pub last-day-yes : isListed (listedIn t) key ≡ true → (last : LastDay) → last ≡ workedOut (t .calendar) (t .product .group) key → lastDayCall t key ≡ record { refusal = 0; value = last }
     unfolding lastDayCall firstNo
-    last-day-yes b last q = rw q (accepted (lastDayAsks t month) _ _ (rw (a, b)))
+    last-day-yes b last q = rw q (accepted (lastDayAsks t key) _ _ (rw (a, b)))
 
 -- the code's due day is the definition's
 pub due-is : (t : Table) (day n d : ℕ) → n ≡ settlementDays (t .product .kind) (t .product .group) → d ≡ nthExchangeDay (t .calendar) n day → d ≡ dueDay t day

@@ -31,11 +31,11 @@ noLastDay number = record { refusal = number; value = record { day = 0; back = 0
 
 -- 'Last trading day of a listed month: 10, 18'
 abbrev pub lastDayAsks : Table → ℕ → List Ask
-lastDayAsks t month = ask 10 (sound t) ∷ ask 18 (isListed (listedIn t) month) ∷ []
+lastDayAsks t key = ask 10 (sound t) ∷ ask 18 (isListed (listedIn t) key) ∷ []
 
 -- 'Last trading day of a listed month', with the days stepped back (02, note 2); 'With it: .. other calls return zero values'
 unfoldable pub lastDayCall : Table → ℕ → Answer LastDay
-lastDayCall t month = answer (lastDayAsks t month) (record { day = 0; back = 0 }) (workedOut (t .calendar) (t .product .group) month)
+lastDayCall t key = answer (lastDayAsks t key) (record { day = 0; back = 0 }) (workedOut (t .calendar) (t .product .group) key)
 
 -- 'Due day: the n-th trading day after a given trading day'; 'Due days count trading days and these days' (02, note 4)
 unfoldable pub dueDay : Table → ℕ → ℕ

@@ -37,18 +37,18 @@ fn no_last_day(number: u8) -> LastDayReply
 }
 
 // The last trading day of a listed month, with the days stepped back.
-pub fn last_trading_day(t: Table, month: u16) -> LastDayReply
-    ensures { λ r. ⌜ lastDayReply r ≡ lastDayCall t month ⌝ }
+pub fn last_trading_day(t: Table, key: u16) -> LastDayReply
+    ensures { λ r. ⌜ lastDayReply r ≡ lastDayCall t key ⌝ }
 {
     if !is_sound(t) {
         return no_last_day(10);
     }
-    if !table::is_month_listed(t, month) {
+    if !table::is_listed(t, key) {
         return no_last_day(18);
     }
     let p = t.product;
     let group = p.group;
-    let last = expiry::last_trading_day(t.calendar, group, month);
+    let last = expiry::last_trading_day(t.calendar, group, key);
     LastDayReply {
         refusal: 0,
         day: last.day,

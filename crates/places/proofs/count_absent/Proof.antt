@@ -28,7 +28,7 @@ absent-requires : tie.Need-absent-requires Inv-loop μ-loop
 absent-requires c κs = omega arith
 
 add-count : tie.Need-add-count Inv-loop μ-loop
-add-count c = omega (arith, c .absent .ensures, cond-most (isListed (take (c .before .before .before .before .args .n) (c .before .before .before .before .args .others)) (getD (c .before .before .before .before .args .t1) (c .before .before .before .loop .i) unused .month)))
+add-count c = omega (arith, c .absent .ensures, cond-most (isListed (take (c .before .before .before .before .args .n) (c .before .before .before .before .args .others)) (getD (c .before .before .before .before .args .t1) (c .before .before .before .loop .i) unused .key)))
 
 add-i : tie.Need-add-i Inv-loop μ-loop
 add-i c = omega arith
@@ -40,7 +40,7 @@ loop-again : tie.Need-loop-again Inv-loop μ-loop
 loop-again c =
     let v = c .before .before .before .loop .inv in
     let e = missing-next (c .before .before .before .before .args .t1) (c .before .before .before .before .args .n) (c .before .before .before .loop .i) (c .before .before .before .loop .inv .0) (take (c .before .before .before .before .args .n) (c .before .before .before .before .args .others)) (c .before .before .loop-test .taken) in
-    (v .0, v .1, omega (arith, c .absent .ensures, cond-most (isListed (take (c .before .before .before .before .args .n) (c .before .before .before .before .args .others)) (getD (c .before .before .before .before .args .t1) (c .before .before .before .loop .i) unused .month))), omega arith, omega (arith, c .absent .ensures, e, v .4))
+    (v .0, v .1, omega (arith, c .absent .ensures, cond-most (isListed (take (c .before .before .before .before .args .n) (c .before .before .before .before .args .others)) (getD (c .before .before .before .before .args .t1) (c .before .before .before .loop .i) unused .key))), omega arith, omega (arith, c .absent .ensures, e, v .4))
 
 returns : tie.Need-returns Inv-loop μ-loop
 returns c =

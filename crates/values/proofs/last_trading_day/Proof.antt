@@ -13,14 +13,14 @@ no-last-day-requires c κs = tt
 returns : tie.Need-returns
 returns c = c .no-last-day .ensures ∙ sym (last-day-10 _ _ (said-no (c .before .before .is-sound .ensures) (c .before .if1 .taken)))
 
-is-month-listed-requires : tie.Need-is-month-listed-requires
-is-month-listed-requires c κs = tt
+is-listed-requires : tie.Need-is-listed-requires
+is-listed-requires c κs = tt
 
 no-last-day-requires-2 : tie.Need-no-last-day-requires-2
 no-last-day-requires-2 c κs = tt
 
 returns-2 : tie.Need-returns-2
-returns-2 c = c .no-last-day2 .ensures ∙ sym (last-day-18 _ _ (said-yes (c .before .before .before .before .is-sound .ensures) (c .before .before .before .if1 .left)) (said-no (c .before .before .is-month-listed .ensures) (c .before .if2 .taken)))
+returns-2 c = c .no-last-day2 .ensures ∙ sym (last-day-18 _ _ (said-yes (c .before .before .before .before .is-sound .ensures) (c .before .before .before .if1 .left)) (said-no (c .before .before .is-listed .ensures) (c .before .if2 .taken)))
 
 last-trading-day-requires : tie.Need-last-trading-day-requires
 last-trading-day-requires c κs = tt
@@ -28,12 +28,12 @@ last-trading-day-requires c κs = tt
 returns-3 : tie.Need-returns-3
 returns-3 c =
     let at-if2 = c .before .before .before in
-    let at-is-month-listed = at-if2 .before in
-    let at-if1 = at-is-month-listed .before in
+    let at-is-listed = at-if2 .before in
+    let at-if1 = at-is-listed .before in
     let at-is-sound = at-if1 .before in
     let yes-is-sound = said-yes (at-is-sound .is-sound .ensures) (at-if1 .if1 .left) in
-    let yes-is-month-listed = said-yes (at-is-month-listed .is-month-listed .ensures) (at-if2 .if2 .left) in
-    sym (last-day-yes _ _ yes-is-sound yes-is-month-listed _ (c .last-trading-day .ensures))
+    let yes-is-listed = said-yes (at-is-listed .is-listed .ensures) (at-if2 .if2 .left) in
+    sym (last-day-yes _ _ yes-is-sound yes-is-listed _ (c .last-trading-day .ensures))
 
 pub last-trading-day-spec : {M : Type 1} → statement M
 last-trading-day-spec =
@@ -42,7 +42,7 @@ last-trading-day-spec =
     is-sound-requires
     no-last-day-requires
     returns
-    is-month-listed-requires
+    is-listed-requires
     no-last-day-requires-2
     returns-2
     last-trading-day-requires
