@@ -425,7 +425,7 @@ def many_fault_cases():
 # ---- Futures of 2005 ----
 
 # 02, note 1: "The [..] group digit of kind 4 [is that] of a future; question 7 now
-# admits 4." Kind 5 and the digits 1 and 2 of kind 4 are refused.
+# admits 4." Kind 6 and the digits 1 and 2 of kind 4 are refused.
 def kind_4_cases():
     futures = [item(b'A', group=b'FR01', kind=4), item(b'AXA', group=b'IT01', kind=4),
                item(b'B', group=b'AA00', kind=4), item(b'B1', group=b'ZZ09', kind=4, size=65535)]
@@ -440,9 +440,33 @@ def kind_4_cases():
         yield (f'q7-kind-4-group-{group.hex()}',
                small(products=[item(b'A', group=group, kind=4)]))
     for group in (b'FR01', b'FR11'):
-        for kind in (5, 255):
+        for kind in (6, 255):
             yield (f'q7-kind-{kind}-group-{group.hex()}',
                    small(products=[item(b'A', group=group, kind=kind)]))
+
+
+# ---- Weekly options ----
+
+# 02, note 3: "under kind 5 and the option groups"; "question 7 now admits 5." The
+# digits 0 and 2 of kind 5 are refused, and kinds 6, 7 and 13.
+def kind_5_cases():
+    options = [item(b'A', kind=5), item(b'AXA', group=b'IT11', kind=5, tick=1),
+               item(b'B', group=b'AA10', kind=5), item(b'B1', group=b'ZZ19', kind=5, size=65535)]
+    yield 'ok-kind-5', small(products=options)
+    yield 'ok-all-kinds', master.build(
+        Calendar(2008, 3, GOOD_FRIDAY),
+        [item(b'A%d' % kind, group=b'FR01' if kind in (0, 4) else b'FR11', kind=kind)
+         for kind in range(6)] + [item(b'AXA', kind=5)], 3)
+    for place, block in PRODUCTS:
+        yield f'ok-kind-5-in-{place}-products', six(('bytes', block, 20, b'FR11'),
+                                                    ('bytes', block, 28, b'\5'))
+        yield f'q7-kind-5-in-{place}-products', six(('bytes', block, 20, b'FR01'),
+                                                    ('bytes', block, 28, b'\5'))
+    for group in (b'FR01', b'IT01', b'FR21', b'FR/1', b'FR1:'):
+        yield (f'q7-kind-5-group-{group.hex()}',
+               small(products=[item(b'A', group=group, kind=5)]))
+    for kind in (6, 7, 13):
+        yield f'q7-kind-{kind}-among-kind-5', small(products=[*options, item(b'Z', kind=kind)])
 
 
 # ---- The second map (02, note 4) ----
@@ -521,7 +545,7 @@ def second_map_cases():
 def cases():
     for part in (accepted, length_cases, check_cases, header_cases, order_cases, clean_cases,
                  week_cases, field_cases, record_cases, id_cases, pair_cases, many_fault_cases,
-                 kind_4_cases, second_map_cases):
+                 kind_4_cases, second_map_cases, kind_5_cases):
         yield from part()
 
 

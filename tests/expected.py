@@ -276,19 +276,19 @@ def closed_by(first_year, years, pattern):
 # days stepped back.
 def last_day_lines(calendar, group):
     for month in range(trading.first_month(calendar), trading.last_month(calendar) + 1):
-        last = listing.last_trading_day(calendar, group, month)
-        back = listing.days_back(calendar, group, month)
+        last = listing.last_trading_day(calendar, group, product.FUTURE, month)
+        back = listing.days_back(calendar, group, product.FUTURE, month)
         yield f'A {month} {listing.third_friday(month)} {last} {back}'
 
 
-# The front month and the listing on every 41st date of the cover: complete or
-# not, then month, day, days stepped back and number 0 for each of 15 places.
+# The front month or Friday and the listing on every 41st date of the cover: complete
+# or not, then key, day, days stepped back and number 0 for each of 15 places.
 def listing_lines(calendar, group, kind):
     for date in range(trading.first_day(calendar), trading.last_day(calendar) + 1, 41):
-        front = listing.front_month(calendar, group, kind, date)
+        front = listing.front_key(calendar, group, kind, date)
         fresh = listing.fresh_listing(calendar, group, kind, date)
         complete = listing.listing_in_cover(calendar, group, kind, date)
-        places = [f'{month} {day} {back} 0' for month, day, back in fresh] + ['0 0 0 0'] * (15 - len(fresh))
+        places = [f'{key} {day} {back} 0' for key, day, back in fresh] + ['0 0 0 0'] * (15 - len(fresh))
         yield f'L {date} {front} {complete:d} ' + ' '.join(places)
 
 

@@ -11,14 +11,15 @@ from pathlib import Path
 
 from second import dates, product, trading
 from second.book import Book
-from tables.damages import (damaged_second_maps, damaged_tables, damaged_tables_of_2005, date_before_cover,
-                            every_call_on_zeros)
-from tables.files import (EASTER_ALONE, EASTER_SECOND, EXAMPLE, FUTURES_2005, ONE_YEAR, ONE_YEAR_2005,
-                          REFUSED_SECOND, SEED, SEVEN_YEARS, SEVEN_YEARS_SECOND, SIXTEEN_YEARS,
-                          SIXTEEN_YEARS_2005, SIXTEEN_YEARS_SECOND, THREE_YEARS, THREE_YEARS_2005, TWO_YEARS,
-                          TWO_YEARS_2005, YEAR_END_SECOND, Numbers, accepted_files, all_files, calendar_of,
-                          easter_sunday, file_name, first_date, last_date, openable, product_of,
-                          refused_files, refused_second_maps)
+from tables.damages import (damaged_second_maps, damaged_tables, damaged_tables_of_2005, damaged_weekly_tables,
+                            date_before_cover, every_call_on_zeros)
+from tables.files import (EASTER_ALONE, EASTER_SECOND, EXAMPLE, FIRST_DAYS_WEEKLY, FUTURES_2005, ONE_YEAR,
+                          ONE_YEAR_2005, REFUSED_SECOND, REFUSED_WEEKLY, SEED, SEVEN_YEARS, SEVEN_YEARS_SECOND,
+                          SIXTEEN_YEARS, SIXTEEN_YEARS_2005, SIXTEEN_YEARS_SECOND, SIXTEEN_YEARS_WEEKLY,
+                          THREE_YEARS, THREE_YEARS_2005, THREE_YEARS_WEEKLY, TWO_YEARS, TWO_YEARS_2005,
+                          TWO_YEARS_WEEKLY, WEEKLY, WEEKLY_2010, YEAR_END_SECOND, Numbers, accepted_files,
+                          all_files, calendar_of, easter_sunday, file_name, first_date, last_date, openable,
+                          opening_date, product_of, refused_files, refused_second_maps, refused_weekly_files)
 from tables.moments import PRICES, push_calls, some_calls, some_value
 from tables.script import Script, book_call, make
 
@@ -68,9 +69,9 @@ def dates_between(numbers, start, end, step):
 # 01, question 16, by rolls to the last date that it accepts, one day at a time at
 # the end, and to dates after it, which are refused.
 def roll_to_the_end(script, numbers, number, code, step):
-    end = last_date(number, code)
-    script.open(number, code, first_date(number))
-    for date in (*dates_between(numbers, first_date(number), end - 3, step), *range(end - 2, end + 4),
+    start, end = opening_date(number, code), last_date(number, code)
+    script.open(number, code, start)
+    for date in (*dates_between(numbers, start, end - 3, step), *range(end - 2, end + 4),
                  trading.last_day(script.book.calendar)):
         script.roll(date)
 
@@ -394,11 +395,124 @@ def all_of_second_maps(script, numbers):
         script.history(number, code, date, calls_of(numbers, number, code, date, length))
 
 
+# ---- Weekly options ----
+
+# 02, note 3, by its own Fridays: only 21 March 2008 is closed. 28 March, 4, 11 and
+# 25 April on 17 March, with 2 May on 29 March, for an Italian group and for
+# another. Friday 1 May 2009 closed ends on Thursday 30 April.
+def worked_fridays(script):
+    for code in (b'AXAW', b'ENIW'):
+        script.open(THREE_YEARS_WEEKLY, code, dates.day_of(2008, 3, 17))
+        make(script, [('R', dates.day_of(2008, month, day)) for month, day in (
+            (3, 21), (3, 28), (3, 29), (3, 31), (4, 12), (4, 18), (4, 19), (6, 30), (6, 30))])
+        script.open(THREE_YEARS_WEEKLY, code, dates.day_of(2008, 3, 31))
+        script.open(THREE_YEARS_WEEKLY, code, dates.day_of(2009, 4, 20))
+        make(script, [(letter, dates.day_of(2009, month, day)) for letter, month, day in (
+            ('C', 5, 1), ('C', 5, 8), ('R', 4, 30), ('R', 5, 1), ('C', 5, 7))])
+        friday_calls(script)
+
+
+# 02, note 3: 24, "after 11, in opening kind 5: is the date at least seven days
+# after the cover's first day?" The other kinds are not asked.
+def opens_in_the_first_week(script):
+    for number in (THREE_YEARS_WEEKLY, WEEKLY_2010, FIRST_DAYS_WEEKLY, SIXTEEN_YEARS_WEEKLY):
+        start = first_date(number)
+        for code in (b'AXAW', b'ENIW', b'AXA ', b'NONE'):
+            for date in range(start - 1, start + 9):
+                script.open(number, code, date)
+
+
+# 01, question 16, with Fridays (02, note 3): 2010 ends with a weekly Friday, and 3
+# December is the last date with four of them. By an open, by a roll, and by a close
+# that pushes 3 December out.
+def fridays_at_the_end(script):
+    day = dates.day_of(2010, 12, 3)
+    for number in (WEEKLY_2010, THREE_YEARS_WEEKLY):
+        for code in (b'AXAW', b'ENIW'):
+            for date in (day - 1, day, day + 1, day + 28, day + 29):
+                script.open(number, code, date)
+            script.open(number, code, day - 3)
+            make(script, (*push_calls(script.book), ('R', day), ('R', day + 1)))
+
+
+# 02, note 3: "each taken back to the latest trading day at or before it": the days
+# up to Friday 22 August 2008 closed one after the other; 15 refuses the last of the
+# week. Then its Thursday alone, and the Monday after it.
+def fridays_stepped_back(script):
+    friday = dates.day_of(2008, 8, 22)
+    for code in (b'AXAW', b'ENIW'):
+        script.open(THREE_YEARS_WEEKLY, code, friday - 8)
+        for day in range(friday, friday - 5, -1):
+            script.close(day)
+            script.last_trading_day(friday)
+        script.open(THREE_YEARS_WEEKLY, code, friday - 8)
+        make(script, (('C', friday - 1), ('C', friday + 3), ('R', friday), ('R', friday + 1)))
+
+
+# 01, question 18, with Fridays (02, note 3): every day from a week before the front
+# Friday to a week after the last one, and the numbers of their months.
+def friday_calls(script):
+    fridays = [key for key, _, _, _ in script.book.maturities]
+    for key in (*range(fridays[0] - 7, fridays[-1] + 8), *map(dates.month_of, fridays), 0, 65535):
+        script.last_trading_day(key)
+
+
+# Rolls to the end, with more than 255 numbers given in 16 years, front Fridays
+# pushed out, weeks closed and many closures.
+def weekly_histories(script, numbers):
+    for number, code, step in ((WEEKLY_2010, b'ITW ', 9), (TWO_YEARS_WEEKLY, b'ENIW', 12),
+                               (THREE_YEARS_WEEKLY, b'AXAW', 60), (SIXTEEN_YEARS_WEEKLY, b'BPW ', 40)):
+        roll_to_the_end(script, numbers, number, code, step)
+    for number, code, date in ((THREE_YEARS_WEEKLY, b'AXAW', 2930), (THREE_YEARS_WEEKLY, b'ENIW', 2990),
+                               (TWO_YEARS_WEEKLY, b'BAYW', 2600), (SIXTEEN_YEARS_WEEKLY, b'ENIW', 30700)):
+        push_often(script, number, code, date)
+    for code in (b'AXAW', b'ENIW'):
+        start = opening_date(WEEKLY_2010, code) + 7 * numbers.below(40)
+        script.open(WEEKLY_2010, code, start)
+        make(script, [('C', day) for day in range(start + 1, start + 15)])
+    many_closures(script, numbers, SIXTEEN_YEARS_WEEKLY, b'ITW ', 33000, 50)
+    many_closures(script, numbers, THREE_YEARS_WEEKLY, b'ENIW', 2929, 50)
+
+
+# Due day, listed Fridays, tick and cash of weekly options: the due day is an
+# option's, and cash gets 21.
+def weekly_values(script):
+    for item in WEEKLY:
+        script.open(TWO_YEARS_WEEKLY, item.id, 2700)
+        end = trading.last_day(script.book.calendar)
+        for day in (*range(2697, 2720), *range(end - 7, end + 2)):
+            script.due(day)
+        friday_calls(script)
+        tick_calls(script)
+        cash_calls(script)
+
+
+# 02, note 3: "Weekly tables open, roll and close a day, with numbers, like the
+# monthly ones"; "there demand 3 and its book read with Fridays for months".
+def all_of_weekly_options(script, numbers):
+    for place, (number, _) in enumerate(refused_weekly_files()):
+        if script.open(REFUSED_WEEKLY + place, b'AXAW', 3000) != number:
+            raise ValueError(f'file {REFUSED_WEEKLY + place} is not refused by {number}')
+    worked_fridays(script)
+    opens_in_the_first_week(script)
+    fridays_at_the_end(script)
+    fridays_stepped_back(script)
+    weekly_histories(script, numbers)
+    for number in (THREE_YEARS_WEEKLY, TWO_YEARS_WEEKLY, SIXTEEN_YEARS_WEEKLY):
+        for item in WEEKLY:
+            mixed_history(script, numbers, number, item.id, opening_date(number, item.id) + numbers.below(400), 20)
+    weekly_values(script)
+    damaged_weekly_tables(script)
+    for number, code, date, length in ((THREE_YEARS_WEEKLY, b'AXAW', 2929, 120), (TWO_YEARS_WEEKLY, b'ENIW', 2600, 80),
+                                       (SIXTEEN_YEARS_WEEKLY, b'BAYW', 30700, 256)):
+        script.history(number, code, date, calls_of(numbers, number, code, date, length))
+
+
 # ---- The whole script ----
 
-# 01, Questions: the numbers that each call can give back.
+# 01, Questions, and 02, note 3: the numbers that each call can give back.
 ANSWERS = {
-    'O': (0, 1, 2, 3, 4, 5, 6, 7, 8, 9, 11, 16),
+    'O': (0, 1, 2, 3, 4, 5, 6, 7, 8, 9, 11, 16, 24),
     'R': (0, 10, 11, 12, 16),
     'C': (0, 10, 11, 13, 14, 15, 16),
     'L': (0, 10, 18),
@@ -408,16 +522,18 @@ ANSWERS = {
 }
 
 
+# Every number of days stepped back: a Friday steps back to Monday at most, an
+# Italian Thursday may pass Monday to the Friday before.
+STEPS = {'third Friday': (0, 1, 2, 3, 4), 'Italian': (0, 1, 2, 3, 6), 'weekly': (0, 1, 2, 3, 4)}
+
+
 # What the script must have: every answer of every call, closures that push the
-# front month out, for each kind, with an Italian group and with another, and every
-# number of days stepped back: an Italian Thursday may pass Monday to the Friday
-# before, a Friday steps back to Monday at most.
+# front month or Friday out, for each kind, with an Italian group and with another,
+# and every number of days stepped back.
 def wanted():
     answers = {(letter, number) for letter, given in ANSWERS.items() for number in given}
     pushed = {('pushed', kind, italian) for kind in product.KINDS for italian in (False, True)}
-    back = {('back', back, italian) for italian, steps in ((False, (0, 1, 2, 3, 4)), (True, (0, 1, 2, 3, 6)))
-            for back in steps}
-    return answers | pushed | back
+    return answers | pushed | {('back', back, rule) for rule, steps in STEPS.items() for back in steps}
 
 
 # The script with all its histories.
@@ -446,6 +562,7 @@ def whole_script():
     odd_histories(script, numbers)
     all_of_2005(script, Numbers(SEED + 3))
     all_of_second_maps(script, Numbers(SEED + 5))
+    all_of_weekly_options(script, Numbers(SEED + 7))
     if wanted() - script.seen:
         raise ValueError(f'the script has no {sorted(wanted() - script.seen)}')
     return script

@@ -25,10 +25,20 @@ STEPS = (b'O ENI 2008-08-01\nC 2008-08-14\nC 2008-08-13\nC 2008-08-12\nC 2008-08
          b'O AXA 2008-08-01\nC 2008-08-15\nC 2008-08-14\nC 2008-08-13\nC 2008-08-12\nC 2008-08-11\n')
 
 
+# 02, note 3, on a file in which only 21 March 2008 is closed: the Fridays from 17
+# March on, for an Italian option and for another; 1 May 2009 closed ends on 30
+# April; 24, 11 and 16 at the cover's ends, where a monthly option is not asked 24.
+WEEKS = (b'O AXAW 2008-03-17\nR 2008-03-28\nR 2008-03-29\nC 2008-04-11\nC 2008-04-10\nR 2008-04-10\n'
+         b'O ENIW 2008-03-17\nR 2008-03-29\nC 2008-04-24\nR 2008-04-24\nC 2008-04-25\n'
+         b'O AXAW 2009-04-20\nC 2009-05-01\nR 2009-05-01\n'
+         b'O AXAW 2007-12-31\nO AXAW 2008-01-01\nO AXAW 2008-01-07\nO AXAW 2008-01-08\nO AXA 2008-01-01\n'
+         b'O AXAW 2010-12-03\nR 2010-12-04\nO ENIW 2010-12-04\n')
+
+
 # ---- Families: each a list of functions from random choices to a run ----
 
 # 01's example, also in pieces, from a file and without the final line feed; every
-# number of days stepped back.
+# number of days stepped back; weekly options.
 def examples():
     def example(commands, feed):
         name = f'the example of document 01, {feed}'
@@ -36,7 +46,8 @@ def examples():
 
     return [example(EXAMPLE, WHOLE), example(EXAMPLE, PIECES), example(EXAMPLE, STORED),
             example(EXAMPLE[:-1], WHOLE), example(b'', CLOSED), example(b'', UNREADABLE),
-            lambda chance: with_file('days stepped back', lines.FILE, STEPS)]
+            lambda chance: with_file('days stepped back', lines.FILE, STEPS),
+            lambda chance: with_file('weekly options', lines.WEEKLY_FILE, WEEKS)]
 
 
 # The shapes of an input. Short ones come in pieces too, as a pipe holds them whole.
@@ -107,17 +118,19 @@ def cases(seed, count=COUNT):
 # ---- What the set must have ----
 
 # 01, Questions: the refusals of open, roll and close. 10 can't come: the program
-# holds no table that is not sound. Opens of every kind, by the count of months
-# listed; rolls and closes with which a month left. 02, note 2: the days stepped
+# holds no table that is not sound. Opens of every kind, by the count of months or
+# Fridays listed; rolls and closes with which one left. 02, note 2: the days stepped
 # back; 5 can't come, as a Friday steps back to Monday at most, and a Thursday that
-# passes Monday to the Friday before.
-WANTED = frozenset((b'O 6', b'O 7', b'O 8', b'O 12', b'O 15', b'R', b'C', b'R left', b'C left', b'BAD',
-                    *(b'NO %d' % number for number in range(1, 17) if number != 10),
-                    *(b'back %d' % back for back in (0, 1, 2, 3, 4, 6))))
+# passes Monday to the Friday before. 02, note 3: those of Fridays.
+WANTED = frozenset((b'O 4', b'O 6', b'O 7', b'O 8', b'O 12', b'O 15', b'R', b'C', b'R left', b'C left', b'BAD',
+                    *(b'NO %d' % number for number in (*range(1, 17), 24) if number != 10),
+                    *(b'back %d' % back for back in (0, 1, 2, 3, 4, 6)),
+                    *(b'weekly back %d' % back for back in (0, 1, 2, 3, 4))))
 
 
 # What a line says: a refusal, BAD, the kind of an accepted call, or the days that
-# a maturity stepped back. None for what follows the last line feed.
+# a maturity stepped back; a weekly one is named by a day. None for what follows the
+# last line feed.
 def answer_of(line):
     words = line.split(b' ')
     if words[0] in (b'NO', b'BAD'):
@@ -126,7 +139,9 @@ def answer_of(line):
         return b'O ' + words[2]
     if words[0] in (b'R', b'C'):
         return words[0] if words[3] == b'0' else words[0] + b' left'
-    return b'back ' + words[3] if line else None
+    if not line:
+        return None
+    return (b'back ' if len(words[1]) == len('2008-03') else b'weekly back ') + words[3]
 
 
 # The answers of an output.

@@ -137,6 +137,20 @@ class Sessions(unittest.TestCase):
             (15, '0'), (14, '1'), (13, '2'), (12, '3'), (11, '4'))])
         self.assertEqual([line for line in printed if line[0] == 'N'], ['NO 15', 'NO 15'])
 
+    # 02, note 3: the first lines of the run of weekly options, and its moved days.
+    def test_weekly_options(self):
+        printed = terms.answers(lines.WEEKLY_FILE, sessions.WEEKS).decode().splitlines()
+        self.assertEqual([line for line in printed if line[0] in 'ORCN'], [
+            'O 2008-03-17 4 0 4', 'R 2008-03-28 0 0 4', 'R 2008-03-29 1 1 5', 'C 2008-03-29 0 0 5',
+            'C 2008-03-29 0 0 5', 'R 2008-04-10 2 2 7',
+            'O 2008-03-17 4 0 4', 'R 2008-03-29 1 1 5', 'C 2008-03-29 0 0 5', 'R 2008-04-24 2 2 7',
+            'C 2008-04-24 1 1 8', 'O 2009-04-20 4 0 4', 'C 2009-04-20 0 0 4', 'R 2009-05-01 2 2 6',
+            'NO 11', 'NO 24', 'NO 24', 'O 2008-01-08 4 0 4', 'O 2008-01-01 6 0 6',
+            'O 2010-12-03 4 0 4', 'NO 16', 'NO 16'])
+        self.assertEqual([line for line in printed if len(line.split()) == 4 and line[-1] != '0'], [
+            '3 2008-04-11 2008-04-10 1', '3 2008-04-11 2008-04-09 2', '2 2009-05-01 2009-04-30 1',
+            '3 2008-03 2008-03-20 1'])
+
     # The set holds every family whole.
     def test_count(self):
         makers = [*sessions.examples(), *sessions.inputs(), *sessions.states(), *sessions.sized_files(),
@@ -159,8 +173,9 @@ class Sessions(unittest.TestCase):
 
     def test_answers(self):
         printed = (b'O 2008-03-20 6 0 6\n1 2008-03 2008-03-20 1\nR 2008-03-21 1 1 7\n'
-                   b'C 2008-03-21 0 0 7\nNO 13\nBAD\n')
-        self.assertEqual(sessions.answers_in(printed), {b'O 6', b'back 1', b'R left', b'C', b'NO 13', b'BAD'})
+                   b'C 2008-03-21 0 0 7\nNO 13\nBAD\n2 2009-05-01 2009-04-30 1\n')
+        self.assertEqual(sessions.answers_in(printed),
+                         {b'O 6', b'back 1', b'R left', b'C', b'NO 13', b'BAD', b'weekly back 1'})
 
 
 if __name__ == '__main__':

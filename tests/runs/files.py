@@ -56,12 +56,17 @@ def some_calendar(chance, years):
     return Calendar(first_year, years, closed, frozenset(second))
 
 
+# Kinds with the same group digits: a future of 2005 and a weekly option (02, notes 1
+# and 3).
+OTHER_KINDS = {product.FUTURE: product.FUTURE_2005, product.OPTION_12: product.OPTION_WEEKLY}
+
+
 # As many products as a file can hold, by rising id. Every third future is one of
-# 2005.
+# 2005, and every third option of 12 months a weekly one.
 @lru_cache(maxsize=1)
 def all_products():
     products = cases.many_products(RECORDS_AT_MOST * (SIZES[-1] - 1))
-    return [replace(one, kind=product.FUTURE_2005) if product.is_future(one) and k % 3 == 0 else one
+    return [replace(one, kind=OTHER_KINDS.get(one.kind, one.kind)) if k % 3 == 0 else one
             for k, one in enumerate(products)]
 
 
@@ -166,7 +171,7 @@ def week_fault(chance, layout):
 
 # Values of fields that are wrong in a record of any kind.
 WRONG = [(offset, value) for _, offset, values in cases.OUTSIDE for value in values
-         if (offset, value) not in ((4, b'FR01'), (12, b'\0'), (12, b'\4'))] + [(12, b'\5')]
+         if (offset, value) not in ((4, b'FR01'), (12, b'\0'), (12, b'\4'))] + [(12, b'\6')]
 
 
 # 7: "Is every record, and all that must be zero in its block, as stated?"
@@ -203,11 +208,11 @@ def name_of(item):
 # the cover, then rolls and closes.
 def opens(chance, layout):
     first, last = trading.first_day(layout.calendar), trading.last_day(layout.calendar)
-    days = (first, last, chance.randint(first, last), chance.randint(first, (first + last) // 2))
+    days = (first, first + 7, last, chance.randint(first, last), chance.randint(first, (first + last) // 2))
     names = (name_of(layout.products[0]), name_of(layout.products[-1]),
              name_of(chance.choice(layout.products)), b'0', b'AXA', b'ZZZ9')
     lines = [b'O %s %s' % (chance.choice(names), day_word(chance.choice(days))) for _ in range(6)]
-    lines += [b'O %s %s' % (name_of(chance.choice(layout.products)), day_word(first)),
+    lines += [b'O %s %s' % (name_of(chance.choice(layout.products)), day_word(chance.choice(days[:2]))),
               b'R ' + day_word(chance.choice(days)), b'C ' + day_word(chance.randint(first, last))]
     return text_of(lines)
 

@@ -1,12 +1,12 @@
 """Histories of tables as commands: the book says what fits the moment (01, "The
-table"): covers of 1, 2, 3, 5, 7 and 16 years, closure clusters, long
+table"; 02, note 3): covers of 1, 2, 3, 5, 7 and 16 years, closure clusters, long
 histories."""
 
 from runs.case import with_file
 from runs.lines import OTHER_LINES, day_word, text_of
-from second import dates, listing, master, trading
+from second import dates, listing, master, product, trading
 from second.book import Book
-from tables.files import FUTURES_2005, PRODUCTS, by_id, clustered, product_from
+from tables.files import FUTURES_2005, PRODUCTS, WEEKLY, by_id, clustered, clustered_weekly, product_from
 from tables.moments import push_calls, some_calls
 from tables.script import book_call
 
@@ -14,7 +14,7 @@ COVERS = (1, 2, 3, 5, 7, 16)
 
 # 01, Last trading day: "for the groups IT01 and IT11 the day before that". All
 # kinds, these groups and others that begin with IT.
-ITEMS = by_id(*PRODUCTS, *FUTURES_2005, product_from('FIA2 IT02 XMIL 0 500 1 EUR'),
+ITEMS = by_id(*PRODUCTS, *FUTURES_2005, *WEEKLY, product_from('FIA2 IT02 XMIL 0 500 1 EUR'),
               product_from('ENI2 IT12 XMIL 1 500 1 EUR'), product_from('IT IT10 XMIL 3 500 1 EUR'))
 
 
@@ -25,7 +25,8 @@ class Session:
         last = dates.LAST_YEAR + 1 - years
         first_year = chance.choice((2000, 2008, last, chance.randint(2000, last)))
         self.chance = chance
-        self.calendar = clustered(chance, min(first_year, last), years)
+        made = chance.choice((clustered, clustered_weekly))
+        self.calendar = made(chance, min(first_year, last), years)
         self.file = master.build(self.calendar, ITEMS, chance.choice((15, 15, 4, 1)))
         self.lines = []
         self.book = None
@@ -41,7 +42,14 @@ class Session:
     # The products that can be opened on a date.
     def openable(self, date):
         return [item for item in ITEMS
-                if listing.listing_in_cover(self.calendar, item.group, item.kind, date)]
+                if listing.passes_24(self.calendar, item.kind, date)
+                and listing.listing_in_cover(self.calendar, item.group, item.kind, date)]
+
+    # One of them, a weekly option more often than one among many.
+    def some_item(self, date):
+        items = self.openable(date)
+        weekly = [item for item in items if product.is_weekly(item.kind)]
+        return self.chance.choice(weekly if weekly and self.chance.random() < 0.3 else items)
 
     # An accepted open of a product.
     def open(self, item, date):
@@ -54,7 +62,12 @@ class Session:
         date = self.chance.randint(self.first, self.chance.choice((self.first + 60, self.last)))
         if not self.openable(date):
             date = self.first
-        self.open(self.chance.choice(self.openable(date)), date)
+        self.open(self.some_item(date), date)
+
+    # An accepted open on the first date, or on the first one for weekly options.
+    def open_first(self):
+        date = self.first + self.chance.choice((0, 7))
+        self.open(self.some_item(date), date)
 
     # Rolls and closes, by the letter and the day.
     def make(self, calls):
@@ -63,12 +76,14 @@ class Session:
             book_call(self.book, letter, day)
 
     # A line that leaves the table as it is: another line, an id that is not
-    # there, a date outside the cover, a product whose listing does not fit.
+    # there, a date outside the cover, a product whose listing does not fit, a weekly
+    # option in the cover's first week.
     def disturb(self):
         self.lines.append(self.chance.choice((
             self.chance.choice(OTHER_LINES), b'O NONE ' + day_word(self.book.date),
             b'O AXA ' + day_word(self.first - 1), b'O AXA ' + day_word(self.last + 1),
-            b'O DAI ' + day_word(self.last), b'O FIAT ' + day_word(self.last))))
+            b'O DAI ' + day_word(self.last), b'O FIAT ' + day_word(self.last),
+            b'O AXAW ' + day_word(self.last), b'O ENIW ' + day_word(self.first + self.chance.below(7)))))
 
     # The run.
     def case(self, name):
@@ -113,7 +128,7 @@ def dates_to_the_end(chance, book, step):
 # end from day to day; then out of the cover.
 def to_the_end(chance, years):
     session = Session(chance, years)
-    session.open(chance.choice(session.openable(session.first)), session.first)
+    session.open_first()
     session.make(('R', date) for date in dates_to_the_end(chance, session.book, 3 + 9 * years))
     last = session.book.date
     session.make(('R', date) for date in (*range(last, min(last + 45, session.last + 1)), session.last,
@@ -125,7 +140,7 @@ def to_the_end(chance, years):
 # cover's ends too.
 def closed_weeks(chance, years):
     session = Session(chance, years)
-    session.open(chance.choice(session.openable(session.first)), session.first)
+    session.open_first()
     others = chance.sample(range(session.first, session.last - 6), 6)
     for start in (session.first, session.first + 7, session.last - 6, *others):
         session.make(('C', day) for day in chance.sample(range(start, start + 7), 7))
@@ -146,7 +161,7 @@ def pushed(chance, years):
 # 01, question 16 by a close: the same on the last dates that fit the cover.
 def pushed_at_the_end(chance, years):
     session = Session(chance, years)
-    session.open(chance.choice(session.openable(session.first)), session.first)
+    session.open_first()
     session.make([('R', dates_to_the_end(chance, session.book, 20)[-2])])
     for _ in range(4):
         session.make(push_calls(session.book))
@@ -156,7 +171,7 @@ def pushed_at_the_end(chance, years):
 # Many opens in one run: every product, on dates of the cover and around it.
 def many_opens(chance, years):
     session = Session(chance, years)
-    days = [session.first - 1, session.first, session.last, session.last + 1,
+    days = [session.first - 1, session.first, session.first + 6, session.first + 7, session.last, session.last + 1,
             *(chance.randint(session.first, session.last) for _ in range(8))]
     session.lines = [b'O %s %s' % (item.id.rstrip(), day_word(day)) for item in ITEMS for day in days]
     return session.case('many opens')
@@ -165,13 +180,13 @@ def many_opens(chance, years):
 # A closure in every week, in long covers in every few weeks, to the cover's end.
 def many_closes(chance, years):
     session = Session(chance, years)
-    session.open(chance.choice(session.openable(session.first)), session.first)
+    session.open_first()
     weeks = range(session.first + 3, session.last, 7 * max(1, years // 3))
     session.make(('C', day + chance.randrange(5)) for day in weeks)
     return session.case('many closes')
 
 
-# Refusals 9, 11 to 16 and the other lines, each on a table that then rolls.
+# Refusals 9, 11 to 16, 24 and the other lines, each on a table that then rolls.
 def refusals(chance, years):
     session = Session(chance, years)
     session.open_some()

@@ -5,17 +5,18 @@ import datetime
 
 from second import dates, master
 from second.trading import Calendar
-from tables.files import products_of
+from tables.files import WEEKLY, by_id, products_of
 
 OPEN = b'O AXA 2008-03-20'
 ROLL = b'R 2008-03-21'
 CLOSE = b'C 2008-04-18'
 
-# 01: "With 2008–2010, only 21 March 2008 closed, and AXA": the example's file, and
-# one with two products more.
+# 01: "With 2008–2010, only 21 March 2008 closed, and AXA": the example's file, one
+# with two products more, and one with weekly options (02, note 3).
 CALENDAR = Calendar(2008, 3, frozenset((dates.day_of(2008, 3, 21),)))
 EXAMPLE_FILE = master.build(CALENDAR, products_of('AXA'))
 FILE = master.build(CALENDAR, products_of('AXA', 'AXAF', 'ENI'))
+WEEKLY_FILE = master.build(CALENDAR, by_id(*products_of('AXA', 'ENI'), *WEEKLY))
 
 # 01: "An id is 1 to 4 characters as in a record". Words that are no id.
 OTHER_IDS = (

@@ -1,4 +1,4 @@
-"""The book of demand 3 (01, "The table"; 02, note 2). It knows nothing of
+"""The book of demand 3 (01, "The table"; 02, notes 2 and 3). It knows nothing of
 table.py."""
 
 from second import listing, trading
@@ -6,7 +6,8 @@ from second import listing, trading
 
 # 01, The table: "It holds a calendar, a date, maturities (month, day, number),
 # the count given and the months that left." A maturity also has the days stepped
-# back: (month, day, days back, number).
+# back: (key, day, days back, number). 02, note 3: "demand 3 and its book read with
+# Fridays for months"; the key is the month or the Friday.
 class Book:
 
     # 01, The table: "fed the opened product's kind and group, the file's
@@ -19,8 +20,8 @@ class Book:
         self.calendar = calendar
         self.date = date
         fresh = listing.fresh_listing(calendar, group, kind, date)
-        self.maturities = [(month, day, back, place + 1)
-                           for place, (month, day, back) in enumerate(fresh)]
+        self.maturities = [(key, day, back, place + 1)
+                           for place, (key, day, back) in enumerate(fresh)]
         self.given = len(fresh)
         self.left = []
 
@@ -35,17 +36,16 @@ class Book:
     # old one joins those that left." The accepted call's answer: (0, entered,
     # left).
     def _accept(self, calendar, date):
-        fresh = {month: (day, back) for month, day, back
+        fresh = {key: (day, back) for key, day, back
                  in listing.fresh_listing(calendar, self.group, self.kind, date)}
-        numbers = {month: number for month, _, _, number in self.maturities}
+        numbers = {key: number for key, _, _, number in self.maturities}
         entered = sorted(fresh.keys() - numbers.keys())
         left = sorted(numbers.keys() - fresh.keys())
-        for place, month in enumerate(entered):
-            numbers[month] = self.given + 1 + place
+        for place, key in enumerate(entered):
+            numbers[key] = self.given + 1 + place
         self.calendar = calendar
         self.date = date
-        self.maturities = [(month, *fresh[month], numbers[month])
-                           for month in sorted(fresh)]
+        self.maturities = [(key, *fresh[key], numbers[key]) for key in sorted(fresh)]
         self.given += len(entered)
         self.left += left
         return 0, len(entered), len(left)

@@ -1,7 +1,12 @@
-"""Last trading days and listed months (01, "Last trading day", "Listed
-months", question 16; 02, notes 1 and 2)."""
+"""Last trading days, listed months and listed Fridays (01, "Last trading day",
+"Listed months", question 16; 02, notes 1, 2 and 3).
+
+The key of a maturity is its month number; that of a weekly option's is the day
+number of its Friday.
+"""
 
 from functools import lru_cache
+from itertools import islice
 
 from second import dates, product, trading
 
@@ -29,6 +34,9 @@ PARTS_2005 = (((3, 6, 9, 12), 4), ((4,), 1), ((5,), 1), ((7,), 1))
 # 02, note 1: "those seven names".
 NAMES_2005 = frozenset(name for names, _ in PARTS_2005 for name in names)
 
+# 02, note 3: "the next four expiry days".
+FRIDAYS = 4
+
 
 # 01, Last trading day: the "third Friday" of a month: the Friday from the 15th
 # to the 21st.
@@ -40,24 +48,39 @@ def third_friday(month):
             return day
 
 
+# 02, note 3: "the Fridays that are not the third Friday of their month".
+def is_weekly_friday(day):
+    return dates.weekday(day) == dates.FRIDAY and day != third_friday(dates.month_of(day))
+
+
+# These Fridays from one day to another, one after the other.
+def weekly_fridays(first, last):
+    friday = first + (dates.FRIDAY - dates.weekday(first)) % 7
+    return filter(is_weekly_friday, range(friday, last + 1, 7))
+
+
 # 01, Last trading day: "The anchor of a month is its third Friday; for the
-# groups IT01 and IT11 the day before that".
-def anchor(group, month):
+# groups IT01 and IT11 the day before that". 02, note 3: "A weekly maturity's
+# anchor is its Friday"; "The Italian rule takes no part".
+def anchor(group, kind, key):
+    if product.is_weekly(kind):
+        return key
     if product.is_italian(group):
-        return third_friday(month) - 1
-    return third_friday(month)
+        return third_friday(key) - 1
+    return third_friday(key)
 
 
 # 01, Last trading day: "The last trading day is the anchor if it is a trading
-# day, else the latest trading day before it." The month lies in the cover.
-def last_trading_day(calendar, group, month):
-    return trading.latest_trading_day(calendar, anchor(group, month))
+# day, else the latest trading day before it." 02, note 3: a Friday is "taken back
+# to the latest trading day at or before it". The month or Friday lies in the cover.
+def last_trading_day(calendar, group, kind, key):
+    return trading.latest_trading_day(calendar, anchor(group, kind, key))
 
 
 # 02, note 2: "the number of days it stepped back from the anchor, 0 to 6, equal
 # to anchor − day".
-def days_back(calendar, group, month):
-    return anchor(group, month) - last_trading_day(calendar, group, month)
+def days_back(calendar, group, kind, key):
+    return anchor(group, kind, key) - last_trading_day(calendar, group, kind, key)
 
 
 # Whether a month lies beyond the cover.
@@ -77,7 +100,7 @@ def names_of(kind):
 def front_month(calendar, group, kind, date):
     month = dates.month_of(date)
     while not is_beyond(calendar, month):
-        day = last_trading_day(calendar, group, month)
+        day = last_trading_day(calendar, group, kind, month)
         if month % 12 + 1 in names_of(kind) and day is not None and day >= date:
             return month
         month += 1
@@ -124,24 +147,70 @@ def months_of_2005(calendar, group, date):
     return tuple(sorted(taken)), len(taken) == sum(count for _, count in PARTS_2005)
 
 
-# The months that a kind lists on a date, and whether all of them are in the
-# cover. A call asks for the same listing several times, so the last ones are kept.
+# 02, note 3: "the four start at the first whose day is not before the date". A
+# Friday before the date has its day before it, so the walk starts at the date. The
+# day after the cover's last one where the cover has no such Friday.
+def front_friday(calendar, date):
+    last = trading.last_day(calendar)
+    for friday in weekly_fridays(date, last):
+        day = trading.latest_trading_day(calendar, friday)
+        if day is not None and day >= date:
+            return friday
+    return last + 1
+
+
+# 02, note 3: "the next four expiry days. Ours are the Fridays that are not the third
+# Friday of their month". The answer: those of the four that are in the cover, and
+# whether all of them are.
+def four_fridays(calendar, date):
+    taken = tuple(islice(weekly_fridays(front_friday(calendar, date), trading.last_day(calendar)),
+                         FRIDAYS))
+    return taken, len(taken) == FRIDAYS
+
+
+# The front month, or the front Friday of a weekly option.
+def front_key(calendar, group, kind, date):
+    if product.is_weekly(kind):
+        return front_friday(calendar, date)
+    return front_month(calendar, group, kind, date)
+
+
+# The months or Fridays that a kind lists on a date, and whether all of them are in
+# the cover. A call asks for the same listing several times, so the last ones are
+# kept.
 @lru_cache(maxsize=64)
-def listed_months(calendar, group, kind, date):
+def listed_keys(calendar, group, kind, date):
+    if product.is_weekly(kind):
+        return four_fridays(calendar, date)
     if kind == product.FUTURE_2005:
         return months_of_2005(calendar, group, date)
     return months_by_steps(calendar, group, kind, date)
 
 
-# 01, The table: "the fresh listing": month, last trading day and days stepped
-# back by rising month; months beyond the cover are left out.
+# 01, The table: "the fresh listing": key, last trading day and days stepped back by
+# rising key; months or Fridays beyond the cover are left out.
 @lru_cache(maxsize=64)
 def fresh_listing(calendar, group, kind, date):
-    months, _ = listed_months(calendar, group, kind, date)
-    return tuple((month, last_trading_day(calendar, group, month), days_back(calendar, group, month))
-                 for month in months)
+    keys, _ = listed_keys(calendar, group, kind, date)
+    return tuple((key, last_trading_day(calendar, group, kind, key), days_back(calendar, group, kind, key))
+                 for key in keys)
 
 
-# 01, question 16: "Are all months of the fresh listing in the cover?"
+# 01, question 16: "Are all months of the fresh listing in the cover?" 02, note 3:
+# "16 and 18 read with Fridays".
 def listing_in_cover(calendar, group, kind, date):
-    return listed_months(calendar, group, kind, date)[1]
+    return listed_keys(calendar, group, kind, date)[1]
+
+
+# 01, The table: "the number of cover months before the front month". 02, note 3:
+# "the cover's weekly Fridays before the front one take the place of cover months".
+def keys_before(calendar, kind, front):
+    if product.is_weekly(kind):
+        return len(list(weekly_fridays(trading.first_day(calendar), front - 1)))
+    return front - trading.first_month(calendar)
+
+
+# 02, note 3, question 24, "in opening kind 5: is the date at least seven days after
+# the cover's first day?" The other kinds are not asked.
+def passes_24(calendar, kind, date):
+    return not product.is_weekly(kind) or date >= trading.first_day(calendar) + 7

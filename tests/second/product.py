@@ -1,5 +1,5 @@
 """Kinds, product fields, settlement days, tick and cash (01, "Master file",
-"Due day, tick, cash", question 7; 02, note 1)."""
+"Due day, tick, cash", question 7; 02, notes 1 and 3)."""
 
 from dataclasses import dataclass
 
@@ -8,7 +8,8 @@ OPTION_12 = 1
 OPTION_24 = 2
 OPTION_60 = 3
 FUTURE_2005 = 4
-KINDS = (FUTURE, OPTION_12, OPTION_24, OPTION_60, FUTURE_2005)
+OPTION_WEEKLY = 5
+KINDS = (FUTURE, OPTION_12, OPTION_24, OPTION_60, FUTURE_2005, OPTION_WEEKLY)
 FUTURES = (FUTURE, FUTURE_2005)
 
 LETTERS = frozenset(b'ABCDEFGHIJKLMNOPQRSTUVWXYZ')
@@ -41,6 +42,11 @@ def is_future(product):
     return product.kind in FUTURES
 
 
+# 02, note 3: "Weekly tables [..] under kind 5".
+def is_weekly(kind):
+    return kind == OPTION_WEEKLY
+
+
 # 01, Master file: "product id, 1 to 4 of A–Z and 0–9, then spaces".
 def id_is_right(code):
     name = code.rstrip(b' ')
@@ -50,7 +56,7 @@ def id_is_right(code):
 
 # 01, Master file: "group, two letters A–Z and two digits, the first digit 0 for
 # futures and 1 for options". 02, note 1: the "group digit of kind 4" is that "of
-# a future".
+# a future"; note 3: "kind 5 and the option groups".
 def group_is_right(group, kind):
     return (len(group) == 4
             and group[0] in LETTERS and group[1] in LETTERS
@@ -63,8 +69,8 @@ def market_is_right(market):
     return len(market) == 4 and all(byte in LETTERS for byte in market)
 
 
-# 01, question 7, for the fields of one product. 02, note 1: "question 7 now admits
-# 4".
+# 01, question 7, for the fields of one product. 02, notes 1 and 3: "question 7 now
+# admits" 4 and 5.
 def fields_are_right(product):
     return (id_is_right(product.id)
             and product.kind in KINDS

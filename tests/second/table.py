@@ -1,5 +1,5 @@
 """The table of listed maturities and its calls (01, "The table", "Questions";
-02, note 2).
+02, notes 2 and 3).
 
 Every call answers first the number of the question that refused it, or 0.
 """
@@ -17,7 +17,8 @@ UNUSED = (0, 0, 0, 0)
 # 01, The table: "It holds the product's fields, the calendar, the date, up to
 # 15 maturities by rising month (month, last trading day, listing number; unused
 # places zero) and the count of numbers given." 02, note 2: "The table keeps [the
-# days stepped back] for each maturity". A place: month, day, days back, number.
+# days stepped back] for each maturity". A place: key, day, days back, number; the
+# key is the month or, of a weekly option, the Friday.
 @dataclass(frozen=True)
 class Table:
     product: Product
@@ -50,20 +51,21 @@ def listing_in_cover(table):
 
 # 01, The table: "Both then hold the fresh listing; a month that was there keeps
 # its number, and months that enter take the next numbers by rising month. A
-# month left if the old table had it and the new has not." The table comes with
-# its new calendar and date and its old maturities. (table, entered, left).
+# month left if the old table had it and the new has not." The same with Fridays of
+# weekly tables. The table comes with its new calendar and date and its old
+# maturities. (table, entered, left).
 def relist(table):
-    old = {month: number for month, _, _, number in maturities(table)}
+    old = {key: number for key, _, _, number in maturities(table)}
     fresh = fresh_listing(table)
     given = table.given
     places = []
-    for month, day, back in fresh:
-        if month in old:
-            places.append((month, day, back, old[month]))
+    for key, day, back in fresh:
+        if key in old:
+            places.append((key, day, back, old[key]))
         else:
             given += 1
-            places.append((month, day, back, given))
-    left = len(set(old) - {month for month, _, _ in fresh})
+            places.append((key, day, back, given))
+    left = len(set(old) - {key for key, _, _ in fresh})
     entered = given - table.given
     places += [UNUSED] * (PLACES - len(places))
     return replace(table, places=tuple(places), given=given), entered, left
@@ -86,7 +88,7 @@ def fields_are_sound(table):
 # sound table has it right".
 def places_are_sound(table):
     fresh = fresh_listing(table)
-    used = tuple((month, day, back) for month, day, back, _ in table.places[:len(fresh)])
+    used = tuple((key, day, back) for key, day, back, _ in table.places[:len(fresh)])
     unused = table.places[len(fresh):]
     return (len(table.places) == PLACES and listing_in_cover(table)
             and used == fresh and all(place == UNUSED for place in unused))
@@ -94,20 +96,21 @@ def places_are_sound(table):
 
 # 01, The table: "its numbers are distinct, from 1 to the count given; and given
 # − listed is at least 0 and at most the number of cover months before the front
-# month".
+# month", or of weekly Fridays before the front one (02, note 3).
 def numbers_are_sound(table):
     fresh = fresh_listing(table)
     numbers = [number for _, _, _, number in table.places[:len(fresh)]]
-    months_before = fresh[0][0] - trading.first_month(table.calendar)
+    before = listing.keys_before(table.calendar, table.product.kind, fresh[0][0])
     return (len(set(numbers)) == len(numbers)
             and all(1 <= number <= table.given for number in numbers)
-            and 0 <= table.given - len(fresh) <= months_before)
+            and 0 <= table.given - len(fresh) <= before)
 
 
-# 01, question 10: "Is the table sound?"
+# 01, question 10: "Is the table sound?" 02, note 3: "and the date passes 24".
 def is_sound(table):
     return (fields_are_sound(table)
             and trading.in_cover(table.calendar, table.date)
+            and listing.passes_24(table.calendar, table.product.kind, table.date)
             and places_are_sound(table)
             and numbers_are_sound(table))
 
@@ -115,13 +118,16 @@ def is_sound(table):
 # ---- Calls that give the table back: (number, table, entered, left) ----
 
 # 01, Questions: "Open: 1–9, 11, 16." "Open numbers the listed months 1, 2, ..
-# by rising month; entered is the months listed and left is 0."
+# by rising month; entered is the months listed and left is 0." 02, note 3: "24,
+# after 11, in opening kind 5".
 def open_table(file, code, date):
     number, calendar, item = master.find(file, code)
     if number:
         return number, ZERO_TABLE, 0, 0
     if not trading.in_cover(calendar, date):
         return 11, ZERO_TABLE, 0, 0
+    if not listing.passes_24(calendar, item.kind, date):
+        return 24, ZERO_TABLE, 0, 0
     empty = Table(item, calendar, date, (UNUSED,) * PLACES, 0)
     if not listing_in_cover(empty):
         return 16, ZERO_TABLE, 0, 0
@@ -164,12 +170,13 @@ def close(table, day):
 # ---- Calls that give values ----
 
 # 01, Questions: "Last trading day of a listed month: 10, 18."; 02, note 2: with
-# the days stepped back. (number, day, days back).
-def last_trading_day(table, month):
+# the days stepped back; note 3: "16 and 18 read with Fridays". (number, day, days
+# back).
+def last_trading_day(table, key):
     if not is_sound(table):
         return 10, 0, 0
     for listed, day, back, _ in maturities(table):
-        if listed == month:
+        if listed == key:
             return 0, day, back
     return 18, 0, 0
 

@@ -1,4 +1,4 @@
-"""The program `terms` (01, "March 2008 and its neighbours"; 02, note 2).
+"""The program `terms` (01, "March 2008 and its neighbours"; 02, notes 2 and 3).
 
 python3 tests/second/terms.py reads master.bin in the current folder and
 commands from standard input, and prints the answers. It ends with status 0, or
@@ -12,7 +12,7 @@ import sys
 if __name__ == '__main__':
     sys.path.insert(0, os.path.dirname(os.path.dirname(os.path.abspath(__file__))))
 
-from second import dates, master, table  # noqa: E402
+from second import dates, master, product, table  # noqa: E402
 
 # 01: "`O id date`, `R date`, `C date`. An id is 1 to 4 characters as in a
 # record; a date is year, month, day in 4, 2 and 2 digits joined by hyphens".
@@ -86,13 +86,19 @@ def month_text(month):
     return '%04d-%02d' % dates.year_and_month(month)
 
 
+# The month of a maturity. 02, note 3: "its Friday, by whose date it is named and
+# printed".
+def key_text(kind, key):
+    return day_text(key) if product.is_weekly(kind) else month_text(key)
+
+
 # 01: "It prints the call's letter, the table's date after the call, entered,
 # left, given; then number, month, last trading day for each maturity". 02, note
 # 2: it "prints [the days stepped back] as a fourth number on each maturity line".
 def report(letter, held, entered, left):
     lines = ['%s %s %d %d %d' % (letter, day_text(held.date), entered, left, held.given)]
-    for month, day, back, number in table.maturities(held):
-        lines.append('%d %s %s %d' % (number, month_text(month), day_text(day), back))
+    for key, day, back, number in table.maturities(held):
+        lines.append('%d %s %s %d' % (number, key_text(held.product.kind, key), day_text(day), back))
     return lines
 
 

@@ -1,11 +1,12 @@
 """Damaged tables: one field of a sound table changed, and every call on it (01,
-"A table is sound if"; 02, notes 1, 2 and 4)."""
+"A table is sound if"; 02, notes 1 to 4)."""
 
 from second import dates, listing, product, table, trading
-from tables.files import (EASTER_SECOND, EXAMPLE, ONE_YEAR, SEVEN_YEARS, SEVEN_YEARS_SECOND, SIXTEEN_YEARS,
-                          SIXTEEN_YEARS_2005, SIXTEEN_YEARS_SECOND, THREE_YEARS_2005, first_date)
-from tables.script import (BACK, CLOSED, CURRENCY, DATE, DAY, EXCHANGE, FIRST_YEAR, GIVEN, GROUP, ID, KIND, MARKET,
-                           MONTH, NUMBER, SIZE, TICK, YEARS)
+from tables.files import (EASTER_SECOND, EXAMPLE, FIRST_DAYS_WEEKLY, ONE_YEAR, SEVEN_YEARS, SEVEN_YEARS_SECOND,
+                          SIXTEEN_YEARS, SIXTEEN_YEARS_2005, SIXTEEN_YEARS_SECOND, SIXTEEN_YEARS_WEEKLY,
+                          THREE_YEARS_2005, THREE_YEARS_WEEKLY, WEEKLY_2010, first_date, opening_date)
+from tables.script import (BACK, CLOSED, CURRENCY, DATE, DAY, EXCHANGE, FIRST_YEAR, GIVEN, GROUP, ID, KEY, KIND,
+                           MARKET, NUMBER, SIZE, TICK, YEARS)
 
 
 # 01, The table: "its product fields [..] satisfy [..] 7", each field in turn.
@@ -61,12 +62,12 @@ def calendar_damages(now):
 def listing_damages(now):
     calendar = now.calendar
     used = len(table.maturities(now))
-    month, day, _, _ = now.places[0]
-    unused = [((MONTH, DAY, NUMBER)[place % 3], place, 1) for place in range(used, table.PLACES)]
+    key, day, _, _ = now.places[0]
+    unused = [((KEY, DAY, NUMBER)[place % 3], place, 1) for place in range(used, table.PLACES)]
     return [(DATE, 0, max(0, trading.first_day(calendar) - 1)), (DATE, 0, trading.last_day(calendar) + 1),
             (DATE, 0, trading.last_day(calendar)), (DATE, 0, 65535), (DATE, 0, day + 1),
-            (MONTH, 0, month + 1), (MONTH, 0, month - 1), (MONTH, used - 1, 0),
-            (MONTH, used - 1, now.places[used - 1][0] + 1), (MONTH, 1, 65535),
+            (KEY, 0, key + 1), (KEY, 0, key - 1), (KEY, used - 1, 0),
+            (KEY, used - 1, now.places[used - 1][0] + 1), (KEY, 1, 65535),
             (DAY, 0, day - 1), (DAY, 0, day + 1), (DAY, 0, 0), (DAY, used - 1, 65535),
             (DAY, used - 1, now.places[used - 2][1]), *unused]
 
@@ -81,29 +82,41 @@ def back_damages(now):
             (BACK, used - 1, 65535), *unused]
 
 
+# 01, The table: "given − listed is [..] at most the number of cover months before
+# the front month"; 02, note 3: or of weekly Fridays. The largest count given.
+def most_given(now):
+    return (len(table.maturities(now))
+            + listing.keys_before(now.calendar, now.product.kind, now.places[0][0]))
+
+
 # 01, The table: "its numbers are distinct, from 1 to the count given; and given
 # − listed is at least 0 and at most the number of cover months before the front
 # month": doubled, zero, above given; given too small and too large.
 def number_damages(now):
     used = len(table.maturities(now))
-    most = used + now.places[0][0] - trading.first_month(now.calendar)
     return [(NUMBER, 0, now.places[1][3]), (NUMBER, used - 1, now.places[0][3]),
             (NUMBER, 2, now.places[used - 1][3]), (NUMBER, 0, 0), (NUMBER, used - 1, 0),
             (NUMBER, 0, now.given + 1), (NUMBER, used - 1, now.given + 1), (NUMBER, 1, 65535),
             (GIVEN, 0, used - 1), (GIVEN, 0, now.places[used - 1][3] - 1), (GIVEN, 0, 0),
-            (GIVEN, 0, most + 1), (GIVEN, 0, 65535)]
+            (GIVEN, 0, most_given(now) + 1), (GIVEN, 0, 65535)]
 
 
-# Changes that leave a table sound: another id, market, size and tick, a closed
-# day in the distance, the largest count given.
-def harmless_changes(now):
-    used = len(table.maturities(now))
-    most = used + now.places[0][0] - trading.first_month(now.calendar)
-    day = now.places[1][1] + 7
-    while not trading.is_trading_day(now.calendar, day):
+# A trading day in the distance on which no listed maturity ends and which can be
+# closed.
+def day_of_no_maturity(now):
+    last_days = [day for _, day, _, _ in table.maturities(now)]
+    day = last_days[1] + 7
+    while not (trading.is_trading_day(now.calendar, day) and day not in last_days
+               and trading.every_week_trades_without(now.calendar, day)):
         day += 1
+    return day
+
+
+# Changes that leave a table sound: another id, market, size and tick, such a day
+# closed, the largest count given.
+def harmless_changes(now):
     return [(ID, 0, 90), (ID, 0, 48), (MARKET, 3, 65), (SIZE, 0, 65535), (SIZE, 0, 1), (TICK, 0, 5),
-            (CLOSED, *map_place(now.calendar, day)), (GIVEN, 0, most)]
+            (CLOSED, *map_place(now.calendar, day_of_no_maturity(now))), (GIVEN, 0, most_given(now))]
 
 
 # The first day after a sound table's date that it can close.
@@ -134,11 +147,12 @@ def every_call_refused_twice(script):
 
 # Every call on a damaged table: 01, question 10, "With it: table calls return
 # the same table and counts 0 and 0".
-def try_damage(script, change):
+def try_damage(script, *changes):
     script.restore()
-    script.damage(*change)
+    for change in changes:
+        script.damage(*change)
     if every_call(script) != {10}:
-        raise ValueError(f'{change} leaves the table sound')
+        raise ValueError(f'{changes} leave the table sound')
 
 
 # Every damage of a table.
@@ -207,27 +221,21 @@ BASES_2005 = ((THREE_YEARS_2005, b'AXA5', 2923, 100), (SIXTEEN_YEARS_2005, b'FIA
 BOUNDS_2005 = ((2008, 1, 2), (2008, 7, 19), (2009, 9, 19), (2010, 1, 1))
 
 
-# 01, The table: "given − listed is [..] at most the number of cover months before
-# the front month", all of them and not only those of the seven names: the largest
-# count given, and one above.
-def given_of_2005(script):
-    for date in BOUNDS_2005:
-        script.open(THREE_YEARS_2005, b'AXA5', dates.day_of(*date))
+# The largest count given on each of some dates, one less, and one more. Of futures of
+# 2005 all cover months before the front month count, not only those of the seven names.
+def given_at_bounds(script, number, code, bounds):
+    for date in bounds:
+        script.open(number, code, dates.day_of(*date))
         script.save()
-        now = script.saved
-        most = 7 + now.places[0][0] - trading.first_month(now.calendar)
-        for given in (most - 1, most):
-            script.restore()
-            script.damage(GIVEN, 0, given)
-            if 10 in every_call(script):
-                raise ValueError(f'{given} numbers given on {date} do not leave the table sound')
+        most = most_given(script.saved)
+        leave_sound(script, [(GIVEN, 0, most - 1), (GIVEN, 0, most)])
         try_damage(script, (GIVEN, 0, most + 1))
 
 
 # The damages and the harmless changes of tables of futures of 2005.
 def damaged_tables_of_2005(script):
     damage_each(script, BASES_2005)
-    given_of_2005(script)
+    given_at_bounds(script, THREE_YEARS_2005, b'AXA5', BOUNDS_2005)
 
 
 # 02, note 4: a bit of the second map "may be set only where the first map has its
@@ -268,6 +276,56 @@ def damaged_second_maps(script):
             try_damage(script, change)
         every_call_refused_twice(script)
         leave_sound(script, harmless_second_maps(script.saved))
+
+
+# 02, note 3: tables of weekly options after a roll and a closure.
+BASES_WEEKLY = ((THREE_YEARS_WEEKLY, b'AXAW', 2930, 400), (SIXTEEN_YEARS_WEEKLY, b'ENIW', 31000, 3100))
+
+# 02, note 3: dates with one weekly Friday of the cover before the front one and with
+# more; on the last, at the end of 16 years, more than 255.
+BOUNDS_WEEKLY = ((2008, 1, 11), (2008, 3, 17), (2008, 4, 12), (2010, 12, 1))
+BOUNDS_OF_16_YEARS = ((2084, 1, 8), (2099, 11, 16))
+
+
+# 02, note 3, "the Fridays that are not the third Friday of their month": a table of
+# 7 April 2008, which lists 11 and 25 April, 2 and 9 May, with a Friday exchanged
+# for a third Friday, for a Friday not yet listed, for its month's number; two
+# Fridays exchanged for one another; with its Fridays named by the numbers of their
+# months.
+def other_fridays(script):
+    script.open(THREE_YEARS_WEEKLY, b'AXAW', dates.day_of(2008, 4, 7))
+    script.save()
+    fridays = [place[0] for place in table.maturities(script.saved)]
+    third = listing.third_friday(dates.month_of(fridays[0]))
+    for place, friday in ((1, third), (3, listing.third_friday(dates.month_of(fridays[3]))),
+                          (3, fridays[3] + 14), (0, fridays[0] - 7)):
+        try_damage(script, (KEY, place, friday))
+        try_damage(script, (KEY, place, friday), (DAY, place, friday))
+    for place, friday in enumerate(fridays):
+        try_damage(script, (KEY, place, dates.month_of(friday)))
+    try_damage(script, *((KEY, place, dates.month_of(friday)) for place, friday in enumerate(fridays)))
+    try_damage(script, (KEY, 1, fridays[2]), (DAY, 1, fridays[2]), (KEY, 2, fridays[1]), (DAY, 2, fridays[1]))
+
+
+# 02, note 3: "and the date passes 24": the dates of the cover's first seven days,
+# some of which have the listing of the first date that passes.
+def dates_of_the_first_week(script):
+    for number in (THREE_YEARS_WEEKLY, WEEKLY_2010, FIRST_DAYS_WEEKLY):
+        for code in (b'AXAW', b'ENIW'):
+            date = opening_date(number, code)
+            script.open(number, code, date)
+            script.save()
+            for earlier in range(date - 1, date - 9, -1):
+                try_damage(script, (DATE, 0, earlier))
+
+
+# The damages and the harmless changes of weekly tables.
+def damaged_weekly_tables(script):
+    damage_each(script, BASES_WEEKLY)
+    given_at_bounds(script, THREE_YEARS_WEEKLY, b'ENIW', BOUNDS_WEEKLY)
+    given_at_bounds(script, SIXTEEN_YEARS_WEEKLY, b'AXAW', BOUNDS_OF_16_YEARS)
+    other_fridays(script)
+    dates_of_the_first_week(script)
 
 
 # The table of zeros that a refused open gives back is not sound.

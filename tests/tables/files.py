@@ -38,10 +38,8 @@ def easter_sunday(year):
     return dates.day_of(year, month, day + 1)
 
 
-# The days around the third Friday that a month closes: none, one of them or
-# several in a row.
-def near_third_friday(numbers, month):
-    friday = listing.third_friday(month)
+# The days around a Friday that are closed: none, one of them or several in a row.
+def near_friday(numbers, friday):
     back = numbers.one_of(((), (), (0,), (1,), (0, 1), (0, 1, 2), (1, 2, 3), (0, 1, 2, 3), (-3,)))
     return [friday - days for days in back]
 
@@ -77,8 +75,17 @@ def clustered(numbers, first_year, years):
     for year in range(first_year, first_year + years):
         first = dates.month_number(year, 1)
         days += feasts(numbers, year)
-        days += [day for month in range(first, first + 12) for day in near_third_friday(numbers, month)]
+        days += [day for month in range(first, first + 12)
+                 for day in near_friday(numbers, listing.third_friday(month))]
     return Calendar(first_year, years, closable(days))
+
+
+# 02, note 3: a calendar with closures near weekly Fridays.
+def clustered_weekly(numbers, first_year, years):
+    empty = Calendar(first_year, years, frozenset())
+    fridays = listing.weekly_fridays(trading.first_day(empty), trading.last_day(empty))
+    days = [day for friday in fridays for day in near_friday(numbers, friday)]
+    return replace(empty, closed=closable(day for day in days if trading.in_cover(empty, day)))
 
 
 # A product from a line: id, group, market, kind, size, tick, currency.
@@ -113,6 +120,17 @@ FUTURES_2005 = tuple(product_from(line) for line in (
     'FIA5 IT01 XMIL 4 500 1 EUR',
     'IT05 IT02 XMIL 4 1 5 EUR',
     'VOD5 GB09 XLON 4 65535 10 GBX',
+))
+
+
+# 02, note 3: "under kind 5 and the option groups", with an Italian group and with
+# others, every count of days to settlement.
+WEEKLY = tuple(product_from(line) for line in (
+    'AXAW FR11 XPAR 5 100 100 EUR',
+    'BAYW DE13 XETR 5 10 10 EUR',
+    'BPW GB11 XLON 5 1000 5 GBX',
+    'ENIW IT11 XMIL 5 500 1 EUR',
+    'ITW IT19 XMIL 5 65535 1 EUR',
 ))
 
 
@@ -229,11 +247,40 @@ def refused_second_maps():
     ]
 
 
+# 02, note 3: files with weekly options: only 21 March 2008 closed; 2010, which
+# begins and ends with a weekly Friday; 2008 with its first four days closed, so
+# that no trading day lies at or before its first Friday; covers of 2 and 16 years
+# with closures near weekly Fridays, the first with a second map.
+def weekly_files():
+    numbers = Numbers(SEED + 6)
+    easter = frozenset((dates.day_of(2008, 3, 21),))
+    first_days = frozenset(dates.day_of(2008, 1, day) for day in range(1, 5))
+    items = by_id(*products_of('AXA', 'ENI'), *WEEKLY)
+    return [
+        master.build(Calendar(2008, 3, easter), items),
+        master.build(Calendar(2010, 1, frozenset()), items),
+        master.build(Calendar(2008, 1, first_days), items),
+        master.build(with_second_map(numbers, clustered_weekly(numbers, 2007, 2), 2), items),
+        master.build(clustered_weekly(numbers, 2084, 16), items, per_block=2),
+    ]
+
+
+# 02, note 3: files that question 7 refuses: a weekly option with a future's group,
+# and a kind 6.
+def refused_weekly_files():
+    calendar = Calendar(2008, 3, frozenset((dates.day_of(2008, 3, 21),)))
+    return [
+        (7, master.build(calendar, [replace(WEEKLY[0], group=b'FR01')])),
+        (7, master.build(calendar, [replace(WEEKLY[0], kind=6)])),
+    ]
+
+
 # All master files in the order of their numbers.
 @lru_cache(maxsize=1)
 def all_files():
     return [*accepted_files(), *(file for _, file in refused_files()), *files_of_2005(),
-            *second_map_files(), *(file for _, file in refused_second_maps())]
+            *second_map_files(), *(file for _, file in refused_second_maps()),
+            *weekly_files(), *(file for _, file in refused_weekly_files())]
 
 
 # The numbers of the files with futures of 2005.
@@ -242,6 +289,10 @@ ONE_YEAR_2005, THREE_YEARS_2005, TWO_YEARS_2005, SIXTEEN_YEARS_2005 = range(20, 
 # The numbers of the files with second maps, and of the first that is refused.
 (EASTER_SECOND, EASTER_ALONE, YEAR_END_SECOND, SEVEN_YEARS_SECOND, SIXTEEN_YEARS_SECOND,
  REFUSED_SECOND) = range(24, 30)
+
+# The numbers of the files with weekly options, and of the first that is refused.
+(THREE_YEARS_WEEKLY, WEEKLY_2010, FIRST_DAYS_WEEKLY, TWO_YEARS_WEEKLY, SIXTEEN_YEARS_WEEKLY,
+ REFUSED_WEEKLY) = range(34, 40)
 
 
 # A file's name in the folder.
@@ -262,6 +313,15 @@ def product_of(number, code):
 # The first date of an accepted file's cover.
 def first_date(number):
     return trading.first_day(calendar_of(number))
+
+
+# The first date of a cover on which a product can be opened, where its listing fits:
+# 24 refuses weekly options on the first seven days (02, note 3).
+def opening_date(number, code):
+    date = first_date(number)
+    while not listing.passes_24(calendar_of(number), product_of(number, code).kind, date):
+        date += 1
+    return date
 
 
 # The last date of a cover on which a product can be opened.

@@ -1,7 +1,7 @@
 """Calls that fit the moment of a history: the dates, days, months and prices that
-decide between answers (01, "Questions")."""
+decide between answers (01, "Questions"; 02, note 3)."""
 
-from second import dates, trading
+from second import dates, listing, product, trading
 
 
 # A date to roll to: equal, a little later, at and after the front month's last
@@ -59,11 +59,16 @@ FINALS = (0, 1, 125000, 999999999, 1000000000, 4294967295)
 CONTRACTS = (0, 1, 3, 100000, 100001, 4294967295)
 
 
-# A month for the call of a listed month: listed, just before and after the
-# listing, between two listed ones, out of range.
-def some_month(numbers, book):
-    month, _, _, _ = numbers.one_of(book.maturities)
-    return numbers.one_of((month, month, max(0, month - 1), month + 1, 1200, 65535))
+# A month for the call of a listed month: listed, just before and after the listing,
+# between two listed ones, out of range. Of a weekly option a day: a listed Friday,
+# the days and Fridays around it, its month's third Friday, its month's number.
+def some_key(numbers, book):
+    key, _, _, _ = numbers.one_of(book.maturities)
+    if product.is_weekly(book.kind):
+        month = dates.month_of(key)
+        return numbers.one_of((key, key, key - 1, key + 1, key - 7, key + 7, listing.third_friday(month),
+                               month, 65535))
+    return numbers.one_of((key, key, max(0, key - 1), key + 1, 1200, 65535))
 
 
 # A day for the due day: near the date, a last trading day, near the cover's
@@ -79,7 +84,7 @@ def some_due_day(numbers, book):
 def some_value(script, numbers):
     choice = numbers.below(4)
     if choice == 0:
-        script.last_trading_day(some_month(numbers, script.book))
+        script.last_trading_day(some_key(numbers, script.book))
     elif choice == 1:
         script.due(some_due_day(numbers, script.book))
     elif choice == 2:

@@ -1,5 +1,6 @@
 """A script of table calls: its records, the lines that they must print, and the
-table and the book that they leave (01, "The table", "Questions"; 02, note 2)."""
+table and the book that they leave (01, "The table", "Questions"; 02, notes 2 and
+3)."""
 
 from dataclasses import replace
 from functools import lru_cache
@@ -55,8 +56,8 @@ def words(*numbers):
 
 
 # The words on a table: date, given, first year, years, the sums of the closed days
-# and of the product, then month, day, days stepped back and number of all 15 places, and the sum of
-# the second map where it is not 0.
+# and of the product, then key, day, days stepped back and number of all 15 places,
+# and the sum of the second map where it is not 0.
 def table_words(item, calendar, date, places, given):
     unused = [(0, 0, 0, 0)] * (table.PLACES - len(places))
     closed, second = calendar_sums(calendar)
@@ -69,7 +70,7 @@ def table_words(item, calendar, date, places, given):
 
 # The fields by number, as the record says them.
 (ID, GROUP, MARKET, KIND, SIZE, TICK, CURRENCY, FIRST_YEAR, YEARS, CLOSED, DATE,
- MONTH, DAY, BACK, NUMBER, GIVEN, EXCHANGE) = range(17)
+ KEY, DAY, BACK, NUMBER, GIVEN, EXCHANGE) = range(17)
 CODES = {ID: 'id', GROUP: 'group', MARKET: 'market', CURRENCY: 'currency'}
 PLAIN = {KIND: 'kind', SIZE: 'size', TICK: 'tick'}
 
@@ -100,7 +101,7 @@ def damage_calendar(calendar, field, place, value):
 # The places with one number of one of them changed.
 def damage_places(places, field, place, value):
     changed = list(places[place])
-    changed[field - MONTH] = value
+    changed[field - KEY] = value
     return (*places[:place], tuple(changed), *places[place + 1:])
 
 
@@ -110,12 +111,20 @@ def damage(old, field, place, value):
         return replace(old, product=damage_product(old.product, field, place, value))
     if field in (FIRST_YEAR, YEARS, CLOSED, EXCHANGE):
         return replace(old, calendar=damage_calendar(old.calendar, field, place, value))
-    if field in (MONTH, DAY, BACK, NUMBER):
+    if field in (KEY, DAY, BACK, NUMBER):
         return replace(old, places=damage_places(old.places, field, place, value))
     return replace(old, **{'date' if field == DATE else 'given': value})
 
 
 # ---- The script ----
+
+# The days from which a product's last trading days step back: third Fridays, the
+# days before them, or weekly Fridays.
+def anchor_rule(item):
+    if product.is_weekly(item.kind):
+        return 'weekly'
+    return 'Italian' if product.is_italian(item.group) else 'third Friday'
+
 
 # A difference between the table and the book.
 class Differs(Exception):
@@ -151,8 +160,8 @@ class Script:
         refusal, self.table, entered, left = outcome
         now = self.table
         if refusal == 0:
-            italian = product.is_italian(now.product.group)
-            self.seen |= {('back', back, italian) for _, _, back, _ in table.maturities(now)}
+            rule = anchor_rule(now.product)
+            self.seen |= {('back', back, rule) for _, _, back, _ in table.maturities(now)}
         self.write(entry, chr(entry[0]) + words(refusal, entered, left) + table_words(
             now.product, now.calendar, now.date, now.places, now.given), refusal)
         return refusal
@@ -201,10 +210,11 @@ class Script:
             self.seen.add(('pushed', item.kind, product.is_italian(item.group)))
         return refusal
 
-    # 01, Questions: "Last trading day of a listed month: 10, 18."
-    def last_trading_day(self, month):
-        refusal, day, back = table.last_trading_day(self.table, month)
-        self.write(record('L', number=month), 'L' + words(refusal, day, back), refusal)
+    # 01, Questions: "Last trading day of a listed month: 10, 18."; 02, note 3: or of
+    # a listed Friday.
+    def last_trading_day(self, key):
+        refusal, day, back = table.last_trading_day(self.table, key)
+        self.write(record('L', number=key), 'L' + words(refusal, day, back), refusal)
         return refusal
 
     # 01, Questions: "Due: 10, 11, 14, 17."

@@ -9,6 +9,7 @@ use calendar::Cover;
 use listing::Maturity;
 use product::Kind;
 use product::KindAnswer;
+use product::Text;
 ghost use Prim.Native.Nat.{_<_};
 
 // The last trading day of each month of the cover, and the days stepped back.
@@ -19,7 +20,7 @@ fn month_lines(cal: Calendar, group: [u8; 4]) {
         start_line(b'A');
         put(month);
         put(expiry::third_friday(month));
-        let last = expiry::last_trading_day(cal, group, month);
+        let last = expiry::last_trading_day(cal, Kind::Future(Text::Of2008), group, month);
         put(last.day);
         put(last.back);
         end_line();
@@ -42,7 +43,7 @@ fn listing_line(cal: Calendar, kind: Kind, group: [u8; 4], date: u16) {
     let maturities = l.maturities;
     start_line(b'L');
     put(date);
-    put(listing::front_month(cal, kind, group, date));
+    put(listing::front_key(cal, kind, group, date));
     put_answer(l.complete);
     put_maturities(maturities);
     end_line();
@@ -67,6 +68,7 @@ fn group_lines(cal: Calendar, group: [u8; 4]) {
     kind_lines(cal, 2, group);
     kind_lines(cal, 3, group);
     kind_lines(cal, 4, group);
+    kind_lines(cal, 5, group);
 }
 
 fn cover(first_year: u16, years: u16) {

@@ -11,14 +11,14 @@ use Rattle.calendar.specs.Trading.{coverStart, coverEnd, inCover, slotOf, close
 use Rattle.product.specs.Fields.{isCode, oneOfCodes, idOf, idRight, groupRight, marketRight, tickRight, currencyRight, fieldsRight, productRight}
 use Rattle.product.specs.Settlement.{italian}
 use Rattle.product.specs.Prices.{cashAmount}
-use Rattle.listing.specs.Rules.{front, countFrom, monthsBefore, taken, freshKeys, complete, places15}
-use Rattle.expiry.specs.LastDays.{thirdFriday, anchorOf, lastDay, lastTradingDay, workedOut}
-use Rattle.listing.specs.Months.{inSet, placesOf, monthly}
-use Rattle.places.specs.Numbering.{isListed, numberOf, renumbered, numbersRight}
-use Rattle.table.specs.Table.{listsFresh, sound, openedTable}
+use Rattle.listing.specs.Rules.{front, countFrom, keysBefore, taken, freshKeys, complete, places15}
+use Rattle.expiry.specs.LastDays.{thirdFriday, weeklyFriday, monthAnchor, keyOf, anchorOf, lastDay, lastTradingDay, workedOut}
+use Rattle.listing.specs.Months.{inSet, placesOf, countedFor, coverRule, weekIntoCover}
+use Rattle.places.specs.Numbering.{isListed, numberOf, missing, renumbered, numbersRight}
+use Rattle.table.specs.Table.{listsFresh, sound, moved, answered, openedTable, rollCall}
 use Rattle.prices.specs.Prices.{tickCall, cashAsks, cashCall}
-use Rattle.examples.specs.Examples.{rows, allHold, only21, also20, monthsOn, futuresOn, axaFuture, futureTable}
+use Rattle.examples.specs.Examples.{rows, allHold, only21, also20, mayDay, monthsOn, futuresOn, fridaysOn, axaFuture, futureTable, axaWeekly, weeklyRolled}
 
 pub examples-hold : allHold rows ≡ true
-unfolding rows only21 also20 monthsOn futuresOn axaFuture futureTable some validCover clean mayBeClosed mayClose bitsClean everyWeek idOf idRight groupRight marketRight tickRight currencyRight fieldsRight productRight complete places15 isListed numberOf renumbered numbersRight listsFresh countFrom monthsBefore sound openedTable tickCall cashAsks cashCall dayCall answer firstNo validDate dayOf leapYear lengthIn monthLength lengthOf firstDay every oneOf latest firstFrom monthFrom monthOf firstOf yearOf yearStart dayInYear bitAt setBit coverStart coverEnd inCover slotOf closedOn tradingDay closeDay isCode oneOfCodes italian lastDay front taken freshKeys thirdFriday anchorOf lastTradingDay workedOut inSet placesOf monthly
+unfolding rows only21 also20 mayDay monthsOn futuresOn fridaysOn axaFuture futureTable axaWeekly weeklyRolled some validCover clean mayBeClosed mayClose bitsClean everyWeek idOf idRight groupRight marketRight tickRight currencyRight fieldsRight productRight complete places15 isListed numberOf missing renumbered numbersRight listsFresh countFrom keysBefore sound moved answered openedTable rollCall tickCall cashAsks cashCall dayCall answer firstNo validDate dayOf leapYear lengthIn monthLength lengthOf firstDay every oneOf latest firstFrom monthFrom monthOf firstOf yearOf yearStart dayInYear bitAt setBit coverStart coverEnd inCover slotOf closedOn tradingDay closeDay isCode oneOfCodes italian lastDay front taken freshKeys thirdFriday weeklyFriday monthAnchor keyOf anchorOf lastTradingDay workedOut inSet placesOf countedFor coverRule weekIntoCover
 examples-hold = refl

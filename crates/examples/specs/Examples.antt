@@ -1,27 +1,29 @@
--- The worked examples marked P, as one table of tests (01, March 2008 and its neighbours), and months of futures of 2005 (02, note 1).
+-- The worked examples marked P, as one table of tests (01, March 2008 and its neighbours), and our own for document 02: months of futures of 2005 (note 1), days stepped back (note 2), weekly options (note 3).
 -- Assumes nothing.
 use Prim.Native.Nat.{ℕ}
-use mathlib.Core.Bool.{Bool, true, false, _&&_}
-use mathlib.Core.List.{List, [], _∷_}
+use mathlib.Core.Bool.{Bool, true, false, not, _&&_}
+use mathlib.Core.List.{List, [], _∷_, map}
 use lib.Dec.{eqb}
 use lib.IntN.{ℤ, pos, negsuc}
 use lib.ListN.{replicate}
 use Rattle.questions.specs.Questions.{Answer}
 use Rattle.days.specs.Gregorian.{weekdayOf, monthNumber}
 use Rattle.days.specs.Dates.{dayCall, dayOf}
+use Rattle.calendar.specs.declared.Cover.{Cover}
 use Rattle.calendar.specs.declared.Calendar.{Calendar}
 use Rattle.calendar.specs.Trading.{closeDay}
 use Rattle.product.specs.declared.Kind.the-variants.{Future, Option}
 use Rattle.product.specs.declared.Text.the-variants.{Of2008, Of2005}
-use Rattle.product.specs.declared.Term.the-variants.{Months12}
+use Rattle.product.specs.declared.Term.the-variants.{Months12, Weeks5}
 use Rattle.product.specs.declared.Product.{Product}
 use Rattle.product.specs.Fields.{EUR}
 use Rattle.product.specs.Settlement.{IT, groupCode}
 use Rattle.listing.specs.Rules.{freshKeys}
 use Rattle.expiry.specs.LastDays.{thirdFriday, lastTradingDay, workedOut}
-use Rattle.listing.specs.Months.{ruleOf}
+use Rattle.listing.specs.Months.{ruleOf, weekIntoCover}
 use Rattle.table.specs.declared.Table.{Table}
-use Rattle.table.specs.Table.{openedTable}
+use Rattle.table.specs.declared.Outcome.{Outcome}
+use Rattle.table.specs.Table.{listedIn, openedTable, rollCall}
 use Rattle.prices.specs.Prices.{tickCall, cashCall}
 
 -- a call's refusal and value
@@ -68,6 +70,10 @@ only21 = closeDay open2008 (dayOf 2008 3 21)
 unfoldable pub also20 : Calendar
 also20 = closeDay only21 (dayOf 2008 3 20)
 
+-- with only Friday 1 May 2009 closed
+unfoldable pub mayDay : Calendar
+mayDay = closeDay open2008 (dayOf 2009 5 1)
+
 -- 'kind 1 of FR11', on a date
 unfoldable pub monthsOn : ℕ → List ℕ
 monthsOn date = freshKeys (ruleOf only21 (Option Months12) FR11) only21 date
@@ -93,6 +99,31 @@ axaFuture =
 unfoldable pub futureTable : Table
 futureTable = openedTable axaFuture open2008 (dayOf 2008 1 2)
 
+-- kind 5 (02, note 3) of a group, on a date
+unfoldable pub fridaysOn : List ℕ → ℕ → List ℕ
+fridaysOn group date = freshKeys (ruleOf only21 (Option Weeks5) group) only21 date
+
+-- an option of kind 5
+unfoldable pub axaWeekly : Product
+axaWeekly =
+    record {
+      id = 65 ∷ 88 ∷ 65 ∷ 87 ∷ [];
+      group = FR11;
+      market = 88 ∷ 80 ∷ 65 ∷ 82 ∷ [];
+      kind = Option Weeks5;
+      size = 100;
+      tick = 5;
+      currency = EUR;
+    }
+
+-- its table, opened on 17 March 2008 and rolled to 29 March
+unfoldable pub weeklyRolled : Outcome
+weeklyRolled = rollCall (openedTable axaWeekly only21 (dayOf 2008 3 17)) (dayOf 2008 3 29)
+
+-- a cover from 2010, which begins on a Friday
+abbrev pub cover2010 : Cover
+cover2010 = record { «first_year» = 2010; years = 1 }
+
 -- the rows, each under its sentence
 unfoldable pub rows : List Bool
 rows =
@@ -103,17 +134,17 @@ rows =
     -- '29 February 2000 is 59; 29 February 2001: 23'
     answers (dayCall 2000 2 29) 0 59 ∷ answers (dayCall 2001 2 29) 23 0 ∷
     -- 'With only 21 March 2008 closed, March 2008 ends on 20 March for FR11 and for IT11'
-    eqb (lastTradingDay only21 FR11 (monthNumber 2008 3)) (dayOf 2008 3 20) ∷
-    eqb (lastTradingDay only21 IT11 (monthNumber 2008 3)) (dayOf 2008 3 20) ∷
+    eqb (lastTradingDay only21 (Option Months12) FR11 (monthNumber 2008 3)) (dayOf 2008 3 20) ∷
+    eqb (lastTradingDay only21 (Option Months12) IT11 (monthNumber 2008 3)) (dayOf 2008 3 20) ∷
     -- 'With 20 March closed too: 19 March for both'
-    eqb (lastTradingDay also20 FR11 (monthNumber 2008 3)) (dayOf 2008 3 19) ∷
-    eqb (lastTradingDay also20 IT11 (monthNumber 2008 3)) (dayOf 2008 3 19) ∷
+    eqb (lastTradingDay also20 (Option Months12) FR11 (monthNumber 2008 3)) (dayOf 2008 3 19) ∷
+    eqb (lastTradingDay also20 (Option Months12) IT11 (monthNumber 2008 3)) (dayOf 2008 3 19) ∷
     -- 'March 2008 in the example shows 1 for FR11' (02, note 2), and 0 for IT11
-    eqb (workedOut only21 FR11 (monthNumber 2008 3) .back) 1 ∷
-    eqb (workedOut only21 IT11 (monthNumber 2008 3) .back) 0 ∷
+    eqb (workedOut only21 (Option Months12) FR11 (monthNumber 2008 3) .back) 1 ∷
+    eqb (workedOut only21 (Option Months12) IT11 (monthNumber 2008 3) .back) 0 ∷
     -- with 20 March closed too 2 and 1
-    eqb (workedOut also20 FR11 (monthNumber 2008 3) .back) 2 ∷
-    eqb (workedOut also20 IT11 (monthNumber 2008 3) .back) 1 ∷
+    eqb (workedOut also20 (Option Months12) FR11 (monthNumber 2008 3) .back) 2 ∷
+    eqb (workedOut also20 (Option Months12) IT11 (monthNumber 2008 3) .back) 1 ∷
     -- 'A third Friday on the 15th (August 2008) and on the 21st (March 2008)'
     eqb (thirdFriday (monthNumber 2008 8)) (dayOf 2008 8 15) ∷
     eqb (thirdFriday (monthNumber 2008 3)) (dayOf 2008 3 21) ∷
@@ -132,6 +163,23 @@ rows =
     -- on 19 July 2008: Sep, Dec, and of 2009 Mar, Apr, May, Jun, Jul
     sameList (futuresOn (dayOf 2008 7 19))
     (monthNumber 2008 9 ∷ monthNumber 2008 12 ∷ monthNumber 2009 3 ∷ monthNumber 2009 4 ∷ monthNumber 2009 5 ∷ monthNumber 2009 6 ∷ monthNumber 2009 7 ∷ []) ∷
+    -- weekly options (02, note 3), with only 21 March closed: a table of 17 March 2008 lists the Fridays 28 March, 4, 11 and 25 April, for FR11 and IT11 alike
+    sameList (fridaysOn FR11 (dayOf 2008 3 17)) (dayOf 2008 3 28 ∷ dayOf 2008 4 4 ∷ dayOf 2008 4 11 ∷ dayOf 2008 4 25 ∷ []) ∷
+    sameList (fridaysOn IT11 (dayOf 2008 3 17)) (dayOf 2008 3 28 ∷ dayOf 2008 4 4 ∷ dayOf 2008 4 11 ∷ dayOf 2008 4 25 ∷ []) ∷
+    -- 'The Italian rule takes no part in them': on Friday 28 March itself IT11 still lists it
+    sameList (fridaysOn IT11 (dayOf 2008 3 28)) (dayOf 2008 3 28 ∷ dayOf 2008 4 4 ∷ dayOf 2008 4 11 ∷ dayOf 2008 4 25 ∷ []) ∷
+    -- 'each taken back to the latest trading day at or before it': Friday 1 May 2009, closed, ends on Thursday 30 April, one day back
+    eqb (workedOut mayDay (Option Weeks5) IT11 (dayOf 2009 5 1) .day) (dayOf 2009 4 30) ∷
+    eqb (workedOut mayDay (Option Weeks5) IT11 (dayOf 2009 5 1) .back) 1 ∷
+    -- rolled to 29 March the table lists 4, 11, 25 April and 2 May, which has number 5
+    eqb (weeklyRolled .refusal) 0 ∷
+    sameList (map (λ m. m .key) (listedIn (weeklyRolled .table))) (dayOf 2008 4 4 ∷ dayOf 2008 4 11 ∷ dayOf 2008 4 25 ∷ dayOf 2008 5 2 ∷ []) ∷
+    sameList (map (λ m. m .number) (listedIn (weeklyRolled .table))) (2 ∷ 3 ∷ 4 ∷ 5 ∷ []) ∷
+    -- '24 .. is the date at least seven days after the cover's first day?': in a cover from 2010 not 7 January, but 8 January
+    not (weekIntoCover (Option Weeks5) cover2010 (dayOf 2010 1 7)) ∷
+    weekIntoCover (Option Weeks5) cover2010 (dayOf 2010 1 8) ∷
+    -- 'in opening kind 5': of kind 1 it is not asked
+    weekIntoCover (Option Months12) cover2010 (dayOf 2010 1 1) ∷
     -- '3 contracts of 100, agreed 12.3400, final 12.5000: +480,000'
     pays (cashCall futureTable 3 123400 125000) 480000 ∷
     -- 'Price 5 with tick 5 passes, 6 gets 20'

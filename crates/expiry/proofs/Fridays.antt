@@ -1,17 +1,18 @@
--- The third Friday by arithmetic, and the last trading day as the latest trading day.
+-- The third Friday by arithmetic, the code's test of a weekly Friday, and the last trading day as the latest trading day.
 -- Assumes nothing.
-use mathlib.Core.Path.{_≡_, refl, sym, ap}
-use mathlib.Core.Bool.{Bool, true, false, cond}
+use mathlib.Core.Path.{_≡_, refl, sym, ap, _∙_}
+use mathlib.Core.Bool.{Bool, true, false, not, cond}
 use Prim.Native.Nat.{ℕ, zero, suc, _+_, _-_, _%_}
 use native.Mathlib.Omega.{arith}
+use lib.Dec.{eqb}
 use borrow.Author.Tests.{eq-eqb, ne-eqb}
 use Rattle.questions.specs.Search.{latest, firstFrom}
 use Rattle.questions.proofs.Search.{first-is, latest-here, latest-back, latest-zero}
 use Rattle.days.specs.Gregorian.{weekdayOf}
-use Rattle.days.specs.Dates.{firstOf}
+use Rattle.days.specs.Dates.{firstOf, monthOf}
 use Rattle.calendar.specs.declared.Calendar.{Calendar}
 use Rattle.calendar.specs.Trading.{tradingDay}
-use Rattle.expiry.specs.LastDays.{lastDay, friday, thirdFriday}
+use Rattle.expiry.specs.LastDays.{lastDay, friday, thirdFriday, weeklyFriday}
 
 -- the days from d to the next Friday
 abbrev wait : ℕ → ℕ
@@ -38,3 +39,12 @@ last-is cal (suc a) = go (tradingDay cal (suc a)) refl
     go : (b : Bool) → tradingDay cal (suc a) ≡ b → cond b (suc a) (latest (tradingDay cal) (suc a - 1)) ≡ latest (tradingDay cal) (suc a)
     go true e = sym (latest-here (tradingDay cal) (suc a) e)
     go false e = latest-back (tradingDay cal) (suc a) (omega arith) e
+
+-- the code's test of a weekly Friday
+pub no-friday : (d w : ℕ) → w ≡ weekdayOf d → (w ≡ 4 → ⊥) → false ≡ weeklyFriday d
+unfolding weeklyFriday
+no-friday d w e n = rw (ne-eqb (weekdayOf d) 4 (λ q. n (e ∙ q)))
+
+pub not-third : (d w t : ℕ) → w ≡ weekdayOf d → w ≡ 4 → t ≡ thirdFriday (monthOf d) → not (eqb d t) ≡ weeklyFriday d
+unfolding weeklyFriday
+not-third d w t e q r = rw (eq-eqb (weekdayOf d) 4 (sym e ∙ q), r)

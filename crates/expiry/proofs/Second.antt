@@ -6,6 +6,7 @@ use Prim.Native.Nat.{ℕ}
 use Rattle.calendar.specs.declared.Calendar.{Calendar}
 use Rattle.calendar.specs.Trading.{closedOn, tradingDay}
 use Rattle.calendar.proofs.Second.{withSecond}
+use Rattle.product.specs.declared.Kind.{Kind}
 use Rattle.expiry.specs.LastDays.{lastDay, lastTradingDay, workedOut}
 
 module _ (cal : Calendar) (second : List ℕ) where
@@ -13,11 +14,11 @@ module _ (cal : Calendar) (second : List ℕ) where
   unfolding lastDay tradingDay closedOn
   last-day-second anchor = refl
 
-  pub last-trading-day-second : (group : List ℕ) (m : ℕ) → lastTradingDay (withSecond cal second) group m ≡ lastTradingDay cal group m
+  pub last-trading-day-second : (kind : Kind) (group : List ℕ) (k : ℕ) → lastTradingDay (withSecond cal second) kind group k ≡ lastTradingDay cal kind group k
   unfolding lastTradingDay lastDay tradingDay closedOn
-  last-trading-day-second group m = refl
+  last-trading-day-second kind group k = refl
 
   -- with the days stepped back (02, note 2)
-  pub worked-second : (group : List ℕ) (m : ℕ) → workedOut (withSecond cal second) group m ≡ workedOut cal group m
+  pub worked-second : (kind : Kind) (group : List ℕ) (k : ℕ) → workedOut (withSecond cal second) kind group k ≡ workedOut cal kind group k
   unfolding workedOut lastTradingDay lastDay tradingDay closedOn
-  worked-second group m = refl
+  worked-second kind group k = refl

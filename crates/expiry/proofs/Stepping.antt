@@ -9,6 +9,7 @@ use Rattle.questions.specs.Search.{latest}
 use Rattle.questions.proofs.Search.{latest-here, latest-back, latest-zero, latest-le}
 use Rattle.calendar.specs.declared.Calendar.{Calendar}
 use Rattle.calendar.specs.Trading.{tradingDay}
+use Rattle.product.specs.declared.Kind.{Kind}
 use Rattle.expiry.specs.declared.LastDay.{LastDay}
 use Rattle.expiry.specs.LastDays.{anchorOf, lastDay, lastTradingDay, steppedTo, workedOut}
 use Rattle.expiry.proofs.Fridays.{last-is}
@@ -42,11 +43,11 @@ module _ (cal : Calendar) (anchor : ℕ) where
     none h = ends (omega (arith, s .same, latest-zero (tradingDay cal) day h))
 
 -- 'equal to anchor − day': the day and the days stepped back make up the anchor
-pub day-and-back : (cal : Calendar) (group : List ℕ) (m : ℕ) → workedOut cal group m .day + workedOut cal group m .back ≡ anchorOf group m
+pub day-and-back : (cal : Calendar) (kind : Kind) (group : List ℕ) (k : ℕ) → workedOut cal kind group k .day + workedOut cal kind group k .back ≡ anchorOf kind group k
 unfolding workedOut lastTradingDay
-day-and-back cal group m = omega (arith, last-is cal (anchorOf group m), latest-le (tradingDay cal) (anchorOf group m))
+day-and-back cal kind group k = omega (arith, last-is cal (anchorOf kind group k), latest-le (tradingDay cal) (anchorOf kind group k))
 
 -- the day of what is worked out
-pub worked-day : (cal : Calendar) (group : List ℕ) (m : ℕ) (l : LastDay) → l ≡ workedOut cal group m → l .day ≡ lastTradingDay cal group m
+pub worked-day : (cal : Calendar) (kind : Kind) (group : List ℕ) (k : ℕ) (l : LastDay) → l ≡ workedOut cal kind group k → l .day ≡ lastTradingDay cal kind group k
 unfolding workedOut
-worked-day cal group m l e = ap (λ (x : LastDay). x .day) e
+worked-day cal kind group k l e = ap (λ (x : LastDay). x .day) e

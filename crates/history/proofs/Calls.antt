@@ -1,9 +1,9 @@
 -- What each accepted call leaves in order, and that it brings back no key whose day has passed.
 -- Assumes nothing.
 use mathlib.Core.Path.{_≡_, refl}
-use mathlib.Core.Bool.{true, not, _&&_}
+use mathlib.Core.Bool.{Bool, true, false, not, _&&_, _||_}
 use mathlib.Core.List.{List}
-use Prim.Native.Nat.{ℕ, _≤_}
+use Prim.Native.Nat.{ℕ, _+_, _≤_}
 use native.Mathlib.Omega.{arith}
 use lib.Dec.{leb, ltb}
 use borrow.Author.Tests.{leb-true, le-leb}
@@ -11,13 +11,15 @@ use Rattle.questions.specs.Questions.{firstNo}
 use Rattle.questions.proofs.Bools.{and-fst, and-snd}
 use Rattle.questions.proofs.Asks.{none-no}
 use Rattle.days.specs.Gregorian.{weekdayOf}
+use Rattle.calendar.specs.declared.Cover.{Cover}
 use Rattle.calendar.specs.declared.Calendar.{Calendar}
-use Rattle.calendar.specs.Trading.{inCover, tradingDay, everyWeek, closeDay, closedOn}
+use Rattle.calendar.specs.Trading.{coverStart, inCover, tradingDay, everyWeek, closeDay, closedOn}
 use Rattle.calendar.proofs.Closing.{close-cover, trading-before, clean-close}
 use Rattle.product.specs.declared.Kind.{Kind}
+use Rattle.product.specs.Fields.{isWeekly}
 use Rattle.product.specs.declared.Product.{Product}
 use Rattle.listing.specs.Rules.{Rule, lastDayOf, alive, front}
-use Rattle.listing.specs.Months.{ruleOf, allInCover}
+use Rattle.listing.specs.Months.{ruleOf, allInCover, weekIntoCover}
 use Rattle.listing.proofs.Lawful.{Lawful, days-rise, front-later}
 use Rattle.history.specs.Book.{Call, roll, close, Book, calendarAfter, dateAfter, bookAsks}
 use Rattle.history.proofs.Soundness.{Opened}
@@ -65,12 +67,21 @@ pub rule-stays : (cal : Calendar) (kind : Kind) (group : List ℕ) (c : Call) �
 rule-stays cal kind group (roll date) = refl
 rule-stays cal kind group (close day) = rw (close-cover cal day)
 
+-- a later date passes 24 too
+week-later : (kind : Kind) (c : Cover) (date later : ℕ) → leb date later ≡ true → weekIntoCover kind c date ≡ true → weekIntoCover kind c later ≡ true
+unfolding weekIntoCover
+week-later kind c date later l e = go (isWeekly kind) e
+  where
+    go : (w : Bool) → (not w || leb (coverStart c + 7) date) ≡ true → (not w || leb (coverStart c + 7) later) ≡ true
+    go true e = le-leb (coverStart c + 7) later (omega (arith, leb-true (coverStart c + 7) date e, leb-true date later l))
+    go false e = refl
+
 -- what an accepted call leaves would open
 pub after-opened : (p : Product) (b : Book) → Opened p (b .calendar) (b .date) → (c : Call) → Accepted (p .kind) (p .group) b c
     → Opened p (calendarAfter (b .calendar) c) (dateAfter (b .date) c)
 after-opened p b o (roll date) e =
     let y = rolled (p .kind) (p .group) b date e in
-    record { product = o .product; valid = o .valid; cleaned = o .cleaned; weeks = o .weeks; covered = y .covered; full = y .full }
+    record { product = o .product; valid = o .valid; cleaned = o .cleaned; weeks = o .weeks; covered = y .covered; week = week-later (p .kind) (b .calendar .cover) (b .date) date (y .later) (o .week); full = y .full }
 after-opened p b o (close day) e =
     let y = closed (p .kind) (p .group) b day e in
     record {
@@ -79,6 +90,7 @@ after-opened p b o (close day) e =
       cleaned = clean-close (b .calendar) day (o .cleaned) (y .covered) (on-weekday (b .calendar) day (y .trading));
       weeks = y .weeks;
       covered = rw (close-cover (b .calendar) day) (o .covered);
+      week = rw (close-cover (b .calendar) day) (o .week);
       full = y .full;
     }
 

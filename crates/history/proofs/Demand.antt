@@ -4,18 +4,18 @@ use mathlib.Core.Path.{_≡_, refl, sym, ap, _∙_}
 use mathlib.Core.Bool.{Bool, true, false, cond}
 use mathlib.Core.List.{List, [], _∷_, _++_, map}
 use mathlib.Core.Logic.{_⊎_, inl, inr, _↔_}
-use Prim.Native.Nat.{ℕ, suc, _≤_, _<_}
+use Prim.Native.Nat.{ℕ, suc, _-_, _≤_, _<_}
 use native.Mathlib.Omega.{arith}
 use Rattle.questions.specs.Search.{oneOf}
 use Rattle.questions.proofs.Bools.{clash, or-left, is-false, lt-or-ge}
 use Rattle.calendar.specs.declared.Calendar.{Calendar}
 use Rattle.product.specs.declared.Product.{Product}
-use Rattle.listing.specs.Rules.{Rule, widest, lastDayOf, freshKeys, maturity}
+use Rattle.listing.specs.Rules.{Rule, widest, lastDayOf, countFrom, freshKeys, maturity}
 use Rattle.expiry.specs.LastDays.{lastTradingDay}
-use Rattle.listing.specs.Months.{monthly, ruleOf, freshOf}
+use Rattle.listing.specs.Months.{coverRule, keysOf, ruleOf, freshOf}
 use Rattle.listing.proofs.Places.{before-none}
 use Rattle.listing.proofs.Lawful.{Lawful, key-of, day-past}
-use Rattle.listing.proofs.Monthly.{monthly-lawful, monthly-most}
+use Rattle.listing.proofs.OfKinds.{rule-lawful, rule-keys, months-most}
 use Rattle.table.specs.declared.Table.{Table}
 use Rattle.table.specs.declared.Outcome.{Outcome}
 use Rattle.places.specs.Numbering.{isListed, numberOf, unnumbered}
@@ -45,7 +45,7 @@ ever-after p b nu b′ z m v = record { number = omega (arith, v .number, z .gro
 
 module _ (p : Product) (b : Book) (nu : ℕ → ℕ) (I : Inv p b nu) where
   abbrev w : Lawful (ruleIn p b)
-  w = monthly-lawful (b .calendar .cover) (p .kind) (p .group)
+  w = rule-lawful (b .calendar .cover) (p .kind) (p .group)
 
   abbrev in-now : ℕ → Bool
   in-now = now (ruleIn p b) (b .calendar) (b .date)
@@ -80,8 +80,8 @@ module _ (p : Product) (b : Book) (nu : ℕ → ℕ) (I : Inv p b nu) where
       record { number = I .numbered .numbers .pos m q; below = k .below; wide = k .wide }
 
   -- it is off exactly when its day is past
-  off-iff : (m : ℕ) → Ever p b nu m → (isListed (b .maturities) m ≡ false) ↔ (lastTradingDay (b .calendar) (p .group) m < b .date)
-  unfolding lastTradingDay monthly
+  off-iff : (m : ℕ) → Ever p b nu m → (isListed (b .maturities) m ≡ false) ↔ (lastTradingDay (b .calendar) (p .kind) (p .group) m < b .date)
+  unfolding lastTradingDay coverRule
   off-iff m v = (gone (lt-or-ge m (frontIn p b)), past)
     where
       gone : (m < frontIn p b) ⊎ (frontIn p b ≤ m) → isListed (b .maturities) m ≡ false → lastDayOf (ruleIn p b) (b .calendar) m < b .date
@@ -91,19 +91,14 @@ module _ (p : Product) (b : Book) (nu : ℕ → ℕ) (I : Inv p b nu) where
       past : lastDayOf (ruleIn p b) (b .calendar) m < b .date → isListed (b .maturities) m ≡ false
       past s = is-false (isListed (b .maturities) m) (λ t. absurd (omega (arith, key-of (ruleIn p b) w (b .calendar) (b .date) m (sym (listed-in m) ∙ t) .day)))
 
-  most-given : b .given ≤ 192
-  most-given =
-      omega (
-        arith,
-        given-most (ruleIn p b) w (b .calendar) (b .date) (b .maturities) (b .given) nu (I .numbered),
-        monthly-most (b .calendar .cover) (p .kind) (p .group) (I .opened .valid),
-      )
+  most-given : b .given ≤ countFrom (ruleIn p b .counted) (ruleIn p b .beyond - ruleIn p b .first) (ruleIn p b .first)
+  most-given = given-most (ruleIn p b) w (b .calendar) (b .date) (b .maturities) (b .given) nu (I .numbered)
 
-  most-number : (m : ℕ) → numberOf (b .maturities) m ≤ 192
+  most-number : (m : ℕ) → numberOf (b .maturities) m ≤ b .given
   most-number m = rw (number-in m) (go (in-now m))
     where
-      go : (t : Bool) → cond t (nu m) 0 ≤ 192
-      go true = omega (arith, I .numbered .numbers .small m, most-given)
+      go : (t : Bool) → cond t (nu m) 0 ≤ b .given
+      go true = omega (arith, I .numbered .numbers .small m)
       go false = omega arith
 
 module _ (p : Product) (cal : Calendar) (date : ℕ) (o : Opened p cal date) where
@@ -176,12 +171,29 @@ module _ (p : Product) (cal : Calendar) (date : ℕ) (o : Opened p cal date) whe
   next-table cs c = rw (table-is cs) (ap (λ (o : Outcome). o .table) (turn p (book cs) (at cs .nu′) (at cs .inv) c))
 
   taken-off : (cs : List Call) (c : Call) (m : ℕ) → isListed (listedIn (table cs)) m ≡ true
-      → (isListed (listedIn (tableCall (table cs) c .table)) m ≡ false) ↔ (lastTradingDay (tableCall (table cs) c .table .calendar) (p .group) m < tableCall (table cs) c .table .date)
+      → (isListed (listedIn (tableCall (table cs) c .table)) m ≡ false) ↔ (lastTradingDay (tableCall (table cs) c .table .calendar) (p .kind) (p .group) m < tableCall (table cs) c .table .date)
   taken-off cs c m e =
       let b′ : Book = bookAfter (p .kind) (p .group) (book cs) c in
       let z : Later p (book cs) (at cs .nu′) b′ = turn-later p (book cs) (at cs .nu′) (at cs .inv) c in
       let v : Ever p (book cs) (at cs .nu′) m = ever p (book cs) (at cs .nu′) (at cs .inv) m (rw (listed-are cs) at e) in
       rw (next-table cs c, table-lists p b′ (z .nu′) (z .inv)) (off-iff p b′ (z .nu′) (z .inv) m (ever-after p (book cs) (at cs .nu′) b′ z m v))
+
+  -- the opened product's rule stays, and so does the number of its keys
+  within : (cs : List Call) → book cs .given ≤ keysOf (cal .cover) (p .kind)
+  unfolding bookOpened
+  within cs =
+      omega (
+        arith,
+        most-given p (book cs) (at cs .nu′) (at cs .inv),
+        ap (λ (r : Rule). countFrom (r .counted) (r .beyond - r .first) (r .first)) (at cs .rule),
+        rule-keys (cal .cover) (p .kind) (p .group),
+      )
+
+  given-within : (cs : List Call) → table cs .given ≤ keysOf (cal .cover) (p .kind)
+  given-within cs = omega (arith, ap (λ (t : Table). t .given) (table-is cs), within cs)
+
+  number-within : (cs : List Call) (m : ℕ) → numberOf (listedIn (table cs)) m ≤ keysOf (cal .cover) (p .kind)
+  number-within cs m = rw (listed-are cs) (omega (arith, most-number p (book cs) (at cs .nu′) (at cs .inv) m, within cs))
 
   history : (cs ds : List Call) → Demand3 p cal date cs ds
   history cs ds = record {
@@ -205,8 +217,10 @@ module _ (p : Product) (cal : Calendar) (date : ℕ) (o : Opened p cal date) whe
     off = taken-off cs;
     sum = rw (listed-are cs) (ap (λ (t : Table). t .given) (table-is cs) ∙ at cs .inv .total);
     stays-sound = ap sound (table-is cs) ∙ sound-in p (book cs) (at cs .nu′) (at cs .inv);
-    number-below-193 = λ m. rw (listed-are cs) (most-number p (book cs) (at cs .nu′) (at cs .inv) m);
-    below-193 = omega (arith, ap (λ (t : Table). t .given) (table-is cs), most-given p (book cs) (at cs .nu′) (at cs .inv));
+    number-most = number-within cs;
+    given-most = given-within cs;
+    number-below-193 = λ q m. omega (arith, number-within cs m, months-most (cal .cover) (p .kind) (o .valid) q);
+    below-193 = λ q. omega (arith, given-within cs, months-most (cal .cover) (p .kind) (o .valid) q);
   }
 
 -- Demand 3

@@ -27,7 +27,7 @@ from-file f id date e cs ds =
           (and-both (a .cover)
           (and-both (a .closures)
           (and-both (a .weeks)
-          (and-both (o .dated) (o .whole))))))
+          (and-both (o .dated) (and-both (o .week) (o .whole)))))))
           cs
           ds;
     }

@@ -12,13 +12,13 @@ use borrow.Author.Tests.{not-true}
 use Rattle.questions.proofs.Bools.{clash, both, is-false, lt-or-ge}
 use Rattle.calendar.specs.declared.Calendar.{Calendar}
 use Rattle.listing.specs.declared.Maturity.{Maturity}
-use Rattle.listing.specs.Rules.{Rule, lastOf, front, countFrom, monthsBefore, freshKeys, maturity}
+use Rattle.listing.specs.Rules.{Rule, lastOf, front, countFrom, keysBefore, freshKeys, maturity}
 use Rattle.listing.proofs.Walks.{bit}
 use Rattle.listing.proofs.Places.{before-none}
 use Rattle.listing.proofs.Lawful.{Lawful, inListing, front-most, fresh-is, key-of, keys-stay}
 use Rattle.places.specs.Numbering.{isListed, numberOf, missing, renumbered}
 use Rattle.places.specs.Laws.{only, MissingLaw}
-use Rattle.places.proofs.Counting.{count-add, count-most, count-window, count-balance, count-less, length-sift}
+use Rattle.listing.proofs.Counting.{count-add, count-most, count-window, count-balance, count-less, length-sift}
 use Rattle.places.proofs.Rising.{listing-rises}
 use Rattle.places.proofs.Renumbering.{missing-law}
 use Rattle.history.proofs.Numbers.{but, next, number-of, listed-is, renumbered-is, Numbers, next-keeps, next-numbers}
@@ -45,7 +45,7 @@ pub record Numbered (r : Rule) (cal : Calendar) (date : ℕ) (ms : List Maturity
   pub there : (k : ℕ) → 1 ≤ nu k → front r cal date ≤ k → now r cal date k ≡ true
   pub begins : r .first ≤ front r cal date
   pub enough : length ms ≤ given
-  pub few : given ≤ length ms + monthsBefore r cal date
+  pub few : given ≤ length ms + keysBefore r cal date
 
 -- what holds once the listing of another calendar and date replaces it: it is numbered again, numbers once given stay, entered + old = left + new, its months are the fresh ones, and those that left lie from the old front on, before the new
 pub record Moved (r : Rule) (cal : Calendar) (date : ℕ) (ms : List Maturity) (given : ℕ) (nu : ℕ → ℕ) (cal′ : Calendar) (date′ : ℕ) : Type 0 where
@@ -82,20 +82,23 @@ module _ (r : Rule) (w : Lawful r) where
     count-is : length ms ≡ countFrom (now r cal date) (r .beyond) 0
     count-is = ap length (I .listing) ∙ size cal date nu
 
-    -- no more numbers are given than the cover has keys
-    pub given-most : r .first + given ≤ r .beyond
-    unfolding monthsBefore
+    -- no more numbers are given than keys of the cover are counted
+    pub given-most : given ≤ countFrom (r .counted) (r .beyond - r .first) (r .first)
+    unfolding keysBefore
     given-most =
         let m = front-most r w cal date in
+        let i : (front r cal date - r .first) + (r .beyond - front r cal date) ≡ r .beyond - r .first = omega (arith, I .begins) in
+        let j : r .first + (front r cal date - r .first) ≡ front r cal date = omega (arith, I .begins) in
         omega (
           arith,
           I .few,
-          I .begins,
           count-is,
           count-window (now r cal date) (front r cal date) (r .beyond) (r .beyond) m (omega arith)
               (λ k l. before-none (r .beyond) (r .places) (front r cal date) k l) (λ k l. is-false (now r cal date k) (λ t. absurd (omega (arith, below cal date k t)))),
-          count-most (now r cal date) (r .beyond - front r cal date) (front r cal date),
-          count-most (r .counted) (front r cal date - r .first) (r .first),
+          count-less (now r cal date) (r .counted) (λ k e. w .counts k (key-of r w cal date k e .wide)) (r .beyond - front r cal date) (front r cal date),
+          ap (λ (x : ℕ). countFrom (r .counted) x (r .first)) i,
+          count-add (r .counted) (front r cal date - r .first) (r .beyond - front r cal date) (r .first),
+          ap (countFrom (r .counted) (r .beyond - front r cal date)) j,
         )
 
     -- a listing of a later front replaces it
@@ -183,8 +186,8 @@ module _ (r : Rule) (w : Lawful r) where
           swap false false = refl
 
       -- those that leave count among the keys before the new front
-      passed : length (missing ms (fresh r cal′ date′)) + monthsBefore r cal date ≤ monthsBefore r cal′ date′
-      unfolding monthsBefore
+      passed : length (missing ms (fresh r cal′ date′)) + keysBefore r cal date ≤ keysBefore r cal′ date′
+      unfolding keysBefore
       passed =
           let i : (front r cal date - r .first) + (front r cal′ date′ - front r cal date) ≡ front r cal′ date′ - r .first = omega (arith, I .begins, later) in
           let j : r .first + (front r cal date - r .first) ≡ front r cal date = omega (arith, I .begins) in

@@ -16,7 +16,7 @@ use Rattle.listing.proofs.Walks.{bit, put, sift}
 use Rattle.places.specs.Numbering.{isListed, numberOf, renumbered}
 use Rattle.places.specs.Laws.{Rising, only}
 use Rattle.listing.specs.Rules.{countFrom}
-use Rattle.places.proofs.Counting.{count-end, count-before}
+use Rattle.listing.proofs.Counting.{count-end, count-before}
 use Rattle.places.proofs.Renumbering.{with-numbers, number-with, with-same, number-in, renumbered-with}
 
 -- a maturity by its key, with last trading days and numbers

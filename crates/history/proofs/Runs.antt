@@ -18,7 +18,7 @@ use Rattle.listing.specs.declared.Maturity.{Maturity}
 use Rattle.listing.specs.Rules.{Rule, front}
 use Rattle.listing.specs.Months.{ruleOf}
 use Rattle.listing.proofs.Lawful.{Lawful}
-use Rattle.listing.proofs.Monthly.{monthly-lawful, monthly-begins}
+use Rattle.listing.proofs.OfKinds.{rule-lawful, rule-begins}
 use Rattle.places.specs.Numbering.{isListed, missing}
 use Rattle.history.specs.Book.{Call, Book, calendarAfter, dateAfter, bookOpened, bookAsks, bookMoved, bookAfter, bookRun}
 use Rattle.history.proofs.Numbers.{one-append, listed-one}
@@ -58,15 +58,16 @@ pub record Later (p : Product) (b : Book) (nu : ℕ → ℕ) (b′ : Book) : Typ
 
 module _ (p : Product) where
   abbrev lawful : (b : Book) → Lawful (ruleIn p b)
-  lawful b = monthly-lawful (b .calendar .cover) (p .kind) (p .group)
+  lawful b = rule-lawful (b .calendar .cover) (p .kind) (p .group)
 
   -- the opened book
   pub starts : (cal : Calendar) (date : ℕ) → Opened p cal date → Inv p (bookOpened (p .kind) (p .group) cal date) (numbersFirst (ruleOf cal (p .kind) (p .group)) cal date)
   unfolding bookOpened oneOf
   starts cal date o =
       let r = ruleOf cal (p .kind) (p .group) in
-      let w = monthly-lawful (cal .cover) (p .kind) (p .group) in
-      let s = monthly-begins (cal .cover) (p .kind) (p .group) cal date (o .covered) in
+      let w = rule-lawful (cal .cover) (p .kind) (p .group) in
+      let b = rule-begins (cal .cover) (p .kind) (p .group) cal date (o .covered) in
+      let s : r .first ≤ front r cal date = omega (arith, b) in
       record { opened = o; numbered = first-numbered r w cal date s; total = omega (arith, first-length r w cal date s); past = λ k e. clash e refl; apart = refl }
 
   module _ (b : Book) (nu : ℕ → ℕ) (I : Inv p b nu) where

@@ -1,4 +1,4 @@
--- Every call on a sound table gives a sound table, no listing number passes 192, and no day stepped back more than six days.
+-- Every call on a sound table gives a sound table, no listing number of a month passes 192, and no day stepped back more than six days.
 -- Assumes nothing.
 use mathlib.Core.Path.{_≡_, refl, sym, ap, _∙_}
 use mathlib.Core.Bool.{Bool, true, false, not, _&&_, _||_, cond}
@@ -18,11 +18,12 @@ use Rattle.questions.proofs.Search.{every-at}
 use Rattle.expiry.specs.declared.LastDay.{LastDay}
 use Rattle.expiry.specs.LastDays.{lastTradingDay, workedOut}
 use Rattle.listing.specs.declared.Maturity.{Maturity}
-use Rattle.listing.specs.Rules.{Rule, lastOf, monthsBefore, freshKeys, maturity, unused, places15}
-use Rattle.listing.specs.Months.{placesOfKind, monthly, ruleOf}
+use Rattle.product.specs.Fields.{isWeekly}
+use Rattle.listing.specs.Rules.{Rule, lastOf, keysBefore, freshKeys, maturity, unused, places15}
+use Rattle.listing.specs.Months.{placesOfKind, coverRule, keysOf, ruleOf}
 use Rattle.listing.proofs.Lawful.{Lawful, complete-length, key-at, keys-rise}
 use Rattle.listing.proofs.Fresh.{places-most}
-use Rattle.listing.proofs.Monthly.{monthly-lawful, monthly-places, monthly-begins, monthly-most, six-back}
+use Rattle.listing.proofs.OfKinds.{rule-lawful, rule-places, rule-begins, rule-keys, months-most, rule-deep, six-back}
 use Rattle.table.specs.declared.Table.{Table}
 use Rattle.places.specs.Numbering.{isListed, numberOf, sameMaturity, numbersRight}
 use Rattle.places.proofs.Rising.{place-of, at-map}
@@ -62,7 +63,7 @@ record Sound (t : Table) : Type 0 where
   lists : listsFresh t ≡ true
   numbers : numbersRight (t .maturities) (placesOfKind (t .product .kind)) (t .given) ≡ true
   enough : placesOfKind (t .product .kind) ≤ t .given
-  few : t .given - placesOfKind (t .product .kind) ≤ monthsBefore (ruleOf (t .calendar) (t .product .kind) (t .product .group)) (t .calendar) (t .date)
+  few : t .given - placesOfKind (t .product .kind) ≤ keysBefore (ruleOf (t .calendar) (t .product .kind) (t .product .group)) (t .calendar) (t .date)
 
 sounds : (t : Table) → sound t ≡ true → Sound t
 unfolding sound
@@ -72,12 +73,13 @@ sounds t e =
     let (c, e3) = both _ _ e2 in
     let (d, e4) = both _ _ e3 in
     let (f, e5) = both _ _ e4 in
-    let (g, e6) = both _ _ e5 in
+    let (l, e5w) = both _ _ e5 in
+    let (g, e6) = both _ _ e5w in
     let (h, e7) = both _ _ e6 in
     let (i, e8) = both _ _ e7 in
     let (j, k) = both _ _ e8 in
     record {
-      opened = record { product = a; valid = b; cleaned = c; weeks = d; covered = f; full = g };
+      opened = record { product = a; valid = b; cleaned = c; weeks = d; covered = f; week = l; full = g };
       lists = h;
       numbers = i;
       enough = leb-true _ _ j;
@@ -89,7 +91,7 @@ module _ (t : Table) (s : Sound t) where
   r = ruleOf (t .calendar) (t .product .kind) (t .product .group)
 
   abbrev w : Lawful (ruleOf (t .calendar) (t .product .kind) (t .product .group))
-  w = monthly-lawful (t .calendar .cover) (t .product .kind) (t .product .group)
+  w = rule-lawful (t .calendar .cover) (t .product .kind) (t .product .group)
 
   abbrev n : ℕ
   n = placesOfKind (t .product .kind)
@@ -102,7 +104,7 @@ module _ (t : Table) (s : Sound t) where
   in-place i = getD (t .maturities) i unused
 
   as-many : length (freshKeys r (t .calendar) (t .date)) ≡ n
-  as-many = complete-length r w (t .calendar) (t .date) (s .opened .full) ∙ monthly-places (t .calendar .cover) (t .product .kind) (t .product .group)
+  as-many = complete-length r w (t .calendar) (t .date) (s .opened .full) ∙ rule-places (t .calendar .cover) (t .product .kind) (t .product .group)
 
   fresh-in : (i : ℕ) → i < n → getD (places15 (fresh r (t .calendar) (t .date))) i unused ≡ maturity r (t .calendar) (λ k. 0) (key i)
   fresh-in i h =
@@ -124,16 +126,17 @@ module _ (t : Table) (s : Sound t) where
       (eqb-true (in-place i .key) (key i) a, eqb-true (in-place i .day) (last i .day) b, eqb-true (in-place i .back) (last i .back) c)
 
   -- so they are those that are worked out for the month
-  last-in : (i : ℕ) → i < n → _≡_ {A = LastDay} (record { day = in-place i .day; back = in-place i .back }) (workedOut (t .calendar) (t .product .group) (in-place i .key))
-  unfolding monthly workedOut lastTradingDay
+  last-in : (i : ℕ) → i < n → _≡_ {A = LastDay} (record { day = in-place i .day; back = in-place i .back }) (workedOut (t .calendar) (t .product .kind) (t .product .group) (in-place i .key))
+  unfolding coverRule workedOut lastTradingDay
   last-in i h = rw (same-in i h .0, same-in i h .1, same-in i h .2)
 
   back-in : (i : ℕ) → i < n → in-place i .back ≤ 6
-  unfolding monthly lastTradingDay
+  unfolding coverRule lastTradingDay
   back-in i h =
       let k = key-at r w (t .calendar) (t .date) i (omega (arith, as-many)) in
-      let b = monthly-begins (t .calendar .cover) (t .product .kind) (t .product .group) (t .calendar) (t .date) (s .opened .covered) in
-      omega (arith, same-in i h .2, six-back (t .calendar) (t .product .group) (s .opened .valid) (s .opened .weeks) (key i) (omega (arith, k .from, b)) (k .below))
+      let b = rule-begins (t .calendar .cover) (t .product .kind) (t .product .group) (t .calendar) (t .date) (s .opened .covered) in
+      let d = rule-deep (t .calendar .cover) (t .product .kind) (t .product .group) (s .opened .valid) (t .date) (s .opened .covered) (s .opened .week) (key i) (omega (arith, k .from, b)) (k .below) in
+      omega (arith, same-in i h .2, six-back (t .calendar) (t .product .kind) (t .product .group) (s .opened .weeks) (key i) (d .0) (d .1))
 
   -- numbers from 1 to the count given, distinct
   record Number (i : ℕ) : Type 0 where
@@ -243,7 +246,7 @@ module _ (t : Table) (s : Sound t) where
     listing = listing-is;
     numbers = numbers-are;
     there = λ k h l. sym (listed-is k) ∙ number-listed (listedIn t) k h;
-    begins = monthly-begins (t .calendar .cover) (t .product .kind) (t .product .group) (t .calendar) (t .date) (s .opened .covered);
+    begins = omega (arith, rule-begins (t .calendar .cover) (t .product .kind) (t .product .group) (t .calendar) (t .date) (s .opened .covered));
     enough = omega (arith, listed-long, s .enough);
     few = omega (arith, listed-long, s .few);
   }
@@ -283,21 +286,22 @@ module _ (t : Table) (e : sound t ≡ true) where
   pub sound-numbered : Numbered (ruleOf (t .calendar) (t .product .kind) (t .product .group)) (t .calendar) (t .date) (listedIn t) (t .given) (numberOf (listedIn t))
   sound-numbered = numbered t (sounds t e)
 
-  -- 'So the listing number of a month never passes 192'
-  pub given-bound : t .given ≤ 192
+  -- no more numbers are given than the cover has months, or weekly Fridays
+  pub given-bound : t .given ≤ keysOf (t .calendar .cover) (t .product .kind)
   given-bound =
       omega (
         arith,
         given-most (r t (sounds t e)) (w t (sounds t e)) (t .calendar) (t .date) (listedIn t) (t .given) (numberOf (listedIn t)) sound-numbered,
-        monthly-most (t .calendar .cover) (t .product .kind) (t .product .group) (sounds t e .opened .valid),
+        rule-keys (t .calendar .cover) (t .product .kind) (t .product .group),
       )
 
-  pub number-bound : (m : ℕ) → numberOf (listedIn t) m ≤ 192
-  number-bound m = omega (arith, sound-numbered .numbers .small m, given-bound)
+  -- 'So the listing number of a month never passes 192'
+  pub number-bound : isWeekly (t .product .kind) ≡ false → (m : ℕ) → numberOf (listedIn t) m ≤ 192
+  number-bound q m = omega (arith, sound-numbered .numbers .small m, given-bound, months-most (t .calendar .cover) (t .product .kind) (sounds t e .opened .valid) q)
 
   -- 'a sound table has it right': the day and the days stepped back of each maturity are those that are worked out (02, note 2)
   pub last-right : (i : ℕ) → i < placesOfKind (t .product .kind)
-      → _≡_ {A = LastDay} (record { day = getD (t .maturities) i unused .day; back = getD (t .maturities) i unused .back }) (workedOut (t .calendar) (t .product .group) (getD (t .maturities) i unused .key))
+      → _≡_ {A = LastDay} (record { day = getD (t .maturities) i unused .day; back = getD (t .maturities) i unused .back }) (workedOut (t .calendar) (t .product .kind) (t .product .group) (getD (t .maturities) i unused .key))
   last-right = last-in t (sounds t e)
 
   -- 'the number of days it stepped back from the anchor, 0 to 6' (02, note 2)

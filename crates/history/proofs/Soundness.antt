@@ -19,11 +19,11 @@ use Rattle.product.specs.declared.Product.{Product}
 use Rattle.product.specs.Fields.{productRight}
 use Rattle.expiry.specs.declared.LastDay.{LastDay}
 use Rattle.listing.specs.declared.Maturity.{Maturity}
-use Rattle.listing.specs.Rules.{Rule, lastOf, monthsBefore, freshKeys, maturity, unused, places15}
-use Rattle.listing.specs.Months.{placesOfKind, ruleOf, allInCover}
+use Rattle.listing.specs.Rules.{Rule, lastOf, keysBefore, freshKeys, maturity, unused, places15}
+use Rattle.listing.specs.Months.{placesOfKind, ruleOf, allInCover, weekIntoCover}
 use Rattle.listing.proofs.Walks.{sift-at}
 use Rattle.listing.proofs.Lawful.{Lawful, fresh-is, complete-length, keys-rise}
-use Rattle.listing.proofs.Monthly.{monthly-lawful, monthly-places}
+use Rattle.listing.proofs.OfKinds.{rule-lawful, rule-places}
 use Rattle.table.specs.declared.Table.{Table}
 use Rattle.places.specs.Numbering.{sameMaturity, numbersRight}
 use Rattle.table.specs.Table.{listedIn, listsFresh, sound}
@@ -39,6 +39,7 @@ pub record Opened (p : Product) (cal : Calendar) (date : ℕ) : Type 0 where
   pub cleaned : clean cal ≡ true
   pub weeks : everyWeek cal ≡ true
   pub covered : inCover (cal .cover) date ≡ true
+  pub week : weekIntoCover (p .kind) (cal .cover) date ≡ true
   pub full : allInCover cal (p .kind) (p .group) date ≡ true
 
 pub opened : (p : Product) (cal : Calendar) (date : ℕ) → opens p cal date ≡ true → Opened p cal date
@@ -48,8 +49,9 @@ opened p cal date e =
     let (b, e2) = both _ _ e1 in
     let (c, e3) = both _ _ e2 in
     let (d, e4) = both _ _ e3 in
-    let (f, g) = both _ _ e4 in
-    record { product = a; valid = b; cleaned = c; weeks = d; covered = f; full = g }
+    let (f, e5) = both _ _ e4 in
+    let (h, g) = both _ _ e5 in
+    record { product = a; valid = b; cleaned = c; weeks = d; covered = f; week = h; full = g }
 
 -- a list by its places
 at-same : {A : Type 0} (d : A) (n i : ℕ) → getD (replicate n d) i d ≡ d
@@ -88,14 +90,14 @@ module _ (p : Product) (cal : Calendar) (date : ℕ) (ms : List Maturity) (given
   r = ruleOf cal (p .kind) (p .group)
 
   abbrev w : Lawful (ruleOf cal (p .kind) (p .group))
-  w = monthly-lawful (cal .cover) (p .kind) (p .group)
+  w = rule-lawful (cal .cover) (p .kind) (p .group)
 
   abbrev n : ℕ
   n = placesOfKind (p .kind)
 
   module _ (I : Numbered (ruleOf cal (p .kind) (p .group)) cal date ms given nu) where
     as-many : length (freshKeys r cal date) ≡ n
-    as-many = complete-length r w cal date (o .full) ∙ monthly-places (cal .cover) (p .kind) (p .group)
+    as-many = complete-length r w cal date (o .full) ∙ rule-places (cal .cover) (p .kind) (p .group)
 
     as-long : length ms ≡ n
     as-long = ap length (I .listing) ∙ length-map (freshKeys r cal date) (maturity r cal nu) ∙ as-many
@@ -154,7 +156,7 @@ module _ (p : Product) (cal : Calendar) (date : ℕ) (ms : List Maturity) (given
     pub is-sound : sound (tableOf p cal date ms given) ≡ true
     unfolding sound
     is-sound =
-        and-both (o .product) (and-both (o .valid) (and-both (o .cleaned) (and-both (o .weeks) (and-both (o .covered) (and-both (o .full)
+        and-both (o .product) (and-both (o .valid) (and-both (o .cleaned) (and-both (o .weeks) (and-both (o .covered) (and-both (o .week) (and-both (o .full)
         (and-both lists-them (and-both numbers-them
         (and-both (le-leb (n) given (omega (arith, I .enough, as-long)))
-        (le-leb (given - n) (monthsBefore r cal date) (omega (arith, I .few, as-long)))))))))))
+        (le-leb (given - n) (keysBefore r cal date) (omega (arith, I .few, as-long))))))))))))

@@ -1,4 +1,4 @@
--- Demand 3: one claim about every list of rolls and closes on a table that an accepted open gave back (01, The table, 'The list of rolls and closes ..'; the other sentences are the demand's own).
+-- Demand 3: one claim about every list of rolls and closes on a table that an accepted open gave back (01, The table; the sentences that do not stand there are the demand's own). For a weekly product 'demand 3 and its book read with Fridays for months' (02, note 3): a month m is there the day number of a Friday.
 -- Assumes nothing.
 use Prim.Native.Nat.{ℕ, suc, _+_, _≤_, _<_}
 use mathlib.Core.Path.{_≡_}
@@ -11,13 +11,13 @@ use Rattle.questions.specs.Search.{oneOf}
 use Rattle.calendar.specs.declared.Calendar.{Calendar}
 use Rattle.calendar.specs.Trading.{validCover, inCover, clean, everyWeek}
 use Rattle.product.specs.declared.Product.{Product}
-use Rattle.product.specs.Fields.{productRight}
+use Rattle.product.specs.Fields.{productRight, isWeekly}
 use Rattle.listing.specs.Rules.{places15}
 use Rattle.expiry.specs.LastDays.{lastTradingDay}
 use Rattle.table.specs.declared.Table.{Table}
 use Rattle.table.specs.declared.Outcome.{Outcome}
 use Rattle.places.specs.Numbering.{isListed, numberOf, unnumbered}
-use Rattle.listing.specs.Months.{freshOf, allInCover}
+use Rattle.listing.specs.Months.{freshOf, allInCover, keysOf, weekIntoCover}
 use Rattle.table.specs.Table.{listedIn, sound, rollCall, closeCall, openedTable}
 use Rattle.history.specs.Book.{Call, roll, close, Reply, Book, calendarAfter, dateAfter, bookOpened, bookRun, bookReplies}
 
@@ -52,14 +52,14 @@ dateOfCalls date [] rs = date
 dateOfCalls date (c ∷ cs) [] = date
 dateOfCalls date (c ∷ cs) (r ∷ rs) = dateOfCalls (cond (eqb (r .refusal) 0) (dateAfter date c) date) cs rs
 
--- what an accepted open leaves: 7 holds of the product, the cover has '1 to 16 years from 2000 to 2099', and 5, 6, 11 and 16 are answered yes
+-- what an accepted open leaves: 7 holds of the product, the cover has '1 to 16 years from 2000 to 2099', and 5, 6, 11, 24 and 16 are answered yes
 unfoldable pub opens : Product → Calendar → ℕ → Bool
 opens p cal date =
     productRight p
     && (validCover (cal .cover)
     && (clean cal
     && (everyWeek cal
-    && (inCover (cal .cover) date && allInCover cal (p .kind) (p .group) date))))
+    && (inCover (cal .cover) date && (weekIntoCover (p .kind) (cal .cover) date && allInCover cal (p .kind) (p .group) date)))))
 
 module _ (p : Product) (cal : Calendar) (date : ℕ) where
   -- the table after a list of calls that 'starts from the table that an accepted open gave back'
@@ -129,12 +129,16 @@ module _ (p : Product) (cal : Calendar) (date : ℕ) where
     pub gone-once : (i j : ℕ) → i < j → j < length (book cs .gone) → getD (book cs .gone) i 0 ≡ getD (book cs .gone) j 0 → ⊥
     -- 'A call took a listed month off exactly when its last trading day, as the calendar stands after the call, is before the date the table then has'
     pub off : (c : Call) (m : ℕ) → listedThen cs m ≡ true
-        → (isListed (listedIn (next cs c)) m ≡ false) ↔ (lastTradingDay (next cs c .calendar) (p .group) m < next cs c .date)
+        → (isListed (listedIn (next cs c)) m ≡ false) ↔ (lastTradingDay (next cs c .calendar) (p .kind) (p .group) m < next cs c .date)
     -- 'Numbers given = months listed + months that left'
     pub sum : after cs .given ≡ length (listedIn (after cs)) + length (book cs .gone)
     -- the table is sound
     pub stays-sound : sound (after cs) ≡ true
-    -- 'the listing number of a month never passes 192'
-    pub number-below-193 : (m : ℕ) → numberThen cs m ≤ 192
+    -- no listing number passes the number of the cover's months, or of its weekly Fridays
+    pub number-most : (m : ℕ) → numberThen cs m ≤ keysOf (cal .cover) (p .kind)
     -- nor does the count of numbers given
-    pub below-193 : after cs .given ≤ 192
+    pub given-most : after cs .given ≤ keysOf (cal .cover) (p .kind)
+    -- 'the listing number of a month never passes 192'; a cover may have more weekly Fridays
+    pub number-below-193 : isWeekly (p .kind) ≡ false → (m : ℕ) → numberThen cs m ≤ 192
+    -- nor does the count of numbers given
+    pub below-193 : isWeekly (p .kind) ≡ false → after cs .given ≤ 192

@@ -1,4 +1,4 @@
--- The monthly rule's front and fresh listing as the code makes them.
+-- The fresh listing as the code makes it.
 -- Assumes nothing.
 use mathlib.Core.Path.{_≡_, _∙_, sym, ap}
 use mathlib.Core.Bool.{true}
@@ -8,19 +8,18 @@ use lib.Dec.{lit≤}
 use lib.ListN.{length, take, replicate, length-map}
 use lib.Seq.{take-at}
 use borrow.Author.Tests.{eqb-true}
-use Rattle.days.specs.Dates.{monthOf}
 use Rattle.calendar.specs.declared.Calendar.{Calendar}
 use Rattle.calendar.specs.Trading.{coverEnd}
 use Rattle.product.specs.declared.Kind.{Kind}
 use Rattle.product.specs.declared.Kind.the-variants.{Future, Option}
 use Rattle.product.specs.declared.Text.the-variants.{Of2008, Of2005}
-use Rattle.product.specs.declared.Term.the-variants.{Months12, Months24, Months60}
+use Rattle.product.specs.declared.Term.the-variants.{Months12, Months24, Months60, Weeks5}
 use Rattle.product.specs.Fields.{kindNumber}
 use Rattle.listing.specs.declared.Maturity.{Maturity}
 use Rattle.listing.specs.declared.Listing.{Listing}
 use Rattle.listing.specs.Rules.{front, freshKeys, complete, unused, places15}
-use Rattle.expiry.specs.LastDays.{lastTradingDay, workedOut}
-use Rattle.listing.specs.Months.{placesOf, placesOfKind, monthly, ruleOf, freshOf, allInCover, listingOf}
+use Rattle.expiry.specs.LastDays.{keyOf, lastTradingDay, workedOut}
+use Rattle.listing.specs.Months.{placesOf, placesOfKind, coverRule, ruleOf, freshOf, allInCover, listingOf}
 use Rattle.listing.proofs.Taking.{rest, grown, whole-is, rest-room}
 
 -- no kind has more than fifteen places
@@ -36,18 +35,19 @@ places-least (Future Of2005) = lit≤ tt
 places-least (Option Months12) = lit≤ tt
 places-least (Option Months24) = lit≤ tt
 places-least (Option Months60) = lit≤ tt
+places-least (Option Weeks5) = lit≤ tt
 
--- a month as the code lists it
-abbrev pub matOf : Calendar → List ℕ → ℕ → Maturity
-matOf cal group m = record { key = m; day = workedOut cal group m .day; back = workedOut cal group m .back; number = 0 }
+-- a key as the code lists it
+abbrev pub matOf : Calendar → Kind → List ℕ → ℕ → Maturity
+matOf cal kind group k = record { key = k; day = workedOut cal kind group k .day; back = workedOut cal kind group k .back; number = 0 }
 
 module _ (cal : Calendar) (kind : Kind) (group : List ℕ) (date : ℕ) where
   -- the whole walk of the code is the definition's listing
-  pub listing-is : (k e from : ℕ) → k ≡ kindNumber kind → e ≡ monthOf (coverEnd (cal .cover)) → from ≡ front (ruleOf cal kind group) cal date
-      → grown (matOf cal group) e (length (rest k 0)) 0 (replicate 15 unused) (rest k 0) from ≡ listingOf cal kind group date
-  unfolding listingOf complete freshKeys monthly rest lastTradingDay workedOut
+  pub listing-is : (k e from : ℕ) → k ≡ kindNumber kind → e ≡ keyOf kind (coverEnd (cal .cover)) → from ≡ front (ruleOf cal kind group) cal date
+      → grown (matOf cal kind group) e (length (rest k 0)) 0 (replicate 15 unused) (rest k 0) from ≡ listingOf cal kind group date
+  unfolding listingOf complete freshKeys coverRule rest lastTradingDay workedOut
   listing-is k e from q p s =
-      rw (q, p, s) (whole-is (matOf cal group) (monthOf (coverEnd (cal .cover))) (kindNumber kind) (front (ruleOf cal kind group) cal date) (rest-room kind))
+      rw (q, p, s) (whole-is (matOf cal kind group) (keyOf kind (coverEnd (cal .cover))) (kindNumber kind) (front (ruleOf cal kind group) cal date) (rest-room kind))
 
 -- what the code's listing says: complete or not, and the fresh maturities in the places that are used
 pub complete-is : (cal : Calendar) (kind : Kind) (group : List ℕ) (date : ℕ) (l : Listing) → l ≡ listingOf cal kind group date → l .complete ≡ allInCover cal kind group date
@@ -61,7 +61,7 @@ places-is cal kind group date l e = ap (λ (x : Listing). x .maturities) e
 -- a complete fresh listing fills the places that are used
 pub fresh-listed : (cal : Calendar) (kind : Kind) (group : List ℕ) (date n : ℕ) → n ≡ placesOfKind kind → allInCover cal kind group date ≡ true
     → take n (places15 (freshOf cal kind group date)) ≡ freshOf cal kind group date
-unfolding places15 complete monthly
+unfolding places15 complete coverRule
 fresh-listed cal kind group date n q e =
     take-at (freshOf cal kind group date) _ n
     (length-map (freshKeys (ruleOf cal kind group) cal date) _ ∙ eqb-true _ _ e ∙ sym q)

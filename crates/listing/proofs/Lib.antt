@@ -2,8 +2,11 @@ pub mod Taking
 pub mod Front
 pub mod Fresh
 pub mod Walks
+pub mod Counting
 pub mod Places
 pub mod Lawful
 pub mod Monthly
+pub mod Weekly
+pub mod OfKinds
 pub mod Text2005
 pub mod Second

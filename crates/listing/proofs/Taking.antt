@@ -16,8 +16,9 @@ use Rattle.questions.proofs.Search.{every-at}
 use Rattle.product.specs.declared.Kind.{Kind}
 use Rattle.product.specs.declared.Kind.the-variants.{Future, Option}
 use Rattle.product.specs.declared.Text.the-variants.{Of2008, Of2005}
-use Rattle.product.specs.declared.Term.the-variants.{Months12, Months24, Months60}
+use Rattle.product.specs.declared.Term.the-variants.{Months12, Months24, Months60, Weeks5}
 use Rattle.product.specs.Fields.{kindNumber}
+use Rattle.expiry.specs.LastDays.{weeklyFriday}
 use Rattle.listing.specs.declared.Maturity.{Maturity}
 use Rattle.listing.specs.declared.Listing.{Listing}
 use Rattle.listing.specs.Rules.{nextOf, taken, unused, places15}
@@ -27,30 +28,33 @@ use Rattle.listing.specs.Months.{quarters, monthSets, names2005, counts,
 unfoldable pub rest : ℕ → ℕ → List (ℕ → Bool)
 rest k s = placesOf (drop s (getD counts k [])) (drop s (getD stepSets k []))
 
--- a row has four counts, of at most fifteen months
-row-length : (k : ℕ) → k < 5 → length (getD counts k []) ≡ 4
+-- a row has four counts, of at most fifteen keys
+row-length : (k : ℕ) → k < 6 → length (getD counts k []) ≡ 4
 row-length zero h = refl
 row-length (suc zero) h = refl
 row-length (suc (suc zero)) h = refl
 row-length (suc (suc (suc zero))) h = refl
 row-length (suc (suc (suc (suc zero)))) h = refl
-row-length (suc (suc (suc (suc (suc k))))) h = absurd (omega arith)
+row-length (suc (suc (suc (suc (suc zero))))) h = refl
+row-length (suc (suc (suc (suc (suc (suc k)))))) h = absurd (omega arith)
 
 -- and four sets
-sets-length : (k : ℕ) → k < 5 → length (getD stepSets k []) ≡ 4
+sets-length : (k : ℕ) → k < 6 → length (getD stepSets k []) ≡ 4
 sets-length zero h = refl
 sets-length (suc zero) h = refl
 sets-length (suc (suc zero)) h = refl
 sets-length (suc (suc (suc zero))) h = refl
 sets-length (suc (suc (suc (suc zero)))) h = refl
-sets-length (suc (suc (suc (suc (suc k))))) h = absurd (omega arith)
+sets-length (suc (suc (suc (suc (suc zero))))) h = refl
+sets-length (suc (suc (suc (suc (suc (suc k)))))) h = absurd (omega arith)
 
-pub kind-below : (kind : Kind) → kindNumber kind < 5
+pub kind-below : (kind : Kind) → kindNumber kind < 6
 kind-below (Future Of2008) = lit< tt
 kind-below (Future Of2005) = lit< tt
 kind-below (Option Months12) = lit< tt
 kind-below (Option Months24) = lit< tt
 kind-below (Option Months60) = lit< tt
+kind-below (Option Weeks5) = lit< tt
 
 pub rest-room : (kind : Kind) → length (rest (kindNumber kind) 0) ≤ 15
 unfolding rest placesOf
@@ -59,26 +63,27 @@ rest-room (Future Of2005) = lit≤ tt
 rest-room (Option Months12) = lit≤ tt
 rest-room (Option Months24) = lit≤ tt
 rest-room (Option Months60) = lit≤ tt
+rest-room (Option Weeks5) = lit≤ tt
 
 -- the steps from s on are the step s and those after it
-rest-step : (k s : ℕ) → k < 5 → s < 4 → rest k s ≡ replicate (getD (getD counts k []) s 0) (setAt k s) ++ rest k (s + 1)
+rest-step : (k s : ℕ) → k < 6 → s < 4 → rest k s ≡ replicate (getD (getD counts k []) s 0) (setAt k s) ++ rest k (s + 1)
 unfolding rest placesOf
 rest-step k s hk hs =
     let l : s < length (getD counts k []) = rw row-length hs in
     let m : s < length (getD stepSets k []) = rw sets-length hs in
-    rw (drop-cons (getD counts k []) s 0 l, drop-cons (getD stepSets k []) s (λ m. false) m, add-one)
+    rw (drop-cons (getD counts k []) s 0 l, drop-cons (getD stepSets k []) s (λ k. false) m, add-one)
 
-rest-none : (k s : ℕ) → k < 5 → 4 ≤ s → rest k s ≡ []
+rest-none : (k s : ℕ) → k < 6 → 4 ≤ s → rest k s ≡ []
 unfolding rest placesOf
 rest-none k s hk hs =
     let l : length (getD counts k []) ≤ s = rw row-length hs in
     rw (drop-of-length-le (getD counts k []) l)
 
 -- the sum of the counts, step by step
-pub rest-count : (k s : ℕ) → k < 5 → s < 4 → length (rest k s) ≡ getD (getD counts k []) s 0 + length (rest k (s + 1))
+pub rest-count : (k s : ℕ) → k < 6 → s < 4 → length (rest k s) ≡ getD (getD counts k []) s 0 + length (rest k (s + 1))
 rest-count k s hk hs = ap length (rest-step k s hk hs) ∙ simp (length-append, length-replicate)
 
-pub rest-zero : (k s : ℕ) → k < 5 → 4 ≤ s → length (rest k s) ≡ 0
+pub rest-zero : (k s : ℕ) → k < 6 → 4 ≤ s → length (rest k s) ≡ 0
 rest-zero k s hk hs = ap length (rest-none k s hk hs)
 
 -- the listing once the places ps are filled from the key f on, after n places of a; it is complete if they make t
@@ -114,14 +119,14 @@ step-done c j p r h = let q : c - j ≡ 0 = omega arith in rw q
 
 -- the walk with the places ps still to fill: the listing that they complete is the whole one
 pub record Walking (mat : ℕ → Maturity) (e k front : ℕ) (a : List Maturity) (n from : ℕ) (complete : Bool) (ps : List (ℕ → Bool)) : Type 0 where
-  pub row : k < 5
-  pub ends : e ≤ 1200
+  pub row : k < 6
+  pub ends : e ≤ 36525
   pub so-far : complete ≡ true
   pub few : n + length ps ≡ length (rest k 0)
   pub room : length (rest k 0) ≤ 15
   pub same : grown mat e (length (rest k 0)) n a ps from ≡ grown mat e (length (rest k 0)) 0 (replicate 15 unused) (rest k 0) front
 
-pub starts : (mat : ℕ → Maturity) (e : ℕ) (kind : Kind) (k front : ℕ) → k ≡ kindNumber kind → e ≤ 1200 → Walking mat e k front (replicate 15 unused) 0 front true (rest k 0)
+pub starts : (mat : ℕ → Maturity) (e : ℕ) (kind : Kind) (k front : ℕ) → k ≡ kindNumber kind → e ≤ 36525 → Walking mat e k front (replicate 15 unused) 0 front true (rest k 0)
 starts mat e kind k front q h =
     rw q (record { row = kind-below kind; ends = h; so-far = refl; few = omega arith; room = rest-room kind; same = refl })
 
@@ -243,7 +248,7 @@ pub set-2005 : (m : ℕ) → (eqb ((m % 12 + 1) % 3) 0 || (eqb (m % 12 + 1) 4 ||
 unfolding every oneOf same
 set-2005 = set-by names2005 (λ name. eqb (name % 3) 0 || (eqb name 4 || (eqb name 5 || eqb name 7))) refl
 
--- the set of a row's step is that of the table's head, or that of the seven names
+-- the set of a row's step is that of the table's head, that of the seven names, or that of the weekly Fridays
 pub row-months : (k s : ℕ) → k < 4 → setAt k s ≡ getD monthSets s (λ m. false)
 row-months zero s h = refl
 row-months (suc zero) s h = refl
@@ -251,7 +256,7 @@ row-months (suc (suc zero)) s h = refl
 row-months (suc (suc (suc zero))) s h = refl
 row-months (suc (suc (suc (suc k)))) s h = absurd (omega arith)
 
-same-four : (p : ℕ → Bool) (s : ℕ) → s < 4 → getD (replicate 4 p) s (λ m. false) ≡ p
+same-four : (p : ℕ → Bool) (s : ℕ) → s < 4 → getD (replicate 4 p) s (λ k. false) ≡ p
 same-four p zero h = refl
 same-four p (suc zero) h = refl
 same-four p (suc (suc zero)) h = refl
@@ -260,3 +265,6 @@ same-four p (suc (suc (suc (suc s)))) h = absurd (omega arith)
 
 pub row-2005 : (k s : ℕ) → k ≡ 4 → s < 4 → setAt k s ≡ inSet names2005
 row-2005 k s q h = rw q (same-four (inSet names2005) s h)
+
+pub row-weekly : (k s : ℕ) → k ≡ 5 → s < 4 → setAt k s ≡ weeklyFriday
+row-weekly k s q h = rw q (same-four weeklyFriday s h)

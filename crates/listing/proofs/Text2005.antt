@@ -19,14 +19,14 @@ use Rattle.calendar.specs.declared.Calendar.{Calendar}
 use Rattle.calendar.specs.Trading.{coverEnd}
 use Rattle.product.specs.declared.Kind.the-variants.{Future}
 use Rattle.product.specs.declared.Text.the-variants.{Of2005}
-use Rattle.expiry.specs.LastDays.{lastTradingDay}
+use Rattle.expiry.specs.LastDays.{keyOf, lastTradingDay}
 use Rattle.listing.specs.Rules.{Rule, front, countFrom, taken, freshKeys, complete}
-use Rattle.listing.specs.Months.{quarters, names2005, inSet, placesOf, monthly, ruleOf, allInCover}
+use Rattle.listing.specs.Months.{quarters, names2005, inSet, placesOf, coverRule, ruleOf, allInCover}
 use Rattle.listing.specs.Text2005.{nextMonths, of2005, front2005, months2005}
 use Rattle.listing.proofs.Walks.{bit}
 use Rattle.listing.proofs.Places.{taken-none, taken-here, taken-next}
 use Rattle.listing.proofs.Lawful.{Lawful, day-anchor}
-use Rattle.listing.proofs.Monthly.{monthly-lawful}
+use Rattle.listing.proofs.OfKinds.{rule-lawful}
 
 -- a month of the window of n months from k on, in the cover
 abbrev window : ℕ → ℕ → ℕ → ℕ → Bool
@@ -293,14 +293,14 @@ module _ (cal : Calendar) (group : List ℕ) (date : ℕ) where
   r = ruleOf cal (Future Of2005) group
 
   abbrev test : ℕ → Bool
-  test m = inSet names2005 m && leb date (lastTradingDay cal group m)
+  test m = inSet names2005 m && leb date (lastTradingDay cal (Future Of2005) group m)
 
   -- a month before the date's own has ended
   ended : (k : ℕ) → k < monthOf date → test k ≡ false
-  unfolding monthly lastTradingDay
+  unfolding coverRule keyOf lastTradingDay
   ended k l =
-      let w : Lawful r = monthly-lawful (cal .cover) (Future Of2005) group in
-      none (inSet names2005 k) (lt-leb date (lastTradingDay cal group k) (omega (arith, w .own k date l, day-anchor r w cal k)))
+      let w : Lawful r = rule-lawful (cal .cover) (Future Of2005) group in
+      none (inSet names2005 k) (lt-leb date (lastTradingDay cal (Future Of2005) group k) (omega (arith, w .own k date l, day-anchor r w cal k)))
     where
       none : (b : Bool) {c : Bool} → c ≡ false → (b && c) ≡ false
       none true e = e
@@ -308,7 +308,7 @@ module _ (cal : Calendar) (group : List ℕ) (date : ℕ) where
 
   -- the front of the rule is the front of the sentence
   pub front-2005 : front r cal date ≡ front2005 cal group date
-  unfolding front front2005 monthly placesOf lastTradingDay
+  unfolding front front2005 coverRule keyOf placesOf lastTradingDay
   front-2005 = go (lt-or-ge (monthOf (coverEnd (cal .cover))) (monthOf date))
     where
       e : ℕ
@@ -323,7 +323,7 @@ module _ (cal : Calendar) (group : List ℕ) (date : ℕ) where
   keys2005 = freshKeys r cal date
 
   next-seven : keys2005 ≡ nextMonths (monthOf (coverEnd (cal .cover))) 7 names2005 (front2005 cal group date)
-  unfolding freshKeys monthly placesOf
+  unfolding freshKeys coverRule keyOf placesOf
   next-seven = rw front-2005 refl
 
   -- its months are those of the sentence
@@ -336,5 +336,5 @@ module _ (cal : Calendar) (group : List ℕ) (date : ℕ) where
 
   -- and 16 is answered yes where all seven of the sentence are in the cover
   pub complete-2005 : allInCover cal (Future Of2005) group date ≡ eqb (length (months2005 cal group date)) 7
-  unfolding complete monthly placesOf
+  unfolding complete coverRule placesOf
   complete-2005 = ap (λ (n : ℕ). eqb n 7) (sym listed-as-many)

@@ -9,6 +9,8 @@ use Rattle.questions.specs.Search.{firstFrom}
 use Rattle.days.specs.Dates.{monthOf}
 use Rattle.calendar.specs.declared.Calendar.{Calendar}
 use Rattle.calendar.specs.Trading.{coverEnd}
+use Rattle.product.specs.declared.Kind.the-variants.{Future}
+use Rattle.product.specs.declared.Text.the-variants.{Of2005}
 use Rattle.expiry.specs.LastDays.{lastTradingDay}
 use Rattle.listing.specs.Rules.{taken}
 use Rattle.listing.specs.Months.{quarters, names2005, inSet}
@@ -28,7 +30,7 @@ of2005 beyond front =
 -- 'the front, the first month of those seven names whose last trading day is not before the date'; the first month beyond the cover where the cover has none
 unfoldable pub front2005 : Calendar → List ℕ → ℕ → ℕ
 front2005 cal group date =
-    firstFrom (λ m. inSet names2005 m && leb date (lastTradingDay cal group m)) (monthOf (coverEnd (cal .cover)))
+    firstFrom (λ m. inSet names2005 m && leb date (lastTradingDay cal (Future Of2005) group m)) (monthOf (coverEnd (cal .cover)))
     (monthOf (coverEnd (cal .cover))) 0
 
 -- the months of the sentence on a date, from that front

@@ -11,7 +11,7 @@ use Rattle.questions.specs.Questions.{Ask, ask, firstNo, Answer, answer}
 use Rattle.questions.proofs.Bools.{and-fst, and-snd}
 use Rattle.questions.proofs.Asks.{none-no, no-asks, first-yes, accepted}
 use Rattle.calendar.specs.Trading.{inCover}
-use Rattle.listing.specs.Months.{listingOf, allInCover}
+use Rattle.listing.specs.Months.{listingOf, allInCover, weekIntoCover}
 use Rattle.years.specs.Calendars.{calendarOf}
 use Rattle.master.specs.Products.{productAt}
 use Rattle.master.specs.Load.{loadAsks, loadCall, loadAnswer, found, placeFrom, placeOf, findAsks, findCall, findAnswer, productOf}
@@ -91,7 +91,7 @@ module _ (f id : List ℕ) (date : ℕ) where
 
   module _ (a : firstNo (loadAsks f) ≡ 0) where
     -- the questions after load's
-    rest-is : firstNo (openAsks f id date) ≡ firstNo (ask 9 (found f id) ∷ ask 11 (inCover (calendarOf f .cover) date) ∷ ask 16 (allInCover (calendarOf f) (productOf f id .kind) (productOf f id .group) date) ∷ [])
+    rest-is : firstNo (openAsks f id date) ≡ firstNo (ask 9 (found f id) ∷ ask 11 (inCover (calendarOf f .cover) date) ∷ ask 24 (weekIntoCover (productOf f id .kind) (calendarOf f .cover) date) ∷ ask 16 (allInCover (calendarOf f) (productOf f id .kind) (productOf f id .group) date) ∷ [])
     unfolding openAsks
     rest-is = append-yes (loadAsks f) _ (load-numbers f) a
 
@@ -105,20 +105,26 @@ module _ (f id : List ℕ) (date : ℕ) where
       open-11 c = opening-no f id date 10 (rest-is ∙ rw (b, c))
 
       module _ (c : inCover (calendarOf f .cover) date ≡ true) where
-        pub open-16 : allInCover (calendarOf f) (productOf f id .kind) (productOf f id .group) date ≡ false → openingOf f id date ≡ refusedOpening 16
+        pub open-24 : weekIntoCover (productOf f id .kind) (calendarOf f .cover) date ≡ false → openingOf f id date ≡ refusedOpening 24
         unfolding firstNo
-        open-16 d = opening-no f id date 15 (rest-is ∙ rw (b, c, d))
+        open-24 w = opening-no f id date 23 (rest-is ∙ rw (b, c, w))
 
-        pub open-yes : allInCover (calendarOf f) (productOf f id .kind) (productOf f id .group) date ≡ true
-            → openingOf f id date ≡ record { refusal = 0; product = productOf f id; calendar = calendarOf f; fresh = listingOf (calendarOf f) (productOf f id .kind) (productOf f id .group) date .maturities }
-        unfolding openingOf listingOf firstNo
-        open-yes d = let z : firstNo (openAsks f id date) ≡ 0 = rest-is ∙ rw (b, c, d) in rw z
+        module _ (w : weekIntoCover (productOf f id .kind) (calendarOf f .cover) date ≡ true) where
+          pub open-16 : allInCover (calendarOf f) (productOf f id .kind) (productOf f id .group) date ≡ false → openingOf f id date ≡ refusedOpening 16
+          unfolding firstNo
+          open-16 d = opening-no f id date 15 (rest-is ∙ rw (b, c, w, d))
+
+          pub open-yes : allInCover (calendarOf f) (productOf f id .kind) (productOf f id .group) date ≡ true
+              → openingOf f id date ≡ record { refusal = 0; product = productOf f id; calendar = calendarOf f; fresh = listingOf (calendarOf f) (productOf f id .kind) (productOf f id .group) date .maturities }
+          unfolding openingOf listingOf firstNo
+          open-yes d = let z : firstNo (openAsks f id date) ≡ 0 = rest-is ∙ rw (b, c, w, d) in rw z
 
 -- what the questions of an accepted open leave
 pub record OpenedFrom (f id : List ℕ) (date : ℕ) : Type 0 where
   pub loaded : firstNo (loadAsks f) ≡ 0
   pub there : found f id ≡ true
   pub dated : inCover (calendarOf f .cover) date ≡ true
+  pub week : weekIntoCover (productOf f id .kind) (calendarOf f .cover) date ≡ true
   pub whole : allInCover (calendarOf f) (productOf f id .kind) (productOf f id .group) date ≡ true
 
 load-first : (f : List ℕ) (rs : List Ask) → firstNo (loadAsks f ++ rs) ≡ 0 → firstNo (loadAsks f) ≡ 0
@@ -134,5 +140,6 @@ opened-from f id date q =
     let l = load-first f _ q in
     let (a, r1) = none-no 8 (found f id) _ (sym (rest-is f id date l) ∙ q) in
     let (b, r2) = none-no 10 (inCover (calendarOf f .cover) date) _ r1 in
-    let (c, r3) = none-no 15 (allInCover (calendarOf f) (productOf f id .kind) (productOf f id .group) date) [] r2 in
-    record { loaded = l; there = a; dated = b; whole = c }
+    let (w, r3) = none-no 23 (weekIntoCover (productOf f id .kind) (calendarOf f .cover) date) _ r2 in
+    let (c, r4) = none-no 15 (allInCover (calendarOf f) (productOf f id .kind) (productOf f id .group) date) [] r3 in
+    record { loaded = l; there = a; dated = b; week = w; whole = c }

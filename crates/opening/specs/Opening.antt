@@ -1,4 +1,4 @@
--- What the call that opens a table asks of a file, and what it finds there (01, Questions, in order, 'Open'; Master file, 'Open finds its record by id').
+-- What the call that opens a table asks of a file, and what it finds there (01, Questions, in order, 'Open'; Master file, 'Open finds its record by id'; 02, note 3).
 -- Assumes nothing.
 use Prim.Native.Nat.{ℕ}
 use mathlib.Core.Bool.{cond}
@@ -12,7 +12,7 @@ use Rattle.product.specs.declared.Product.{Product}
 use Rattle.product.specs.declared.Kind.the-variants.{Future}
 use Rattle.product.specs.declared.Text.the-variants.{Of2008}
 use Rattle.listing.specs.Rules.{unused, places15}
-use Rattle.listing.specs.Months.{freshOf, allInCover}
+use Rattle.listing.specs.Months.{freshOf, allInCover, weekIntoCover}
 use Rattle.years.specs.Calendars.{calendarOf}
 use Rattle.master.specs.Load.{loadAsks, found, productOf}
 use Rattle.opening.specs.declared.Opening.{Opening}
@@ -34,12 +34,13 @@ zeroProduct =
 unfoldable pub zeroCalendar : Calendar
 zeroCalendar = record { cover = record { «first_year» = 0; years = 0 }; closed = replicate 736 0; exchange = replicate 736 0 }
 
--- 'Open: 1–9, 11, 16'
+-- 'Open: 1–9, 11, 16'; '24, after 11, in opening kind 5' (02, note 3)
 unfoldable pub openAsks : List ℕ → List ℕ → ℕ → List Ask
 openAsks f id date =
     loadAsks f
     ++ (ask 9 (found f id)
     ∷ ask 11 (inCover (calendarOf f .cover) date)
+    ∷ ask 24 (weekIntoCover (productOf f id .kind) (calendarOf f .cover) date)
     ∷ ask 16 (allInCover (calendarOf f) (productOf f id .kind) (productOf f id .group) date)
     ∷ [])
 

@@ -89,6 +89,9 @@ pub fn opening_of(file: &[u8], id: [u8; 4], date: u16) -> Opening
     let product = master::product_at(file, block, record);
     let kind = product.kind;
     let group = product.group;
+    if !listing::is_week_into_cover(kind, calendar.cover, date) {
+        return refused_opening(24);
+    }
     let l = listing::list(calendar, kind, group, date);
     if !l.complete {
         return refused_opening(16);

@@ -14,7 +14,7 @@ use Rattle.listing.specs.Rules.{countFrom}
 use Rattle.listing.proofs.Walks.{bit}
 use Rattle.places.specs.Numbering.{isListed, numberOf, missing, withNumber, unnumbered, renumbered}
 use Rattle.places.specs.Laws.{Rising, only, RenumberedLaw, MissingLaw}
-use Rattle.places.proofs.Counting.{count-zero, count-one, count-balance}
+use Rattle.listing.proofs.Counting.{count-zero, count-one, count-balance}
 use Rattle.places.proofs.Rising.{rising-tail, rising-above, rising-once, rising-cons}
 
 -- each maturity with the number of its month

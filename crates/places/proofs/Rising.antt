@@ -15,7 +15,7 @@ use Rattle.product.specs.declared.Kind.{Kind}
 use Rattle.listing.specs.Rules.{Rule, freshKeys, maturity, unused}
 use Rattle.listing.specs.Months.{ruleOf, freshOf}
 use Rattle.listing.proofs.Lawful.{Lawful, keys-rise}
-use Rattle.listing.proofs.Monthly.{monthly-lawful}
+use Rattle.listing.proofs.OfKinds.{rule-lawful}
 use Rattle.places.specs.Numbering.{isListed}
 use Rattle.places.specs.Laws.{Rising}
 
@@ -83,4 +83,4 @@ module _ (r : Rule) (w : Lawful r) (cal : Calendar) (date : ℕ) (nu : ℕ → �
       omega (arith, key-at-place i (omega arith), key-at-place j n, keys-rise r w cal date i j l n)
 
 pub fresh-rises : (cal : Calendar) (kind : Kind) (group : List ℕ) (date : ℕ) → Rising (freshOf cal kind group date)
-fresh-rises cal kind group date = listing-rises (ruleOf cal kind group) (monthly-lawful (cal .cover) kind group) cal date (λ k. 0)
+fresh-rises cal kind group date = listing-rises (ruleOf cal kind group) (rule-lawful (cal .cover) kind group) cal date (λ k. 0)

@@ -46,7 +46,7 @@ fn is_place_right(maturities: [Maturity; 15], fresh: [Maturity; 15], n: usize, i
 pub fn are_places_right(maturities: [Maturity; 15], fresh: [Maturity; 15], kind: Kind) -> bool
     ensures { λ r. ⌜ r ≡ every 15 (placeRight maturities fresh (placesOfKind kind)) ⌝ }
 {
-    let n = listing::months_listed(kind) as usize;
+    let n = listing::places_of_kind(kind) as usize;
     let mut i: usize = 0;
     while i < 15 {
         if !is_place_right(maturities, fresh, n, i) {
@@ -77,7 +77,7 @@ fn is_among(maturities: [Maturity; 15], n: usize, key: u16) -> bool
 pub fn is_listed(maturities: [Maturity; 15], kind: Kind, key: u16) -> bool
     ensures { λ r. ⌜ r ≡ isListed (take (placesOfKind kind) maturities) key ⌝ }
 {
-    let n = listing::months_listed(kind) as usize;
+    let n = listing::places_of_kind(kind) as usize;
     is_among(maturities, n, key)
 }
 
@@ -127,7 +127,7 @@ fn count_absent(maturities: [Maturity; 15], others: [Maturity; 15], n: usize) ->
 pub fn count_missing(maturities: [Maturity; 15], others: [Maturity; 15], kind: Kind) -> u16
     ensures { λ r. ⌜ (r ≡ length (missing (take (placesOfKind kind) maturities) (take (placesOfKind kind) others))) × (r ≤ 15) ⌝ }
 {
-    let n = listing::months_listed(kind) as usize;
+    let n = listing::places_of_kind(kind) as usize;
     count_absent(maturities, others, n)
 }
 
@@ -194,7 +194,7 @@ pub fn renumber(old: Places, fresh: Places, kind: Kind, given: u16) -> Places
     if 60000 < given {
         return old;
     }
-    let n = listing::months_listed(kind) as usize;
+    let n = listing::places_of_kind(kind) as usize;
     number_fresh(old, n, fresh, n, given)
 }
 
@@ -202,7 +202,7 @@ pub fn renumber(old: Places, fresh: Places, kind: Kind, given: u16) -> Places
 pub fn number_opened(fresh: Places, kind: Kind) -> Places
     ensures { λ r. ⌜ r ≡ places15 (numberedFresh (take (placesOfKind kind) fresh)) ⌝ }
 {
-    let n = listing::months_listed(kind) as usize;
+    let n = listing::places_of_kind(kind) as usize;
     number_fresh(fresh, 0, fresh, n, 0)
 }
 
@@ -257,6 +257,6 @@ fn are_first_right(maturities: [Maturity; 15], n: usize, given: u16) -> bool
 pub fn are_numbers_right(maturities: [Maturity; 15], kind: Kind, given: u16) -> bool
     ensures { λ r. ⌜ r ≡ numbersRight maturities (placesOfKind kind) given ⌝ }
 {
-    let n = listing::months_listed(kind) as usize;
+    let n = listing::places_of_kind(kind) as usize;
     are_first_right(maturities, n, given)
 }

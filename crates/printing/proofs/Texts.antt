@@ -1,10 +1,12 @@
 -- The texts of numbers, days and maturities, case by case.
 -- Assumes nothing.
 use mathlib.Core.Path.{_≡_, refl, _∙_, sym, ap}
+use mathlib.Core.Bool.{Bool, true, false, cond}
 use mathlib.Core.List.{List, [], _∷_, _++_}
-use Prim.Native.Nat.{ℕ, _+_, _/_, _%_, _≤_, _<_}
+use Prim.Native.Nat.{ℕ, _+_, _*_, _/_, _%_, _≤_, _<_}
 use native.Mathlib.Numerals.{add-one}
 use native.Mathlib.Omega.{arith}
+use lib.Dec.{lit≤}
 use lib.ListN.{getD}
 use borrow.Author.Tests.{lt-ltb, le-ltb}
 use Rattle.questions.specs.Questions.{Answer}
@@ -12,9 +14,15 @@ use Rattle.days.specs.declared.Date.{Date}
 use Rattle.days.specs.declared.DateAnswer.{DateAnswer}
 use Rattle.days.specs.declared.DateAnswer.the-variants.{Is, NotADay}
 use Rattle.days.specs.Dates.{dateCall, dateAnswer, zeroDate}
+use Rattle.product.specs.declared.Kind.{Kind}
+use Rattle.product.specs.declared.Kind.the-variants.{Future, Option}
+use Rattle.product.specs.declared.Text.the-variants.{Of2008, Of2005}
+use Rattle.product.specs.declared.Term.the-variants.{Months12, Months24, Months60, Weeks5}
+use Rattle.product.specs.Fields.{isWeekly}
 use Rattle.listing.specs.declared.Maturity.{Maturity}
 use Rattle.listing.specs.Rules.{unused}
-use Rattle.printing.specs.Text.{lastDigit, inTwoDigits, inFourDigits, decimal, maturityText, maturitiesText}
+use Rattle.listing.specs.Months.{placesOf, placesOfKind}
+use Rattle.printing.specs.Text.{lastDigit, inTwoDigits, inFourDigits, decimal, maturityText, maturitiesText, nameWidth, linesWidth}
 use Rattle.printing.specs.Buffer.{Written}
 
 -- a number by how many digits it has
@@ -50,15 +58,59 @@ pub no-date : (a : DateAnswer) (d : ℕ) → dateAnswer a ≡ dateCall d → a �
 no-date a d e q = ap (λ (r : Answer Date). r .value) (sym (ap dateAnswer q) ∙ e)
 
 -- no maturity, and one more
-pub no-lines : (a : List ℕ) (at : ℕ) (ms : List Maturity) → Written a a at at (maturitiesText 0 ms)
+pub no-lines : (a : List ℕ) (at : ℕ) (kind : Kind) (ms : List Maturity) → Written a a at at (maturitiesText kind 0 ms)
 unfolding maturitiesText
-no-lines a at ms = record { is = refl; to = omega arith; long = refl }
+no-lines a at kind ms = record { is = refl; to = omega arith; long = refl }
 
-pub more-lines : (i : ℕ) (ms : List Maturity) → maturitiesText (i + 1) ms ≡ maturitiesText i ms ++ maturityText (getD ms i unused)
+pub more-lines : (kind : Kind) (i : ℕ) (ms : List Maturity) → maturitiesText kind (i + 1) ms ≡ maturitiesText kind i ms ++ maturityText kind (getD ms i unused)
 unfolding maturitiesText
-more-lines i ms = rw (add-one i) refl
+more-lines kind i ms = rw (add-one i) refl
 
-pub lines-done : {a b : List ℕ} {at next : ℕ} (i n : ℕ) (ms : List Maturity) → n ≤ i → i ≤ n → Written a b at next (maturitiesText i ms) → Written a b at next (maturitiesText n ms)
-lines-done i n ms h l w =
+pub lines-done : {a b : List ℕ} {at next : ℕ} (kind : Kind) (i n : ℕ) (ms : List Maturity) → n ≤ i → i ≤ n → Written a b at next (maturitiesText kind i ms) → Written a b at next (maturitiesText kind n ms)
+lines-done kind i n ms h l w =
     let e : n ≡ i = omega arith in
     rw e w
+
+-- the widths of a name: 10 characters of a date, 7 of a month
+pub width-weekly : (kind : Kind) → isWeekly kind ≡ true → nameWidth kind ≡ 10
+unfolding nameWidth
+width-weekly kind e = rw e
+
+pub width-months : (kind : Kind) → isWeekly kind ≡ false → nameWidth kind ≡ 7
+unfolding nameWidth
+width-months kind e = rw e
+
+pub no-width : (kind : Kind) → linesWidth kind 0 ≡ 0
+unfolding linesWidth
+no-width kind = go (isWeekly kind)
+  where
+    go : (w : Bool) → cond w (34 * 0) (31 * 0) ≡ 0
+    go true = refl
+    go false = refl
+
+-- one line more
+pub lines-wider : (kind : Kind) (i : ℕ) → linesWidth kind (i + 1) ≡ linesWidth kind i + (24 + nameWidth kind)
+unfolding linesWidth nameWidth
+lines-wider kind i = go (isWeekly kind)
+  where
+    go : (w : Bool) → cond w (34 * (i + 1)) (31 * (i + 1)) ≡ cond w (34 * i) (31 * i) + (24 + cond w 10 7)
+    go true = omega arith
+    go false = omega arith
+
+pub lines-rise : (kind : Kind) (i n : ℕ) → i ≤ n → linesWidth kind i ≤ linesWidth kind n
+unfolding linesWidth
+lines-rise kind i n h = go (isWeekly kind)
+  where
+    go : (w : Bool) → cond w (34 * i) (31 * i) ≤ cond w (34 * n) (31 * n)
+    go true = omega arith
+    go false = omega arith
+
+-- the lines of every kind's listing
+pub lines-most : (kind : Kind) → linesWidth kind (placesOfKind kind) ≤ 465
+unfolding linesWidth placesOf
+lines-most (Future Of2008) = lit≤ tt
+lines-most (Future Of2005) = lit≤ tt
+lines-most (Option Months12) = lit≤ tt
+lines-most (Option Months24) = lit≤ tt
+lines-most (Option Months60) = lit≤ tt
+lines-most (Option Weeks5) = lit≤ tt

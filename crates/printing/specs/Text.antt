@@ -1,6 +1,6 @@
--- The lines that are printed for an answer (01, March 2008 and its neighbours, 'The program `terms`').
+-- The lines that are printed for an answer (01, March 2008 and its neighbours, 'The program `terms`'; 02, notes 2 and 3).
 -- Assumes nothing.
-use Prim.Native.Nat.{ℕ, zero, suc, _+_, _/_, _%_}
+use Prim.Native.Nat.{ℕ, zero, suc, _+_, _*_, _/_, _%_}
 use mathlib.Core.Bool.{cond}
 use mathlib.Core.List.{List, [], _∷_, _++_}
 use lib.Dec.{ltb}
@@ -8,6 +8,8 @@ use lib.ListN.{getD}
 use Rattle.days.specs.declared.Date.{Date}
 use Rattle.days.specs.Gregorian.{monthYear, monthName}
 use Rattle.days.specs.Dates.{dateCall}
+use Rattle.product.specs.declared.Kind.{Kind}
+use Rattle.product.specs.Fields.{isWeekly}
 use Rattle.listing.specs.declared.Maturity.{Maturity}
 use Rattle.listing.specs.Rules.{unused}
 use Rattle.listing.specs.Months.{placesOfKind}
@@ -53,14 +55,19 @@ dayText d = dateText (dateCall d .value)
 unfoldable pub spaced : ℕ → List ℕ
 spaced n = 32 ∷ decimal n
 
+-- a maturity's name: its month; of a weekly one 'its Friday, by whose date it is named and printed' (02, note 3)
+unfoldable pub nameText : Kind → ℕ → List ℕ
+nameText kind key = cond (isWeekly kind) (dayText key) (monthText key)
+
 -- 'number, month, last trading day for each maturity', the days stepped back 'as a fourth number' (02, note 2), and a line feed, 10
-unfoldable pub maturityText : Maturity → List ℕ
-maturityText m = decimal (m .number) ++ (32 ∷ (monthText (m .key) ++ (32 ∷ (dayText (m .day) ++ (spaced (m .back) ++ (10 ∷ []))))))
+unfoldable pub maturityText : Kind → Maturity → List ℕ
+maturityText kind m =
+    decimal (m .number) ++ (32 ∷ (nameText kind (m .key) ++ (32 ∷ (dayText (m .day) ++ (spaced (m .back) ++ (10 ∷ []))))))
 
 -- the lines of the first n maturities
-unfoldable pub maturitiesText : ℕ → List Maturity → List ℕ
-maturitiesText zero ms = []
-maturitiesText (suc n) ms = maturitiesText n ms ++ maturityText (getD ms n unused)
+unfoldable pub maturitiesText : Kind → ℕ → List Maturity → List ℕ
+maturitiesText kind zero ms = []
+maturitiesText kind (suc n) ms = maturitiesText kind n ms ++ maturityText kind (getD ms n unused)
 
 -- 'the call's letter, the table's date after the call, entered, left, given'
 unfoldable pub headingText : ℕ → ℕ → ℕ → ℕ → ℕ → List ℕ
@@ -71,7 +78,7 @@ headingText letter date entered left given =
 unfoldable pub outcomeText : ℕ → Outcome → List ℕ
 outcomeText letter o =
     headingText letter (o .table .date) (o .entered) (o .left) (o .table .given)
-    ++ maturitiesText (placesOfKind (o .table .product .kind)) (o .table .maturities)
+    ++ maturitiesText (o .table .product .kind) (placesOfKind (o .table .product .kind)) (o .table .maturities)
 
 -- '`NO` and the number'
 unfoldable pub refusalText : ℕ → List ℕ
@@ -80,3 +87,11 @@ refusalText number = (78 ∷ (79 ∷ [])) ++ (spaced number ++ (10 ∷ []))
 -- '`BAD` for another line'
 unfoldable pub badText : List ℕ
 badText = 66 ∷ (65 ∷ (68 ∷ (10 ∷ [])))
+
+-- only the code needs it: how many characters a name has
+unfoldable pub nameWidth : Kind → ℕ
+nameWidth kind = cond (isWeekly kind) 10 7
+
+-- only the code needs it: the most characters that the lines of n maturities have
+unfoldable pub linesWidth : Kind → ℕ → ℕ
+linesWidth kind n = cond (isWeekly kind) (34 * n) (31 * n)

@@ -2,13 +2,14 @@
 use days::Date;
 use days::DateAnswer;
 use listing::Maturity;
+use product::Kind;
 use table::Outcome;
 ghost use mathlib.Core.Path.{_≡_};
 ghost use mathlib.Core.List.{[], _∷_};
 ghost use Prim.Native.Nat.{_+_, _≤_, _<_};
 ghost use lib.ListN.{length};
 ghost use Rattle.days.specs.Dates.{dateCall};
-ghost use Rattle.printing.specs.Text.{lastDigit, inTwoDigits, inFourDigits, decimal, yearMonth, monthText, dayText, spaced, maturityText, maturitiesText, headingText, outcomeText, refusalText, badText};
+ghost use Rattle.printing.specs.Text.{lastDigit, inTwoDigits, inFourDigits, decimal, yearMonth, monthText, dayText, spaced, nameText, maturityText, maturitiesText, nameWidth, linesWidth, headingText, outcomeText, refusalText, badText};
 ghost use Rattle.printing.specs.Buffer.{Written, Printed, roomy};
 
 // One byte.
@@ -120,14 +121,25 @@ fn put_day(out: &mut [u8], at: usize, day: u16) -> usize
     put_two(out, next, date.day)
 }
 
+// The name of a maturity: its month, or the date of its Friday.
+fn put_name(out: &mut [u8], at: usize, kind: Kind, key: u16) -> usize
+    requires { ⌜ at + nameWidth kind ≤ length (now out) ⌝ }
+    ensures { λ r. ⌜ Written (now (out .entry)) (now (out .exit)) at r (nameText kind key) × (r ≤ at + nameWidth kind) ⌝ }
+{
+    if product::is_weekly(kind) {
+        return put_day(out, at, key);
+    }
+    put_month(out, at, key)
+}
+
 // The line of a maturity.
-fn put_maturity(out: &mut [u8], at: usize, m: Maturity) -> usize
-    requires { ⌜ at + 31 ≤ length (now out) ⌝ }
-    ensures { λ r. ⌜ Written (now (out .entry)) (now (out .exit)) at r (maturityText m) × (r ≤ at + 31) ⌝ }
+fn put_maturity(out: &mut [u8], at: usize, kind: Kind, m: Maturity) -> usize
+    requires { ⌜ at + (24 + nameWidth kind) ≤ length (now out) ⌝ }
+    ensures { λ r. ⌜ Written (now (out .entry)) (now (out .exit)) at r (maturityText kind m) × (r ≤ at + (24 + nameWidth kind)) ⌝ }
 {
     let space = put_decimal(out, at, m.number);
-    let month = put(out, space, b' ');
-    let second = put_month(out, month, m.key);
+    let name = put(out, space, b' ');
+    let second = put_name(out, name, kind, m.key);
     let day = put(out, second, b' ');
     let third = put_day(out, day, m.day);
     let end = put_spaced(out, third, m.back);
@@ -135,15 +147,21 @@ fn put_maturity(out: &mut [u8], at: usize, m: Maturity) -> usize
 }
 
 // The lines of the first n maturities.
-fn put_maturities(out: &mut [u8], at: usize, maturities: [Maturity; 15], n: usize) -> usize
-    requires { ⌜ (n ≤ 15) × (at + 465 ≤ length (now out)) ⌝ }
-    ensures { λ r. ⌜ Written (now (out .entry)) (now (out .exit)) at r (maturitiesText n maturities) × (r ≤ at + 465) ⌝ }
+fn put_maturities(
+    out: &mut [u8],
+    at: usize,
+    kind: Kind,
+    maturities: [Maturity; 15],
+    n: usize,
+) -> usize
+    requires { ⌜ (n ≤ 15) × (linesWidth kind n ≤ 465) × (at + 465 ≤ length (now out)) ⌝ }
+    ensures { λ r. ⌜ Written (now (out .entry)) (now (out .exit)) at r (maturitiesText kind n maturities) × (r ≤ at + 465) ⌝ }
 {
     let mut next = at;
     let mut i: usize = 0;
     while i < n {
         let m = maturities[i];
-        next = put_maturity(out, next, m);
+        next = put_maturity(out, next, kind, m);
         i += 1;
     }
     next
@@ -180,9 +198,9 @@ fn put_outcome(out: &mut [u8], at: usize, letter: u8, o: Outcome) -> usize
     let p = t.product;
     let kind = p.kind;
     let maturities = t.maturities;
-    let n = listing::months_listed(kind);
+    let n = listing::places_of_kind(kind);
     let next = put_heading(out, at, letter, t.date, o.entered, o.left, t.given);
-    put_maturities(out, next, maturities, n as usize)
+    put_maturities(out, next, kind, maturities, n as usize)
 }
 
 // The answer to a refused call.

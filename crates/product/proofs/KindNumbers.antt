@@ -8,7 +8,7 @@ use lib.Dec.{eqb}
 use borrow.Author.Tests.{ne-eqb, leb-true, leb-false}
 use Rattle.product.specs.Fields.{kindNumber, kindOf, isFuture, firstDigit, kindRight, fieldsRight, productRight}
 use Rattle.product.specs.declared.Text.the-variants.{Of2008, Of2005}
-use Rattle.product.specs.declared.Term.the-variants.{Months12, Months24, Months60}
+use Rattle.product.specs.declared.Term.the-variants.{Months12, Months24, Months60, Weeks5}
 use Rattle.product.specs.declared.Kind.{Kind}
 use Rattle.product.specs.declared.Kind.the-variants.{Future, Option}
 use Rattle.product.specs.declared.Product.{Product}
@@ -21,6 +21,7 @@ kind-of-number (Future Of2005) = refl
 kind-of-number (Option Months12) = refl
 kind-of-number (Option Months24) = refl
 kind-of-number (Option Months60) = refl
+kind-of-number (Option Weeks5) = refl
 
 -- a number's kind
 pub record KindOf (number : ℕ) : Type 0 where
@@ -31,25 +32,27 @@ pub record KindOf (number : ℕ) : Type 0 where
 numbered : (kind : Kind) → KindOf (kindNumber kind)
 numbered kind = record { kind = kind; found = kind-of-number kind; has-number = refl }
 
--- each number from 0 to 4 has a kind, and no other
+-- each number from 0 to 5 has a kind, and no other
 pub kind-found : (number : ℕ) → kindRight number ≡ true → KindOf number
 kind-found zero right = numbered (Future Of2008)
 kind-found (suc zero) right = numbered (Option Months12)
 kind-found (suc (suc zero)) right = numbered (Option Months24)
 kind-found (suc (suc (suc zero))) right = numbered (Option Months60)
 kind-found (suc (suc (suc (suc zero)))) right = numbered (Future Of2005)
-kind-found (suc (suc (suc (suc (suc n))))) right = absurd (omega (arith, leb-true (suc (suc (suc (suc (suc n))))) 4 right))
+kind-found (suc (suc (suc (suc (suc zero))))) right = numbered (Option Weeks5)
+kind-found (suc (suc (suc (suc (suc (suc n)))))) right = absurd (omega (arith, leb-true (suc (suc (suc (suc (suc (suc n)))))) 5 right))
 
 pub kind-missing : (number : ℕ) → kindRight number ≡ false → kindOf number ≡ NotAKind
 unfolding kindOf
 kind-missing number wrong =
-    let h : 4 < number = leb-false number 4 wrong in
+    let h : 5 < number = leb-false number 5 wrong in
     rw (
       ne-eqb number 0 (λ e. omega arith),
       ne-eqb number 1 (λ e. omega arith),
       ne-eqb number 2 (λ e. omega arith),
       ne-eqb number 3 (λ e. omega arith),
       ne-eqb number 4 (λ e. omega arith),
+      ne-eqb number 5 (λ e. omega arith),
     )
 
 pub number-of-kind : (number : ℕ) (kind : Kind) → kindOf number ≡ Is kind → kindNumber kind ≡ number
@@ -84,3 +87,4 @@ digit-of-kind (Future Of2005) = refl
 digit-of-kind (Option Months12) = refl
 digit-of-kind (Option Months24) = refl
 digit-of-kind (Option Months60) = refl
+digit-of-kind (Option Weeks5) = refl

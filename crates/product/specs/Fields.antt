@@ -1,4 +1,4 @@
--- The kinds, and what question 7 says of each field of a product record (01, Listed months; Master file; Questions, 7; 02, note 1).
+-- The kinds, and what question 7 says of each field of a product record (01, Listed months; Master file; Questions, 7; 02, notes 1 and 3).
 -- Assumes nothing.
 use Prim.Native.Nat.{ℕ}
 use mathlib.Core.Bool.{Bool, true, false, _&&_, _||_, cond}
@@ -9,7 +9,7 @@ use Rattle.questions.specs.Search.{every, oneOf}
 use Rattle.product.specs.declared.Text.{Text}
 use Rattle.product.specs.declared.Text.the-variants.{Of2008, Of2005}
 use Rattle.product.specs.declared.Term.{Term}
-use Rattle.product.specs.declared.Term.the-variants.{Months12, Months24, Months60}
+use Rattle.product.specs.declared.Term.the-variants.{Months12, Months24, Months60, Weeks5}
 use Rattle.product.specs.declared.Kind.{Kind}
 use Rattle.product.specs.declared.Kind.the-variants.{Future, Option}
 use Rattle.product.specs.declared.KindAnswer.{KindAnswer}
@@ -21,30 +21,40 @@ abbrev pub textNumber : Text → ℕ
 textNumber Of2008 = 0
 textNumber Of2005 = 4
 
--- 'an option with one of three terms': '1 option, 12 months', '2 option, 24 months', '3 option, 60 months'
+-- 'an option with one of three terms': '1 option, 12 months', '2 option, 24 months', '3 option, 60 months'; 'a five-week term', 'under kind 5' (02, note 3)
 abbrev pub termNumber : Term → ℕ
 termNumber Months12 = 1
 termNumber Months24 = 2
 termNumber Months60 = 3
+termNumber Weeks5 = 5
 
--- 'A product's kind is either a future or an option with one of three terms': the number of its text or of its term
+-- 'A product's kind is either a future or an option with one of three terms', and since note 3 of document 02 a fourth: the number of its text or of its term
 abbrev pub kindNumber : Kind → ℕ
 kindNumber (Future text) = textNumber text
 kindNumber (Option term) = termNumber term
 
--- the kind with a number, where there is one: '0 future', '1 option, 12 months', '2 option, 24 months', '3 option, 60 months'; 'kind 4, a future of 2005' (02, note 1)
+-- the kind with a number, where there is one: '0 future', '1 option, 12 months', '2 option, 24 months', '3 option, 60 months'; 'kind 4, a future of 2005' (02, note 1); weekly tables 'under kind 5' (02, note 3)
 unfoldable pub kindOf : ℕ → KindAnswer
 kindOf number =
     cond (eqb number 0) (Is (Future Of2008))
     (cond (eqb number 1) (Is (Option Months12))
     (cond (eqb number 2) (Is (Option Months24))
     (cond (eqb number 3) (Is (Option Months60))
-    (cond (eqb number 4) (Is (Future Of2005)) NotAKind))))
+    (cond (eqb number 4) (Is (Future Of2005))
+    (cond (eqb number 5) (Is (Option Weeks5)) NotAKind)))))
 
 -- 21 'Is it a future?'; of either text: 'The due day, cash .. of kind 4 are those of a future' (02, note 1)
 abbrev pub isFuture : Kind → Bool
 isFuture (Future text) = true
 isFuture (Option term) = false
+
+-- 'Weekly tables .. under kind 5' (02, note 3): its maturities are weekly; those of every other kind are months
+abbrev pub isWeekly : Kind → Bool
+isWeekly (Future text) = false
+isWeekly (Option Months12) = false
+isWeekly (Option Months24) = false
+isWeekly (Option Months60) = false
+isWeekly (Option Weeks5) = true
 
 -- 'A–Z', in ASCII
 abbrev pub letter : ℕ → Bool
@@ -71,7 +81,7 @@ idOf id count = every 4 (λ i. idByte (ltb i count) (getD id i 0))
 unfoldable pub idRight : List ℕ → Bool
 idRight id = idOf id 1 || idOf id 2 || idOf id 3 || idOf id 4
 
--- 'the first digit 0 for futures and 1 for options', in ASCII, by the kind's number; 'the .. group digit of kind 4 [is that] of a future' (02, note 1)
+-- 'the first digit 0 for futures and 1 for options', in ASCII, by the kind's number; 'the .. group digit of kind 4 [is that] of a future' (02, note 1), 'kind 5 and the option groups' (02, note 3)
 abbrev pub firstDigit : ℕ → ℕ
 firstDigit kind = cond (eqb kind 0 || eqb kind 4) 48 49
 
@@ -88,9 +98,9 @@ groupRight group kind =
 unfoldable pub marketRight : List ℕ → Bool
 marketRight market = every 4 (λ i. letter (getD market i 0))
 
--- 'kind 0–3'; 'question 7 now admits 4' (02, note 1)
+-- 'kind 0–3'; 'question 7 now admits 4' (02, note 1), 'question 7 now admits 5' (02, note 3)
 abbrev pub kindRight : ℕ → Bool
-kindRight kind = leb kind 4
+kindRight kind = leb kind 5
 
 -- 'contract size in shares, 1–65,535'
 abbrev pub sizeRight : ℕ → Bool

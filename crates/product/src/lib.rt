@@ -2,7 +2,7 @@
 ghost use mathlib.Core.Path.{_≡_};
 ghost use mathlib.Core.List.{[], _∷_};
 ghost use Prim.Native.Nat.{_+_, _*_, _<_};
-ghost use Rattle.product.specs.Fields.{kindNumber, kindOf, isFuture, letter, digit, idCharacter, idByte, idOf, idRight, firstDigit, groupRight, marketRight, kindRight, sizeRight, tickRight, isCode, currencyRight, fieldsRight, productRight};
+ghost use Rattle.product.specs.Fields.{kindNumber, kindOf, isFuture, isWeekly, letter, digit, idCharacter, idByte, idOf, idRight, firstDigit, groupRight, marketRight, kindRight, sizeRight, tickRight, isCode, currencyRight, fieldsRight, productRight};
 ghost use Rattle.product.specs.Settlement.{italian, groupNumber, optionDays, settlementDays};
 ghost use Rattle.product.specs.Prices.{priceRight, multipleOf, finalRight, contractsRight, cashAdmitted, cashOf};
 
@@ -26,6 +26,7 @@ pub enum Term {
     Months12,
     Months24,
     Months60,
+    Weeks5,
 }
 
 // A product's kind.
@@ -64,6 +65,7 @@ pub fn kind_number(kind: Kind) -> u8
             Term::Months12 => 1,
             Term::Months24 => 2,
             Term::Months60 => 3,
+            Term::Weeks5 => 5,
         },
     }
 }
@@ -78,6 +80,7 @@ pub fn kind_of(number: u8) -> KindAnswer
         2 => KindAnswer::Is(Kind::Option(Term::Months24)),
         3 => KindAnswer::Is(Kind::Option(Term::Months60)),
         4 => KindAnswer::Is(Kind::Future(Text::Of2005)),
+        5 => KindAnswer::Is(Kind::Option(Term::Weeks5)),
         _ => KindAnswer::NotAKind,
     }
 }
@@ -89,6 +92,21 @@ pub fn is_future(kind: Kind) -> bool
     match kind {
         Kind::Future(_) => true,
         Kind::Option(_) => false,
+    }
+}
+
+// 02, note 3: whether a kind's maturities are weekly.
+pub fn is_weekly(kind: Kind) -> bool
+    ensures { λ r. ⌜ r ≡ isWeekly kind ⌝ }
+{
+    match kind {
+        Kind::Future(_) => false,
+        Kind::Option(term) => match term {
+            Term::Months12 => false,
+            Term::Months24 => false,
+            Term::Months60 => false,
+            Term::Weeks5 => true,
+        },
     }
 }
 
@@ -177,7 +195,7 @@ pub fn market_right(market: [u8; 4]) -> bool
 pub fn kind_right(kind: u8) -> bool
     ensures { λ r. ⌜ r ≡ kindRight kind ⌝ }
 {
-    kind <= 4
+    kind <= 5
 }
 
 // Question 7, the contract size.

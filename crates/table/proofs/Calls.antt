@@ -14,10 +14,10 @@ use Rattle.questions.proofs.Bools.{both}
 use Rattle.calendar.specs.declared.Calendar.{Calendar}
 use Rattle.calendar.specs.Trading.{validCover, clean, everyWeek, inCover, tradingDay, closeDay}
 use Rattle.product.specs.Fields.{productRight}
-use Rattle.listing.specs.Rules.{complete, monthsBefore}
+use Rattle.listing.specs.Rules.{complete, keysBefore}
 use Rattle.listing.specs.declared.Listing.{Listing}
-use Rattle.listing.specs.Months.{placesOfKind, ruleOf, listingOf, allInCover}
-use Rattle.listing.proofs.Front.{before-most}
+use Rattle.listing.specs.Months.{placesOfKind, ruleOf, listingOf, allInCover, weekIntoCover}
+use Rattle.listing.proofs.OfKinds.{rule-before}
 use Rattle.listing.proofs.Fresh.{places-most, complete-is, places-is, fresh-listed}
 use Rattle.table.specs.declared.Table.{Table}
 use Rattle.table.specs.declared.Outcome.{Outcome}
@@ -45,11 +45,12 @@ pub record Sound (t : Table) : Type 0 where
   pub clean-days : clean (t .calendar) ≡ true
   pub weeks : everyWeek (t .calendar) ≡ true
   pub dated : inCover (t .calendar .cover) (t .date) ≡ true
+  pub week : weekIntoCover (t .product .kind) (t .calendar .cover) (t .date) ≡ true
   pub whole : allInCover (t .calendar) (t .product .kind) (t .product .group) (t .date) ≡ true
   pub listed : listsFresh t ≡ true
   pub numbers : numbersRight (t .maturities) (placesOfKind (t .product .kind)) (t .given) ≡ true
   pub least : placesOfKind (t .product .kind) ≤ t .given
-  pub most : t .given - placesOfKind (t .product .kind) ≤ monthsBefore (ruleOf (t .calendar) (t .product .kind) (t .product .group)) (t .calendar) (t .date)
+  pub most : t .given - placesOfKind (t .product .kind) ≤ keysBefore (ruleOf (t .calendar) (t .product .kind) (t .product .group)) (t .calendar) (t .date)
 
 pub sound-parts : (t : Table) → sound t ≡ true → Sound t
 unfolding sound
@@ -58,8 +59,9 @@ sound-parts t e =
     let e2 = both (validCover (t .calendar .cover)) after2 (e1 .1) in
     let e3 = both (clean (t .calendar)) after3 (e2 .1) in
     let e4 = both (everyWeek (t .calendar)) after4 (e3 .1) in
-    let e5 = both (inCover (t .calendar .cover) (t .date)) (listingSound t) (e4 .1) in
-    let e6 = both (allInCover (t .calendar) (t .product .kind) (t .product .group) (t .date)) after6 (e5 .1) in
+    let e5 = both (inCover (t .calendar .cover) (t .date)) after5 (e4 .1) in
+    let w = both (weekIntoCover (t .product .kind) (t .calendar .cover) (t .date)) (listingSound t) (e5 .1) in
+    let e6 = both (allInCover (t .calendar) (t .product .kind) (t .product .group) (t .date)) after6 (w .1) in
     let e7 = both (listsFresh t) after7 (e6 .1) in
     let e8 = both (numbersRight (t .maturities) (placesOfKind (t .product .kind)) (t .given)) after8 (e7 .1) in
     let e9 = both (leb (placesOfKind (t .product .kind)) (t .given)) within (e8 .1) in
@@ -69,6 +71,7 @@ sound-parts t e =
       clean-days = e3 .0;
       weeks = e4 .0;
       dated = e5 .0;
+      week = w .0;
       whole = e6 .0;
       listed = e7 .0;
       numbers = e8 .0;
@@ -77,7 +80,7 @@ sound-parts t e =
     }
   where
     within : Bool
-    within = leb (t .given - placesOfKind (t .product .kind)) (monthsBefore (ruleOf (t .calendar) (t .product .kind) (t .product .group)) (t .calendar) (t .date))
+    within = leb (t .given - placesOfKind (t .product .kind)) (keysBefore (ruleOf (t .calendar) (t .product .kind) (t .product .group)) (t .calendar) (t .date))
 
     after8 : Bool
     after8 = leb (placesOfKind (t .product .kind)) (t .given) && within
@@ -88,8 +91,11 @@ sound-parts t e =
     after6 : Bool
     after6 = listsFresh t && after7
 
+    after5 : Bool
+    after5 = weekIntoCover (t .product .kind) (t .calendar .cover) (t .date) && listingSound t
+
     after4 : Bool
-    after4 = inCover (t .calendar .cover) (t .date) && listingSound t
+    after4 = inCover (t .calendar .cover) (t .date) && after5
 
     after3 : Bool
     after3 = everyWeek (t .calendar) && after4
@@ -104,7 +110,7 @@ sound-parts t e =
 pub given-most : (t : Table) → sound t ≡ true → t .given ≤ 60000
 given-most t e =
     let s = sound-parts t e in
-    omega (arith, s .most, before-most (t .calendar) (t .product .kind) (t .product .group) (t .date), places-most (t .product .kind))
+    omega (arith, s .most, rule-before (t .calendar .cover) (t .product .kind) (t .product .group) (t .calendar) (t .date), places-most (t .product .kind))
 
 -- roll, by its first question answered no
 module _ (t : Table) (date : ℕ) where
@@ -197,6 +203,6 @@ module _ (t : Table) where
       pub listing-few : t .given < n → listingSound t ≡ false
       listing-few l = rw (w, a, b, lt-leb (placesOfKind (t .product .kind)) (t .given) (omega (arith, q)))
 
-      pub listing-rest : (m : ℕ) → n ≤ t .given → m ≡ monthsBefore (ruleOf (t .calendar) (t .product .kind) (t .product .group)) (t .calendar) (t .date) → leb (t .given - n) m ≡ listingSound t
+      pub listing-rest : (m : ℕ) → n ≤ t .given → m ≡ keysBefore (ruleOf (t .calendar) (t .product .kind) (t .product .group)) (t .calendar) (t .date) → leb (t .given - n) m ≡ listingSound t
       listing-rest m l k =
           sym (rw (w, a, b, le-leb (placesOfKind (t .product .kind)) (t .given) (omega (arith, q))) (rw (← k, ← q)))

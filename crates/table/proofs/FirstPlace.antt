@@ -10,15 +10,14 @@ use lib.ListN.{length, getD, replicate, length-map, List·getD-append}
 use borrow.Author.Tests.{eqb-true}
 use Rattle.questions.proofs.Bools.{both}
 use Rattle.questions.proofs.Search.{every-at}
-use Rattle.days.specs.Dates.{monthOf}
 use Rattle.calendar.specs.Trading.{coverStart}
 use Rattle.listing.specs.declared.Maturity.{Maturity}
-use Rattle.listing.specs.Rules.{Rule, front, monthsBefore, freshKeys, complete, maturity, unused, places15}
-use Rattle.listing.specs.Months.{placesOfKind, monthly, ruleOf, freshOf, allInCover}
-use Rattle.listing.proofs.Front.{before-is}
+use Rattle.expiry.specs.LastDays.{keyOf}
+use Rattle.listing.specs.Rules.{Rule, front, countFrom, keysBefore, freshKeys, complete, maturity, unused, places15}
+use Rattle.listing.specs.Months.{placesOfKind, countedFor, coverRule, ruleOf, freshOf, allInCover}
 use Rattle.listing.proofs.Fresh.{places-least}
 use Rattle.listing.proofs.Lawful.{fresh-first}
-use Rattle.listing.proofs.Monthly.{monthly-lawful}
+use Rattle.listing.proofs.OfKinds.{rule-lawful}
 use Rattle.places.specs.Numbering.{sameMaturity, placeRight}
 use Rattle.table.specs.declared.Table.{Table}
 use Rattle.table.specs.Table.{listsFresh}
@@ -26,7 +25,7 @@ use Rattle.table.specs.Table.{listsFresh}
 -- the first place of a listing that is the fresh one holds the front
 pub first-front : (t : Table) → allInCover (t .calendar) (t .product .kind) (t .product .group) (t .date) ≡ true → listsFresh t ≡ true
     → getD (t .maturities) 0 unused .key ≡ front (ruleOf (t .calendar) (t .product .kind) (t .product .group)) (t .calendar) (t .date)
-unfolding listsFresh complete monthly places15
+unfolding listsFresh complete coverRule places15
 first-front t w a =
     let same = both (sameMaturity m (getD (places15 fresh) 0 unused)) (ltb 0 (placesOfKind (t .product .kind)) || eqb (m .number) 0) (every-at (placeRight (t .maturities) (places15 fresh) (placesOfKind (t .product .kind))) 15 0 a (omega arith)) .0 in
     let same-key : m .key ≡ getD (places15 fresh) 0 unused .key = eqb-true (m .key) (getD (places15 fresh) 0 unused .key) (both (eqb (m .key) (getD (places15 fresh) 0 unused .key)) _ same .0) in
@@ -34,7 +33,7 @@ first-front t w a =
     let some : 1 ≤ length (freshKeys r (t .calendar) (t .date)) = omega (arith, long, places-least (t .product .kind)) in
     same-key
     ∙ ap (λ (x : Maturity). x .key) (List·getD-append fresh (replicate (15 - length fresh) unused) unused 0 (omega (arith, some, length-map (freshKeys r (t .calendar) (t .date)) (maturity r (t .calendar) (λ k. 0)))))
-    ∙ head (freshKeys r (t .calendar) (t .date)) some ∙ fresh-first r (monthly-lawful (t .calendar .cover) (t .product .kind) (t .product .group)) (t .calendar) (t .date) some
+    ∙ head (freshKeys r (t .calendar) (t .date)) some ∙ fresh-first r (rule-lawful (t .calendar .cover) (t .product .kind) (t .product .group)) (t .calendar) (t .date) some
   where
     r : Rule
     r = ruleOf (t .calendar) (t .product .kind) (t .product .group)
@@ -49,9 +48,10 @@ first-front t w a =
     head [] h = absurd (omega arith)
     head (k ∷ ks) h = refl
 
--- so the cover months before it are those before the front
-pub months-there : (t : Table) → allInCover (t .calendar) (t .product .kind) (t .product .group) (t .date) ≡ true → listsFresh t ≡ true
-    → (m : ℕ) → m ≡ getD (t .maturities) 0 unused .key - monthOf (coverStart (t .calendar .cover))
-    → m ≡ monthsBefore (ruleOf (t .calendar) (t .product .kind) (t .product .group)) (t .calendar) (t .date)
-months-there t w a m e =
-    e ∙ ap (λ (x : ℕ). x - monthOf (coverStart (t .calendar .cover))) (first-front t w a) ∙ sym (before-is (t .calendar) (t .product .kind) (t .product .group) (t .date))
+-- so the keys of the cover before it are those before the front
+pub keys-there : (t : Table) → allInCover (t .calendar) (t .product .kind) (t .product .group) (t .date) ≡ true → listsFresh t ≡ true
+    → (m : ℕ) → m ≡ countFrom (countedFor (t .product .kind)) (getD (t .maturities) 0 unused .key - keyOf (t .product .kind) (coverStart (t .calendar .cover))) (keyOf (t .product .kind) (coverStart (t .calendar .cover)))
+    → m ≡ keysBefore (ruleOf (t .calendar) (t .product .kind) (t .product .group)) (t .calendar) (t .date)
+unfolding keysBefore coverRule
+keys-there t w a m e =
+    e ∙ ap (λ (x : ℕ). countFrom (countedFor (t .product .kind)) (x - keyOf (t .product .kind) (coverStart (t .calendar .cover))) (keyOf (t .product .kind) (coverStart (t .calendar .cover)))) (first-front t w a)

@@ -1,4 +1,4 @@
--- A roll whose front month stays keeps its listing.
+-- A roll whose front stays keeps its listing.
 -- Assumes nothing.
 use mathlib.Core.Path.{_≡_, refl, _∙_, sym, ap, ap₂}
 use mathlib.Core.Bool.{Bool, true, false, _&&_, _||_, cond}
@@ -18,7 +18,7 @@ use Rattle.calendar.specs.declared.Calendar.{Calendar}
 use Rattle.product.specs.declared.Kind.{Kind}
 use Rattle.listing.specs.declared.Maturity.{Maturity}
 use Rattle.listing.specs.Rules.{Rule, front, nextOf, taken, freshKeys, complete, maturity, unused, places15}
-use Rattle.listing.specs.Months.{placesOfKind, monthly, ruleOf, freshOf, allInCover}
+use Rattle.listing.specs.Months.{placesOfKind, coverRule, ruleOf, freshOf, allInCover}
 use Rattle.listing.proofs.Fresh.{places-most, fresh-listed}
 use Rattle.places.specs.Numbering.{isListed, numberOf, missing, withNumber, renumbered, placeRight}
 use Rattle.places.proofs.Unique.{same-maturity}
@@ -122,7 +122,7 @@ module _ (t : Table) (s : sound t ≡ true) (len : length (t .maturities) ≡ 15
   fresh = freshOf (t .calendar) (t .product .kind) (t .product .group) (t .date)
 
   fresh-long : length fresh ≡ n
-  unfolding complete monthly
+  unfolding complete coverRule
   fresh-long = length-map (freshKeys (ruleOf (t .calendar) (t .product .kind) (t .product .group)) (t .calendar) (t .date)) _ ∙ eqb-true _ _ (sound-parts t s .whole)
 
   old-long : length (listedIn t) ≡ n

@@ -1,4 +1,4 @@
--- The table, its soundness, and the calls that open it, roll it and close a day (01, The table; Questions, in order).
+-- The table, its soundness, and the calls that open it, roll it and close a day (01, The table; Questions, in order; 02, notes 2 and 3).
 -- Assumes nothing.
 use Prim.Native.Nat.{ℕ, zero, _+_, _-_}
 use mathlib.Core.Bool.{Bool, _&&_, cond}
@@ -12,8 +12,8 @@ use Rattle.calendar.specs.Trading.{validCover, inCover, tradingDay, clean, ever
 use Rattle.product.specs.declared.Product.{Product}
 use Rattle.product.specs.Fields.{productRight}
 use Rattle.listing.specs.declared.Maturity.{Maturity}
-use Rattle.listing.specs.Rules.{monthsBefore, unused, places15}
-use Rattle.listing.specs.Months.{placesOfKind, ruleOf, freshOf, allInCover}
+use Rattle.listing.specs.Rules.{keysBefore, unused, places15}
+use Rattle.listing.specs.Months.{placesOfKind, ruleOf, freshOf, allInCover, weekIntoCover}
 use Rattle.years.specs.Calendars.{calendarOf}
 use Rattle.master.specs.Load.{productOf}
 use Rattle.opening.specs.Opening.{zeroProduct, zeroCalendar, openAsks}
@@ -39,9 +39,9 @@ listingSound t =
     && (listsFresh t
     -- 'its numbers are distinct, from 1 to the count given'
     && (numbersRight (t .maturities) (placesOfKind (t .product .kind)) (t .given)
-    -- 'given − listed is at least 0 and at most the number of cover months before the front month'
+    -- 'given − listed is at least 0 and at most the number of cover months before the front month'; 'the cover's weekly Fridays before the front one take the place of cover months' (02, note 3)
     && (leb (placesOfKind (t .product .kind)) (t .given)
-    && leb (t .given - placesOfKind (t .product .kind)) (monthsBefore (ruleOf (t .calendar) (t .product .kind) (t .product .group)) (t .calendar) (t .date)))))
+    && leb (t .given - placesOfKind (t .product .kind)) (keysBefore (ruleOf (t .calendar) (t .product .kind) (t .product .group)) (t .calendar) (t .date)))))
 
 -- 10: 'Is the table sound?'
 unfoldable pub sound : Table → Bool
@@ -52,7 +52,9 @@ sound t =
     && (clean (t .calendar)
     && (everyWeek (t .calendar)
     -- 'its date is in the cover'
-    && (inCover (t .calendar .cover) (t .date) && listingSound t))))
+    && (inCover (t .calendar .cover) (t .date)
+    -- 'and the date passes 24' (02, note 3)
+    && (weekIntoCover (t .product .kind) (t .calendar .cover) (t .date) && listingSound t)))))
 
 -- what an accepted roll or close gives back, for a fresh listing: 'Both then hold the fresh listing; a month that was there keeps its number, and months that enter take the next numbers by rising month. A month left if the old table had it and the new has not'
 abbrev pub movedTo : Table → Calendar → ℕ → List Maturity → Outcome

@@ -12,7 +12,7 @@ ghost use Rattle.listing.specs.Rules.{front, unused};
 ghost use Rattle.listing.specs.Months.{placesOfKind, ruleOf, allInCover};
 ghost use Rattle.table.specs.Table.{listedIn, listsFresh, listingSound, sound, movedTo, moved, keptOn, refusedWith, zeroTable, openedWith, openCall, rollCall, closeCall};
 
-// A product, its calendar, a date, up to 15 maturities by rising month, and the count of numbers given.
+// A product, its calendar, a date, up to 15 maturities by rising key, and the count of numbers given.
 pub struct Table {
     pub product: Product,
     pub calendar: Calendar,
@@ -58,12 +58,12 @@ fn is_listing_sound(t: Table) -> bool
     if !places::are_numbers_right(maturities, kind, t.given) {
         return false;
     }
-    let n = listing::months_listed(kind);
+    let n = listing::places_of_kind(kind);
     if t.given < n {
         return false;
     }
     let first = maturities[0];
-    t.given - n <= listing::months_before(t.calendar.cover, first.key)
+    t.given - n <= listing::keys_before(kind, t.calendar.cover, first.key)
 }
 
 // Question 10.
@@ -85,10 +85,15 @@ pub fn is_sound(t: Table) -> bool
     if !calendar::in_cover(t.calendar.cover, t.date) {
         return false;
     }
+    let p = t.product;
+    let kind = p.kind;
+    if !listing::is_week_into_cover(kind, t.calendar.cover, t.date) {
+        return false;
+    }
     is_listing_sound(t)
 }
 
-// Whether a month is listed in the places that are used.
+// Whether a key is listed in the places that are used.
 pub fn is_listed(t: Table, key: u16) -> bool
     ensures { λ r. ⌜ r ≡ isListed (listedIn t) key ⌝ }
 {
@@ -137,7 +142,7 @@ fn opened_with(product: Product, calendar: Calendar, date: u16, fresh: [Maturity
     ensures { λ r. ⌜ r ≡ openedWith product calendar date (take (placesOfKind (product .kind)) fresh) ⌝ }
 {
     let kind = product.kind;
-    let n = listing::months_listed(kind);
+    let n = listing::places_of_kind(kind);
     let maturities = places::number_opened(fresh, kind);
     let table = Table {
         product,
@@ -196,7 +201,7 @@ fn relisted(t: Table, cal: Calendar, date: u16) -> Outcome
     moved_to(t, cal, date, fresh)
 }
 
-// Whether the front month on a date is the month in the first place, which is the front of a sound table.
+// Whether the front on a date is the key in the first place, which is the front of a sound table.
 fn front_stays(t: Table, date: u16) -> bool
     ensures { λ r. ⌜ r ≡ eqb (getD (t .maturities) 0 unused .key) (front (ruleOf (t .calendar) (t .product .kind) (t .product .group)) (t .calendar) date) ⌝ }
 {
@@ -205,7 +210,7 @@ fn front_stays(t: Table, date: u16) -> bool
     let group = p.group;
     let maturities = t.maturities;
     let first = maturities[0];
-    first.key == listing::front_month(t.calendar, kind, group, date)
+    first.key == listing::front_key(t.calendar, kind, group, date)
 }
 
 // The same table on another date: no month entered or left.

@@ -32,7 +32,7 @@ const CLOSED: u8 = 9;
 
 const DATE: u8 = 10;
 
-const MONTH: u8 = 11;
+const KEY: u8 = 11;
 
 const DAY: u8 = 12;
 
@@ -181,33 +181,33 @@ fn damage_calendar(cal: Calendar, field: u8, i: u16, value: u16) -> Calendar {
     }
 }
 
-// A maturity with its month, day, days stepped back or number changed.
+// A maturity with its key, day, days stepped back or number changed.
 fn damage_maturity(m: Maturity, field: u8, value: u16) -> Maturity {
-    let month = m.key;
+    let key = m.key;
     let day = m.day;
     let back = m.back;
     let number = m.number;
     match field {
-        MONTH => Maturity {
+        KEY => Maturity {
             key: value,
             day,
             back,
             number,
         },
         DAY => Maturity {
-            month,
+            key,
             day: value,
             back,
             number,
         },
         BACK => Maturity {
-            month,
+            key,
             day,
             back: value,
             number,
         },
         NUMBER => Maturity {
-            month,
+            key,
             day,
             back,
             number: value,

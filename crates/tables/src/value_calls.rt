@@ -16,8 +16,8 @@ const TICK: u8 = b'T';
 
 const CASH: u8 = b'Q';
 
-fn last_trading_day(t: Table, month: u16) {
-    let r = values::last_trading_day(t, month);
+fn last_trading_day(t: Table, key: u16) {
+    let r = values::last_trading_day(t, key);
     start_line(b'L');
     put(r.refusal as u16);
     put(r.day);

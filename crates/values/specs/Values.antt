@@ -1,4 +1,4 @@
--- Calls that return days and leave the table as it is (01, Due day, tick, cash; Questions, in order; 02, note 4).
+-- Calls that return days and leave the table as it is (01, Due day, tick, cash; Questions, in order; 02, notes 2 to 4).
 -- Assumes nothing.
 use Prim.Native.Nat.{ℕ}
 use mathlib.Core.List.{List, [], _∷_}
@@ -29,13 +29,13 @@ lastDayReply r = record { refusal = r .refusal; value = record { day = r .day; b
 abbrev pub noLastDay : ℕ → Answer LastDay
 noLastDay number = record { refusal = number; value = record { day = 0; back = 0 } }
 
--- 'Last trading day of a listed month: 10, 18'
+-- 'Last trading day of a listed month: 10, 18'; 18 reads 'with Fridays' on weekly tables (02, note 3): the key is a month's number, on a weekly table the day number of a Friday
 abbrev pub lastDayAsks : Table → ℕ → List Ask
 lastDayAsks t key = ask 10 (sound t) ∷ ask 18 (isListed (listedIn t) key) ∷ []
 
 -- 'Last trading day of a listed month', with the days stepped back (02, note 2); 'With it: .. other calls return zero values'
 unfoldable pub lastDayCall : Table → ℕ → Answer LastDay
-lastDayCall t key = answer (lastDayAsks t key) (record { day = 0; back = 0 }) (workedOut (t .calendar) (t .product .group) key)
+lastDayCall t key = answer (lastDayAsks t key) (record { day = 0; back = 0 }) (workedOut (t .calendar) (t .product .kind) (t .product .group) key)
 
 -- 'Due day: the n-th trading day after a given trading day'; 'Due days count trading days and these days' (02, note 4)
 unfoldable pub dueDay : Table → ℕ → ℕ

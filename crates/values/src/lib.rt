@@ -36,7 +36,7 @@ fn no_last_day(number: u8) -> LastDayReply
     }
 }
 
-// The last trading day of a listed month, with the days stepped back.
+// The last trading day of a listed maturity, by its key, with the days stepped back.
 pub fn last_trading_day(t: Table, key: u16) -> LastDayReply
     ensures { λ r. ⌜ lastDayReply r ≡ lastDayCall t key ⌝ }
 {
@@ -47,8 +47,9 @@ pub fn last_trading_day(t: Table, key: u16) -> LastDayReply
         return no_last_day(18);
     }
     let p = t.product;
+    let kind = p.kind;
     let group = p.group;
-    let last = expiry::last_trading_day(t.calendar, group, key);
+    let last = expiry::last_trading_day(t.calendar, kind, group, key);
     LastDayReply {
         refusal: 0,
         day: last.day,

@@ -1,30 +1,29 @@
-use Rattle.listing.proofs.Front.{found, front-is}
 use Rattle.listing.proofs.Fresh.{matOf, listing-is}
-use Rattle.listing.specs.Months.{setAt}
+use Rattle.listing.specs.Months.{setAt, ruleOf}
 use Rattle.listing.proofs.Taking.{rest, Walking, starts, enters, finishes, leaves, has-room, takes, stops, kind-below}
 use Rattle.calendar.specs.Trading.{calendarWith}
-use Rattle.listing.specs.Rules.{taken, complete}
+use Rattle.listing.specs.Rules.{front, taken, complete}
 use lib.ListN.{replicate}
 use mathlib.Core.List.{_++_}
 use Prim.Native.Nat.{_+_, _-_, _≤_}
 use native.Mathlib.Omega.{arith}
-use mathlib.Core.Path.{_∙_, sym}
+use mathlib.Core.Path.{refl, _∙_}
 use Rattle.listing.proofs.list_in.Statement.{statement}
 use Rattle.listing.proofs.list_in.Tie as tie
 
 abbrev Inv-loop : tie.InvT-loop
-Inv-loop cover closed group date row end maturities₀ listed₀ from₀ complete₀ step count j₀ maturities listed from complete j =
-    Walking (matOf (calendarWith cover closed) group) end row (found (calendarWith cover closed) row group date) maturities listed from complete (replicate (count - j) (setAt row step) ++ rest row (step + 1)) × (count ≤ 255)
+Inv-loop cover closed kind group date row end maturities₀ listed₀ from₀ complete₀ step count j₀ maturities listed from complete j =
+    Walking (matOf (calendarWith cover closed) kind group) end row (front (ruleOf (calendarWith cover closed) kind group) (calendarWith cover closed) date) maturities listed from complete (replicate (count - j) (setAt row step) ++ rest row (step + 1)) × (count ≤ 255)
 
 abbrev μ-loop : tie.MeasureT-loop
-μ-loop cover closed group date row end maturities₀ listed₀ from₀ complete₀ step count j₀ maturities listed from complete j = count - j
+μ-loop cover closed kind group date row end maturities₀ listed₀ from₀ complete₀ step count j₀ maturities listed from complete j = count - j
 
 abbrev Inv-steps : tie.InvT-steps
-Inv-steps cover closed group date row end maturities₀ listed₀ from₀ complete₀ step₀ maturities listed from complete step =
-    Walking (matOf (calendarWith cover closed) group) end row (found (calendarWith cover closed) row group date) maturities listed from complete (rest row step)
+Inv-steps cover closed kind group date row end maturities₀ listed₀ from₀ complete₀ step₀ maturities listed from complete step =
+    Walking (matOf (calendarWith cover closed) kind group) end row (front (ruleOf (calendarWith cover closed) kind group) (calendarWith cover closed) date) maturities listed from complete (rest row step)
 
 abbrev μ-steps : tie.MeasureT-steps
-μ-steps cover closed group date row end maturities₀ listed₀ from₀ complete₀ step₀ maturities listed from complete step = 4 - step
+μ-steps cover closed kind group date row end maturities₀ listed₀ from₀ complete₀ step₀ maturities listed from complete step = 4 - step
 
 kind-number-requires : tie.Need-kind-number-requires Inv-loop μ-loop Inv-steps μ-steps
 kind-number-requires c κs = tt
@@ -32,17 +31,17 @@ kind-number-requires c κs = tt
 cast-row : tie.Need-cast-row Inv-loop μ-loop Inv-steps μ-steps
 cast-row c = omega (arith, c .kind-number .ensures, kind-below (c .before .before .args .kind))
 
-end-month-requires : tie.Need-end-month-requires Inv-loop μ-loop Inv-steps μ-steps
-end-month-requires c κs = tt
+end-key-requires : tie.Need-end-key-requires Inv-loop μ-loop Inv-steps μ-steps
+end-key-requires c κs = tt
 
-front-month-in-requires : tie.Need-front-month-in-requires Inv-loop μ-loop Inv-steps μ-steps
-front-month-in-requires c κs = tt
+front-key-in-requires : tie.Need-front-key-in-requires Inv-loop μ-loop Inv-steps μ-steps
+front-key-in-requires c κs = tt
 
 steps-holds : tie.Need-steps-holds Inv-loop μ-loop Inv-steps μ-steps
 steps-holds c =
     let start = c .before .before .before .before in
-    rw (c .front-month-in .ensures .0, front-is _ (start .args .kind) _ _ _ (c .before .before .kind-number .ensures))
-    (starts _ _ (start .args .kind) _ _ (c .before .before .kind-number .ensures) (c .before .end-month .ensures .1))
+    rw (c .front-key-in .ensures)
+    (starts _ _ (start .args .kind) _ _ (c .before .before .kind-number .ensures) (c .before .end-key .ensures .1))
 
 mul-count : tie.Need-mul-count Inv-loop μ-loop Inv-steps μ-steps
 mul-count c = omega arith
@@ -96,20 +95,20 @@ steps-again c = leaves _ _ _ _ (c .before .loop .inv .0) (c .loop-test .left)
 
 returns : tie.Need-returns Inv-loop μ-loop Inv-steps μ-steps
 returns c =
-    let at-end-month = c .before .before .before in
-    let at-kind-number = at-end-month .before in
+    let at-end-key = c .before .before .before in
+    let at-kind-number = at-end-key .before in
     let start = at-kind-number .before .before in
     finishes (c .before .steps .step) (c .steps-test .left) (c .before .steps .inv) ∙
-    listing-is _ (start .args .kind) _ (start .args .date) _ _ _ (at-kind-number .kind-number .ensures) (at-end-month .end-month .ensures .0) (sym (front-is _ (start .args .kind) _ _ _ (at-kind-number .kind-number .ensures)))
+    listing-is _ (start .args .kind) _ (start .args .date) _ _ _ (at-kind-number .kind-number .ensures) (at-end-key .end-key .ensures .0) refl
 
 returns-2 : tie.Need-returns-2 Inv-loop μ-loop Inv-steps μ-steps
 returns-2 c =
     let at-loop = c .before .before .before in
-    let at-end-month = at-loop .before .before .before .before .before in
-    let at-kind-number = at-end-month .before in
+    let at-end-key = at-loop .before .before .before .before .before in
+    let at-kind-number = at-end-key .before in
     let start = at-kind-number .before .before in
     stops _ _ _ _ (at-loop .loop .inv .0) (c .before .next-in-set .result) (c .before .before .loop-test .taken) (c .before .next-in-set .ensures) (c .if1 .taken) ∙
-    listing-is _ (start .args .kind) _ (start .args .date) _ _ _ (at-kind-number .kind-number .ensures) (at-end-month .end-month .ensures .0) (sym (front-is _ (start .args .kind) _ _ _ (at-kind-number .kind-number .ensures)))
+    listing-is _ (start .args .kind) _ (start .args .date) _ _ _ (at-kind-number .kind-number .ensures) (at-end-key .end-key .ensures .0) refl
 
 pub list-in-spec : {M : Type 1} → statement M
 list-in-spec =
@@ -121,8 +120,8 @@ list-in-spec =
     μ-steps
     kind-number-requires
     cast-row
-    end-month-requires
-    front-month-in-requires
+    end-key-requires
+    front-key-in-requires
     steps-holds
     mul-count
     index-1-count

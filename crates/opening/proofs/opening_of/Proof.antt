@@ -1,4 +1,4 @@
-use Rattle.opening.proofs.Opened.{load-is, find-there, find-product, find-none, open-refused, open-9, open-11, open-16, open-yes}
+use Rattle.opening.proofs.Opened.{load-is, find-there, find-product, find-none, open-refused, open-9, open-11, open-24, open-16, open-yes}
 use Rattle.listing.proofs.Fresh.{complete-is}
 use Rattle.questions.proofs.Bools.{said-no, said-yes}
 use mathlib.Core.Path.{refl, _∙_, sym}
@@ -60,16 +60,16 @@ returns-3 c =
 product-at-requires : tie.Need-product-at-requires
 product-at-requires c κs = tt
 
-list-requires : tie.Need-list-requires
-list-requires c κs = tt
+is-week-into-cover-requires : tie.Need-is-week-into-cover-requires
+is-week-into-cover-requires c κs = tt
 
 refused-opening-requires-4 : tie.Need-refused-opening-requires-4
 refused-opening-requires-4 c κs = tt
 
 returns-4 : tie.Need-returns-4
 returns-4 c =
-    let at-list = c .before .before .before in
-    let at-product-at = at-list .before .before in
+    let at-week = c .before .before in
+    let at-product-at = at-week .before .before in
     let at-if2 = at-product-at .before in
     let at-in-cover = at-if2 .before in
     let at-calendar-of = at-in-cover .before in
@@ -82,14 +82,22 @@ returns-4 c =
     let there = find-there _ _ _ _ at in
     let cal = at-calendar-of .calendar-of .ensures in
     let p = at-product-at .product-at .ensures ∙ find-product _ _ _ _ at in
-    let l = rw (p, cal) at (at-list .list .ensures) in
+    let week = said-no (at-week .is-week-into-cover .ensures) (c .before .if3 .taken) in
     rw (c .refused-opening4 .ensures)
-    (sym (open-16 _ _ _ (sym (load-is _ _ (at-load .load .ensures)) ∙ at-if1 .if1 .left) there (rw cal at yes-in-cover) (said-no (complete-is _ _ _ _ _ l) (c .before .if3 .taken))))
+    (sym (open-24 _ _ _ (sym (load-is _ _ (at-load .load .ensures)) ∙ at-if1 .if1 .left) there (rw cal at yes-in-cover) (rw (p, cal) at week)))
+
+list-requires : tie.Need-list-requires
+list-requires c κs = tt
+
+refused-opening-requires-5 : tie.Need-refused-opening-requires-5
+refused-opening-requires-5 c κs = tt
 
 returns-5 : tie.Need-returns-5
 returns-5 c =
     let at-list = c .before .before .before in
-    let at-product-at = at-list .before .before in
+    let at-if3 = at-list .before in
+    let at-week = at-if3 .before in
+    let at-product-at = at-week .before .before in
     let at-if2 = at-product-at .before in
     let at-in-cover = at-if2 .before in
     let at-calendar-of = at-in-cover .before in
@@ -103,8 +111,32 @@ returns-5 c =
     let cal = at-calendar-of .calendar-of .ensures in
     let p = at-product-at .product-at .ensures ∙ find-product _ _ _ _ at in
     let l = rw (p, cal) at (at-list .list .ensures) in
+    let week = rw (p, cal) at (said-yes (at-week .is-week-into-cover .ensures) (at-if3 .if3 .left)) in
+    rw (c .refused-opening5 .ensures)
+    (sym (open-16 _ _ _ (sym (load-is _ _ (at-load .load .ensures)) ∙ at-if1 .if1 .left) there (rw cal at yes-in-cover) week (said-no (complete-is _ _ _ _ _ l) (c .before .if4 .taken))))
+
+returns-6 : tie.Need-returns-6
+returns-6 c =
+    let at-list = c .before .before .before in
+    let at-if3 = at-list .before in
+    let at-week = at-if3 .before in
+    let at-product-at = at-week .before .before in
+    let at-if2 = at-product-at .before in
+    let at-in-cover = at-if2 .before in
+    let at-calendar-of = at-in-cover .before in
+    let at-block = at-calendar-of .before .before in
+    let at-find = at-block .before .before in
+    let at-if1 = at-find .before in
+    let at-load = at-if1 .before in
+    let yes-in-cover = said-yes (at-in-cover .in-cover .ensures) (at-if2 .if2 .left) in
+    let at = rw (at-block .block .given .1) at (at-find .find .ensures) in
+    let there = find-there _ _ _ _ at in
+    let cal = at-calendar-of .calendar-of .ensures in
+    let p = at-product-at .product-at .ensures ∙ find-product _ _ _ _ at in
+    let l = rw (p, cal) at (at-list .list .ensures) in
+    let week = rw (p, cal) at (said-yes (at-week .is-week-into-cover .ensures) (at-if3 .if3 .left)) in
     rw (p, cal, l)
-    (sym (open-yes _ _ _ (sym (load-is _ _ (at-load .load .ensures)) ∙ at-if1 .if1 .left) there (rw cal at yes-in-cover) (said-yes (complete-is _ _ _ _ _ l) (c .before .if3 .left))))
+    (sym (open-yes _ _ _ (sym (load-is _ _ (at-load .load .ensures)) ∙ at-if1 .if1 .left) there (rw cal at yes-in-cover) week (said-yes (complete-is _ _ _ _ _ l) (c .before .if4 .left))))
 
 pub opening-of-spec : {M : Type 1} → statement M
 opening-of-spec =
@@ -123,7 +155,10 @@ opening-of-spec =
     refused-opening-requires-3
     returns-3
     product-at-requires
-    list-requires
+    is-week-into-cover-requires
     refused-opening-requires-4
     returns-4
-    returns-5)
+    list-requires
+    refused-opening-requires-5
+    returns-5
+    returns-6)

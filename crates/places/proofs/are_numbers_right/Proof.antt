@@ -2,8 +2,8 @@ use borrow.Author.Needs.{needs}
 use Rattle.places.proofs.are_numbers_right.Statement.{statement}
 use Rattle.places.proofs.are_numbers_right.Tie as tie
 
-months-listed-requires : tie.Need-months-listed-requires
-months-listed-requires c κs = tt
+places-of-kind-requires : tie.Need-places-of-kind-requires
+places-of-kind-requires c κs = tt
 
 cast-n : tie.Need-cast-n
 cast-n c = search needs
@@ -12,7 +12,7 @@ are-first-right-requires : tie.Need-are-first-right-requires
 are-first-right-requires c κs = search needs
 
 returns : tie.Need-returns
-returns c = rw (← c .before .months-listed .ensures .0) (c .are-first-right .ensures)
+returns c = rw (← c .before .places-of-kind .ensures .0) (c .are-first-right .ensures)
 
 pub are-numbers-right-spec : {M : Type 1} → statement M
-are-numbers-right-spec = tie.close (tie.spec months-listed-requires cast-n are-first-right-requires returns)
+are-numbers-right-spec = tie.close (tie.spec places-of-kind-requires cast-n are-first-right-requires returns)

@@ -15,11 +15,11 @@ Inv-loop maturities fresh n i₀ i = (i ≤ 15) × (every i (placeRight maturiti
 abbrev μ-loop : tie.MeasureT-loop
 μ-loop maturities fresh n i₀ i = 15 - i
 
-months-listed-requires : tie.Need-months-listed-requires Inv-loop μ-loop
-months-listed-requires c κs = tt
+places-of-kind-requires : tie.Need-places-of-kind-requires Inv-loop μ-loop
+places-of-kind-requires c κs = tt
 
 cast-n : tie.Need-cast-n Inv-loop μ-loop
-cast-n c = omega (arith, c .months-listed .ensures .1)
+cast-n c = omega (arith, c .places-of-kind .ensures .1)
 
 loop-holds : tie.Need-loop-holds Inv-loop μ-loop
 loop-holds c = (omega arith, every-none _)
@@ -29,7 +29,7 @@ is-place-right-requires c κs = omega arith
 
 returns : tie.Need-returns Inv-loop μ-loop
 returns c =
-    rw (← c .before .before .before .before .months-listed .ensures .0)
+    rw (← c .before .before .before .before .places-of-kind .ensures .0)
     (sym (every-not _ _ _ (said-no (c .before .is-place-right .ensures) (c .if1 .taken)) (c .before .before .loop-test .taken)))
 
 add-i : tie.Need-add-i Inv-loop μ-loop
@@ -44,7 +44,7 @@ loop-again c = (omega arith, every-more _ _ (c .before .before .before .loop .in
 returns-2 : tie.Need-returns-2 Inv-loop μ-loop
 returns-2 c =
     let e : c .before .loop .i ≡ 15 = omega arith in
-    rw (← c .before .before .months-listed .ensures .0) (sym (rw e at (c .before .loop .inv .1)))
+    rw (← c .before .before .places-of-kind .ensures .0) (sym (rw e at (c .before .loop .inv .1)))
 
 pub are-places-right-spec : {M : Type 1} → statement M
 are-places-right-spec =
@@ -52,7 +52,7 @@ are-places-right-spec =
     (tie.spec
     Inv-loop
     μ-loop
-    months-listed-requires
+    places-of-kind-requires
     cast-n
     loop-holds
     is-place-right-requires

@@ -7,8 +7,8 @@ use Rattle.places.proofs.renumber.Tie as tie
 returns : tie.Need-returns
 returns c = rw (lt-leb _ _ (c .if1 .taken))
 
-months-listed-requires : tie.Need-months-listed-requires
-months-listed-requires c κs = tt
+places-of-kind-requires : tie.Need-places-of-kind-requires
+places-of-kind-requires c κs = tt
 
 cast-n : tie.Need-cast-n
 cast-n c = search needs
@@ -17,9 +17,9 @@ number-fresh-requires : tie.Need-number-fresh-requires
 number-fresh-requires c κs = search needs
 
 returns-2 : tie.Need-returns-2
-returns-2 c = rw (le-leb _ _ (c .before .before .if1 .left), ← c .before .months-listed .ensures .0) (c .number-fresh .ensures)
+returns-2 c = rw (le-leb _ _ (c .before .before .if1 .left), ← c .before .places-of-kind .ensures .0) (c .number-fresh .ensures)
 
 pub renumber-spec : {M : Type 1} → statement M
 renumber-spec =
     tie.close
-    (tie.spec returns months-listed-requires cast-n number-fresh-requires returns-2)
+    (tie.spec returns places-of-kind-requires cast-n number-fresh-requires returns-2)

@@ -1,22 +1,22 @@
 use native.Mathlib.Omega.{arith}
 use Rattle.printing.proofs.Writing.{then}
-use Rattle.printing.proofs.Texts.{no-lines, more-lines, lines-done}
-use Rattle.printing.specs.Text.{maturitiesText}
+use Rattle.printing.proofs.Texts.{no-lines, more-lines, lines-done, no-width, lines-wider, lines-rise}
+use Rattle.printing.specs.Text.{maturitiesText, linesWidth}
 use Rattle.printing.specs.Buffer.{Written}
 use lib.ListN.{length}
-use Prim.Native.Nat.{_+_, _-_, _*_, _≤_}
+use Prim.Native.Nat.{_+_, _-_, _≤_}
 use Rattle.printing.proofs.put_maturities.Statement.{statement}
 use Rattle.printing.proofs.put_maturities.Tie as tie
 
 abbrev Inv-loop : tie.InvT-loop
-Inv-loop out₀ at n maturities next₀ i₀ out next i =
-    (n ≤ 15) × (at + 465 ≤ length out₀) × (i ≤ n) × (next ≤ at + 31 * i) × Written out₀ out at next (maturitiesText i maturities)
+Inv-loop out₀ at kind n maturities next₀ i₀ out next i =
+    (n ≤ 15) × (linesWidth kind n ≤ 465) × (at + 465 ≤ length out₀) × (i ≤ n) × (next ≤ at + linesWidth kind i) × Written out₀ out at next (maturitiesText kind i maturities)
 
 abbrev μ-loop : tie.MeasureT-loop
-μ-loop out₀ at n maturities next₀ i₀ out next i = n - i
+μ-loop out₀ at kind n maturities next₀ i₀ out next i = n - i
 
 loop-holds : tie.Need-loop-holds Inv-loop μ-loop
-loop-holds c = (omega arith, omega arith, omega arith, omega arith, no-lines _ _ _)
+loop-holds c = (c .before .pre .0, c .before .pre .1, c .before .pre .2, omega arith, omega (arith, no-width (c .before .args .kind)), no-lines _ _ _ _)
 
 mul-m : tie.Need-mul-m Inv-loop μ-loop
 mul-m c = omega arith
@@ -27,7 +27,10 @@ array-copy-out-m c = omega arith
 put-maturity-requires : tie.Need-put-maturity-requires Inv-loop μ-loop
 put-maturity-requires c κs =
     let v = c .before .before .before .loop .inv in
-    omega (arith, v .0, v .1, v .3, v .4 .long, c .before .before .loop-test .taken)
+    let i = c .before .before .before .loop .i in
+    let start = c .before .before .before .before .before in
+    let k = start .args .kind in
+    omega (arith, v .1, v .2, v .4, v .5 .long, lines-wider k i, lines-rise k (i + 1) (start .args .n) (omega (arith, c .before .before .loop-test .taken)))
 
 add-i : tie.Need-add-i Inv-loop μ-loop
 add-i c = omega arith
@@ -39,15 +42,15 @@ loop-again : tie.Need-loop-again Inv-loop μ-loop
 loop-again c =
     let at-loop = c .before .before .before .before .before .before in
     let v = at-loop .loop .inv in
-    (v .0, v .1, omega arith, omega (arith, v .3, c .before .before .put-maturity .ensures .1), rw (more-lines _ _) (then (v .4) (c .before .before .put-maturity .ensures .0)))
+    (v .0, v .1, v .2, omega arith, omega (arith, v .4, lines-wider (at-loop .before .before .args .kind) (at-loop .loop .i), c .before .before .put-maturity .ensures .1), rw (more-lines _ _ _) (then (v .5) (c .before .before .put-maturity .ensures .0)))
 
 same-length : tie.Need-same-length Inv-loop μ-loop
-same-length c = c .before .loop .inv .4 .long
+same-length c = c .before .loop .inv .5 .long
 
 returns : tie.Need-returns Inv-loop μ-loop
 returns c =
     let v = c .before .loop .inv in
-    (lines-done _ _ _ (c .loop-test .left) (v .2) (v .4), omega (arith, v .0, v .2, v .3))
+    (lines-done _ _ _ _ (c .loop-test .left) (v .3) (v .5), omega (arith, v .1, v .4, lines-rise (c .before .before .before .args .kind) (c .before .loop .i) _ (v .3)))
 
 pub put-maturities-spec : {M : Type 1} → statement M
 put-maturities-spec =

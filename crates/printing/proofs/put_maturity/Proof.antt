@@ -11,8 +11,8 @@ put-decimal-requires c κs = search needs
 put-requires : tie.Need-put-requires
 put-requires c κs = search needs
 
-put-month-requires : tie.Need-put-month-requires
-put-month-requires c κs = search needs
+put-name-requires : tie.Need-put-name-requires
+put-name-requires c κs = search needs
 
 put-requires-2 : tie.Need-put-requires-2
 put-requires-2 c κs = search needs
@@ -35,11 +35,11 @@ returns c =
     let at-put-spaced = c .before .before .before .before .before .before in
     let at-put-day = at-put-spaced .before .before .before .before in
     let at-put2 = at-put-day .before .before .before .before in
-    let at-put-month = at-put2 .before .before .before .before in
-    let at-put = at-put-month .before .before .before .before in
+    let at-put-name = at-put2 .before .before .before .before in
+    let at-put = at-put-name .before .before .before .before in
     let at-put-decimal = at-put .before .before .before .before in
-    (then (at-put-decimal .put-decimal .ensures .0) (then (at-put .put .ensures .0) (then (at-put-month .put-month .ensures .0) (then (at-put2 .put2 .ensures .0) (then (at-put-day .put-day .ensures .0) (then (at-put-spaced .put-spaced .ensures .0) (c .before .before .put3 .ensures .0)))))), omega (arith, at-put-decimal .put-decimal .ensures .1, at-put .put .ensures .1, at-put-month .put-month .ensures .1, at-put2 .put2 .ensures .1, at-put-day .put-day .ensures .1, at-put-spaced .put-spaced .ensures .1, c .before .before .put3 .ensures .1))
+    (then (at-put-decimal .put-decimal .ensures .0) (then (at-put .put .ensures .0) (then (at-put-name .put-name .ensures .0) (then (at-put2 .put2 .ensures .0) (then (at-put-day .put-day .ensures .0) (then (at-put-spaced .put-spaced .ensures .0) (c .before .before .put3 .ensures .0)))))), omega (arith, at-put-decimal .put-decimal .ensures .1, at-put .put .ensures .1, at-put-name .put-name .ensures .1, at-put2 .put2 .ensures .1, at-put-day .put-day .ensures .1, at-put-spaced .put-spaced .ensures .1, c .before .before .put3 .ensures .1))
 
 pub put-maturity-spec : {M : Type 1} → statement M
 put-maturity-spec =
-    tie.close (tie.spec put-decimal-requires put-requires put-month-requires put-requires-2 put-day-requires put-spaced-requires put-requires-3 same-length returns)
+    tie.close (tie.spec put-decimal-requires put-requires put-name-requires put-requires-2 put-day-requires put-spaced-requires put-requires-3 same-length returns)

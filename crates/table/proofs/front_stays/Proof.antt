@@ -5,11 +5,11 @@ use Rattle.table.proofs.front_stays.Tie as tie
 array-copy-out-first : tie.Need-array-copy-out-first
 array-copy-out-first c = omega arith
 
-front-month-requires : tie.Need-front-month-requires
-front-month-requires c κs = tt
+front-key-requires : tie.Need-front-key-requires
+front-key-requires c κs = tt
 
 returns : tie.Need-returns
-returns c = rw (c .before .front-month .ensures .0)
+returns c = rw (c .before .front-key .ensures)
 
 pub front-stays-spec : {M : Type 1} → statement M
-front-stays-spec = tie.close (tie.spec array-copy-out-first front-month-requires returns)
+front-stays-spec = tie.close (tie.spec array-copy-out-first front-key-requires returns)

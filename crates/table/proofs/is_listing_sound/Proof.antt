@@ -1,7 +1,7 @@
 use Rattle.table.proofs.Calls.{listing-unlike, listing-numbers, listing-few, listing-rest}
 use Rattle.listing.specs.Months.{allInCover}
 use Rattle.table.specs.Table.{listsFresh}
-use Rattle.table.proofs.FirstPlace.{months-there}
+use Rattle.table.proofs.FirstPlace.{keys-there}
 use Rattle.questions.proofs.Bools.{both, said-no, said-yes}
 use native.Mathlib.Omega.{arith}
 use mathlib.Core.Path.{sym}
@@ -26,8 +26,8 @@ returns-2 c =
     let t = start .args .t in
     sym (listing-numbers t yes-is-fresh (said-no (c .before .are-numbers-right .ensures) (c .if2 .taken)))
 
-months-listed-requires : tie.Need-months-listed-requires
-months-listed-requires c κs = tt
+places-of-kind-requires : tie.Need-places-of-kind-requires
+places-of-kind-requires c κs = tt
 
 returns-3 : tie.Need-returns-3
 returns-3 c =
@@ -38,18 +38,18 @@ returns-3 c =
     let start = at-is-fresh .before in
     let yes-is-fresh = said-yes (at-is-fresh .is-fresh .ensures) (at-if1 .if1 .left) in
     let t = start .args .t in
-    sym (listing-few t yes-is-fresh (said-yes (at-are-numbers-right .are-numbers-right .ensures) (at-if2 .if2 .left)) _ (c .before .before .months-listed .ensures .0) (c .if3 .taken))
+    sym (listing-few t yes-is-fresh (said-yes (at-are-numbers-right .are-numbers-right .ensures) (at-if2 .if2 .left)) _ (c .before .before .places-of-kind .ensures .0) (c .if3 .taken))
 
 array-copy-out-first : tie.Need-array-copy-out-first
 array-copy-out-first c = omega arith
 
-months-before-requires : tie.Need-months-before-requires
-months-before-requires c κs = tt
+keys-before-requires : tie.Need-keys-before-requires
+keys-before-requires c κs = tt
 
 returns-4 : tie.Need-returns-4
 returns-4 c =
-    let at-months-listed = c .before .before .before .before .before in
-    let at-if2 = at-months-listed .before in
+    let at-places-of-kind = c .before .before .before .before .before in
+    let at-if2 = at-places-of-kind .before in
     let at-are-numbers-right = at-if2 .before in
     let at-if1 = at-are-numbers-right .before .before .before in
     let at-is-fresh = at-if1 .before in
@@ -57,7 +57,7 @@ returns-4 c =
     let yes-is-fresh = said-yes (at-is-fresh .is-fresh .ensures) (at-if1 .if1 .left) in
     let t = start .args .t in
     let fresh = both (allInCover (t .calendar) (t .product .kind) (t .product .group) (t .date)) (listsFresh t) yes-is-fresh in
-    listing-rest t yes-is-fresh (said-yes (at-are-numbers-right .are-numbers-right .ensures) (at-if2 .if2 .left)) _ (at-months-listed .months-listed .ensures .0) _ (c .before .before .before .if3 .left) (months-there t (fresh .0) (fresh .1) _ (c .months-before .ensures))
+    listing-rest t yes-is-fresh (said-yes (at-are-numbers-right .are-numbers-right .ensures) (at-if2 .if2 .left)) _ (at-places-of-kind .places-of-kind .ensures .0) _ (c .before .before .before .if3 .left) (keys-there t (fresh .0) (fresh .1) _ (c .keys-before .ensures))
 
 pub is-listing-sound-spec : {M : Type 1} → statement M
 is-listing-sound-spec =
@@ -67,8 +67,8 @@ is-listing-sound-spec =
     returns
     are-numbers-right-requires
     returns-2
-    months-listed-requires
+    places-of-kind-requires
     returns-3
     array-copy-out-first
-    months-before-requires
+    keys-before-requires
     returns-4)

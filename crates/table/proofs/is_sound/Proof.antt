@@ -57,13 +57,16 @@ returns-5 c =
     let at-product-right = at-if1 .before in
     simp (said-yes (at-product-right .product-right .ensures) (at-if1 .if1 .left), said-yes (at-is-valid-cover .is-valid-cover .ensures) (at-if2 .if2 .left), said-yes (at-is-clean .is-clean .ensures) (at-if3 .if3 .left), said-yes (at-every-week-trades .every-week-trades .ensures) (c .before .before .if4 .left), said-no (c .before .in-cover .ensures) (c .if5 .taken))
 
-is-listing-sound-requires : tie.Need-is-listing-sound-requires
-is-listing-sound-requires c κs = tt
+is-week-into-cover-requires : tie.Need-is-week-into-cover-requires
+is-week-into-cover-requires c κs = tt
 
 returns-6 : tie.Need-returns-6
 unfolding sound
 returns-6 c =
-    let at-if4 = c .before .before .before in
+    let at-week = c .before in
+    let at-if5 = at-week .before .before in
+    let at-in-cover = at-if5 .before in
+    let at-if4 = at-in-cover .before in
     let at-every-week-trades = at-if4 .before in
     let at-if3 = at-every-week-trades .before in
     let at-is-clean = at-if3 .before in
@@ -71,7 +74,27 @@ returns-6 c =
     let at-is-valid-cover = at-if2 .before in
     let at-if1 = at-is-valid-cover .before in
     let at-product-right = at-if1 .before in
-    simp (said-yes (at-product-right .product-right .ensures) (at-if1 .if1 .left), said-yes (at-is-valid-cover .is-valid-cover .ensures) (at-if2 .if2 .left), said-yes (at-is-clean .is-clean .ensures) (at-if3 .if3 .left), said-yes (at-every-week-trades .every-week-trades .ensures) (at-if4 .if4 .left), said-yes (c .before .before .in-cover .ensures) (c .before .if5 .left), c .is-listing-sound .ensures)
+    simp (said-yes (at-product-right .product-right .ensures) (at-if1 .if1 .left), said-yes (at-is-valid-cover .is-valid-cover .ensures) (at-if2 .if2 .left), said-yes (at-is-clean .is-clean .ensures) (at-if3 .if3 .left), said-yes (at-every-week-trades .every-week-trades .ensures) (at-if4 .if4 .left), said-yes (at-in-cover .in-cover .ensures) (at-if5 .if5 .left), said-no (at-week .is-week-into-cover .ensures) (c .if6 .taken))
+
+is-listing-sound-requires : tie.Need-is-listing-sound-requires
+is-listing-sound-requires c κs = tt
+
+returns-7 : tie.Need-returns-7
+unfolding sound
+returns-7 c =
+    let at-if6 = c .before in
+    let at-week = at-if6 .before in
+    let at-if5 = at-week .before .before in
+    let at-in-cover = at-if5 .before in
+    let at-if4 = at-in-cover .before in
+    let at-every-week-trades = at-if4 .before in
+    let at-if3 = at-every-week-trades .before in
+    let at-is-clean = at-if3 .before in
+    let at-if2 = at-is-clean .before in
+    let at-is-valid-cover = at-if2 .before in
+    let at-if1 = at-is-valid-cover .before in
+    let at-product-right = at-if1 .before in
+    simp (said-yes (at-product-right .product-right .ensures) (at-if1 .if1 .left), said-yes (at-is-valid-cover .is-valid-cover .ensures) (at-if2 .if2 .left), said-yes (at-is-clean .is-clean .ensures) (at-if3 .if3 .left), said-yes (at-every-week-trades .every-week-trades .ensures) (at-if4 .if4 .left), said-yes (at-in-cover .in-cover .ensures) (at-if5 .if5 .left), said-yes (at-week .is-week-into-cover .ensures) (at-if6 .if6 .left), c .is-listing-sound .ensures)
 
 pub is-sound-spec : {M : Type 1} → statement M
 is-sound-spec =
@@ -87,5 +110,7 @@ is-sound-spec =
     returns-4
     in-cover-requires
     returns-5
+    is-week-into-cover-requires
+    returns-6
     is-listing-sound-requires
-    returns-6)
+    returns-7)

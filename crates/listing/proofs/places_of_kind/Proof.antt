@@ -4,11 +4,11 @@ use lib.ListN.{length}
 use Prim.Native.Nat.{ℕ, _+_, _-_, _≤_, _<_}
 use native.Mathlib.Omega.{arith}
 use mathlib.Core.Path.{_≡_, ap}
-use Rattle.listing.proofs.months_listed.Statement.{statement}
-use Rattle.listing.proofs.months_listed.Tie as tie
+use Rattle.listing.proofs.places_of_kind.Statement.{statement}
+use Rattle.listing.proofs.places_of_kind.Tie as tie
 
 abbrev Inv-loop : tie.InvT-loop
-Inv-loop row sum₀ step₀ sum step = (step ≤ 4) × (row < 5) × (length (rest row 0) ≤ 15) × (sum + length (rest row step) ≡ length (rest row 0))
+Inv-loop row sum₀ step₀ sum step = (step ≤ 4) × (row < 6) × (length (rest row 0) ≤ 15) × (sum + length (rest row step) ≡ length (rest row 0))
 
 abbrev μ-loop : tie.MeasureT-loop
 μ-loop row sum₀ step₀ sum step = 4 - step
@@ -56,8 +56,8 @@ returns c =
     let r : length (rest (c .before .before .kind-number .result) 0) ≡ length (placesOf (rowOf k) (setsOf k)) = ap (λ (i : ℕ). length (rest i 0)) (c .before .before .kind-number .ensures) in
     (omega arith, omega arith)
 
-pub months-listed-spec : {M : Type 1} → statement M
-months-listed-spec =
+pub places-of-kind-spec : {M : Type 1} → statement M
+places-of-kind-spec =
     tie.close
     (tie.spec
     Inv-loop

@@ -1,0 +1,64 @@
+use Rattle.questions.proofs.Search.{search-next}
+use Rattle.listing.proofs.Front.{searched, front-here, front-none}
+use Rattle.calendar.specs.Trading.{calendarWith}
+use Prim.Native.Nat.{_-_}
+use native.Mathlib.Omega.{arith}
+use mathlib.Core.Path.{_≡_, refl, _∙_}
+use Rattle.listing.proofs.front_key_in.Statement.{statement}
+use Rattle.listing.proofs.front_key_in.Tie as tie
+
+abbrev Inv-loop : tie.InvT-loop
+Inv-loop cover closed kind group date end key₀ key =
+    searched (calendarWith cover closed) kind group date end key ≡ searched (calendarWith cover closed) kind group date end key₀
+
+abbrev μ-loop : tie.MeasureT-loop
+μ-loop cover closed kind group date end key₀ key = end - key
+
+end-key-requires : tie.Need-end-key-requires Inv-loop μ-loop
+end-key-requires c κs = tt
+
+key-of-requires : tie.Need-key-of-requires Inv-loop μ-loop
+key-of-requires c κs = tt
+
+loop-holds : tie.Need-loop-holds Inv-loop μ-loop
+loop-holds c = refl
+
+may-be-front-requires : tie.Need-may-be-front-requires Inv-loop μ-loop
+may-be-front-requires c κs = tt
+
+returns : tie.Need-returns Inv-loop μ-loop
+returns c =
+    let at-loop = c .before .before .before in
+    front-here _ _ _ _ _ _ _ (at-loop .loop .inv) (at-loop .before .before .end-key .ensures .0) (at-loop .before .key-of .ensures)
+    (c .before .before .loop-test .taken) (rw (c .before .may-be-front .ensures) at (c .if1 .taken))
+
+add-key : tie.Need-add-key Inv-loop μ-loop
+add-key c = omega arith
+
+loop-less : tie.Need-loop-less Inv-loop μ-loop
+loop-less c = omega arith
+
+loop-again : tie.Need-loop-again Inv-loop μ-loop
+loop-again c = search-next _ _ _ _ (c .before .before .loop-test .taken) (rw (c .before .may-be-front .ensures) at (c .if1 .left)) ∙ c .before .before .before .loop .inv
+
+returns-2 : tie.Need-returns-2 Inv-loop μ-loop
+returns-2 c =
+    let at-loop = c .before in
+    front-none _ _ _ _ _ _ _ (at-loop .loop .inv) (at-loop .before .before .end-key .ensures .0) (at-loop .before .key-of .ensures)
+    (c .loop-test .left)
+
+pub front-key-in-spec : {M : Type 1} → statement M
+front-key-in-spec =
+    tie.close
+    (tie.spec
+    Inv-loop
+    μ-loop
+    end-key-requires
+    key-of-requires
+    loop-holds
+    may-be-front-requires
+    returns
+    add-key
+    loop-less
+    loop-again
+    returns-2)
