@@ -12,7 +12,7 @@ from pathlib import Path
 from second import dates, product, trading
 from second.book import Book
 from tables.damages import (damaged_second_maps, damaged_tables, damaged_tables_of_2005, damaged_weekly_tables,
-                            date_before_cover, every_call_on_zeros)
+                            date_before_cover, dues_on_unsound_table, every_call_on_zeros)
 from tables.files import (EASTER_ALONE, EASTER_SECOND, EXAMPLE, FIRST_DAYS_WEEKLY, FUTURES_2005, ONE_YEAR,
                           ONE_YEAR_2005, REFUSED_SECOND, REFUSED_WEEKLY, SEED, SEVEN_YEARS, SEVEN_YEARS_SECOND,
                           SIXTEEN_YEARS, SIXTEEN_YEARS_2005, SIXTEEN_YEARS_SECOND, SIXTEEN_YEARS_WEEKLY,
@@ -508,15 +508,45 @@ def all_of_weekly_options(script, numbers):
         script.history(number, code, date, calls_of(numbers, number, code, date, length))
 
 
+# ---- Exercise entered on a holiday ----
+
+# 02, note 5: "Due now counts from any day in the cover". Only 21 March 2008 is
+# closed: from every day around that weekend, and at the cover's ends, where 17 "can
+# still refuse" and the days outside get 11; products with 1, 2, 3 and 4 days to
+# settlement. The same days on a damaged table.
+def dues_from_any_day(script):
+    for number, code in ((EXAMPLE, b'AXAF'), (THREE_YEARS_WEEKLY, b'BAYW'), (EXAMPLE, b'AXA '),
+                         (THREE_YEARS_WEEKLY, b'BPW ')):
+        friday = dates.day_of(2008, 3, 21)
+        script.open(number, code, friday - 4)
+        first, last = first_date(number), trading.last_day(calendar_of(number))
+        days = (*range(friday - 4, friday + 8), *range(first - 1, first + 7), *range(last - 8, last + 2))
+        for day in days:
+            script.due(day)
+        dues_on_unsound_table(script, days)
+
+
+# 02, note 5: "the first counted day is the first exchange day after it": every day
+# of the weeks around days of the second map, from which no count begins on the day
+# itself.
+def dues_around_second_maps(script):
+    for number, code in ((SEVEN_YEARS_SECOND, b'AXAF'), (SEVEN_YEARS_SECOND, b'BAY '),
+                         (SIXTEEN_YEARS_SECOND, b'NOK1'), (TWO_YEARS_WEEKLY, b'AXAW')):
+        script.open(number, code, opening_date(number, code))
+        for marked in sorted(calendar_of(number).exchange)[:40:8]:
+            for day in range(marked - 4, marked + 5):
+                script.due(day)
+
+
 # ---- The whole script ----
 
-# 01, Questions, and 02, note 3: the numbers that each call can give back.
+# 01, Questions, and 02, notes 3 and 5: the numbers that each call can give back.
 ANSWERS = {
     'O': (0, 1, 2, 3, 4, 5, 6, 7, 8, 9, 11, 16, 24),
     'R': (0, 10, 11, 12, 16),
     'C': (0, 10, 11, 13, 14, 15, 16),
     'L': (0, 10, 18),
-    'U': (0, 10, 11, 14, 17),
+    'U': (0, 10, 11, 17),
     'T': (0, 10, 19, 20),
     'Q': (0, 10, 19, 20, 21, 22),
 }
@@ -563,8 +593,13 @@ def whole_script():
     all_of_2005(script, Numbers(SEED + 3))
     all_of_second_maps(script, Numbers(SEED + 5))
     all_of_weekly_options(script, Numbers(SEED + 7))
+    dues_from_any_day(script)
+    dues_around_second_maps(script)
     if wanted() - script.seen:
         raise ValueError(f'the script has no {sorted(wanted() - script.seen)}')
+    others = {answer for answer in script.seen - wanted() if answer[0] in ANSWERS}
+    if others:
+        raise ValueError(f'no call may answer {sorted(others)}')
     return script
 
 

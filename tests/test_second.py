@@ -219,10 +219,9 @@ class SecondMaps(unittest.TestCase):
         self.assertEqual(self.dues(self.SECOND), [(0, self.MONDAY_24), (0, dates.day_of(2008, 3, 26))])
         self.assertEqual(self.dues(self.CLOSED), [(0, dates.day_of(2008, 3, 25)), (0, dates.day_of(2008, 3, 27))])
 
-    # "the starting day is still a trading day"; 6 and 14 read the first map alone.
+    # 6 and 14 read the first map alone.
     def test_what_stays(self):
         held = opened([item(b'O')], self.SECOND, THURSDAY_20, b'O   ')
-        self.assertEqual(table.due(held, self.MONDAY_24), (14, 0))
         self.assertEqual(table.close(held, self.MONDAY_24)[0], 14)
         week = weekdays_between(dates.day_of(2008, 4, 7), dates.day_of(2008, 4, 11))
         self.assertFalse(trading.every_week_trades(replace(PLAIN, closed=week, exchange=week)))
@@ -255,6 +254,69 @@ class SecondMaps(unittest.TestCase):
         self.assertEqual(master.load(file), (0, 3, 1))
         self.assertEqual(master.read_calendar(file), self.SECOND)
         self.assertEqual([place for place, byte in enumerate(file[62:108]) if byte], [83 // 8])
+
+
+# 02, note 5: exercise entered on a holiday.
+class ExerciseOnHolidays(unittest.TestCase):
+
+    MONDAY_24 = FRIDAY_21 + 3
+    CLOSED = replace(EASTER, closed=EASTER.closed | {FRIDAY_21 + 3})
+    SECOND = replace(CLOSED, exchange=frozenset([FRIDAY_21 + 3]))
+
+    # One product for each count of days to settlement, 1 to 4.
+    ITEMS = [item(b'A', b'FR01', 4), item(b'B', b'DE11'), item(b'C'), item(b'D', b'GB11', 5)]
+
+    # The dates of March 2008 that are due from a day, for n = 1, 2, 3 and 4.
+    def dues(self, calendar, day):
+        answers = [table.due(opened(self.ITEMS, calendar, dates.day_of(2008, 3, 17), one.id), day)
+                   for one in self.ITEMS]
+        self.assertEqual({number for number, _ in answers}, {0})
+        return [dates.date_of(due_day)[2] for _, due_day in answers]
+
+    # From Good Friday 21 March, Saturday 22 March and Sunday: with only the Friday
+    # closed, with Monday closed too, and with Monday in the second map.
+    def test_easter(self):
+        for day in (FRIDAY_21, FRIDAY_21 + 1, FRIDAY_21 + 2):
+            self.assertEqual(self.dues(EASTER, day), [24, 25, 26, 27])
+            self.assertEqual(self.dues(self.CLOSED, day), [25, 26, 27, 28])
+            self.assertEqual(self.dues(self.SECOND, day), [24, 25, 26, 27])
+
+    # A starting day of the second map is not itself counted.
+    def test_start_in_the_second_map(self):
+        self.assertEqual(self.dues(self.SECOND, self.MONDAY_24), [25, 26, 27, 28])
+        self.assertEqual(self.dues(self.CLOSED, self.MONDAY_24), [25, 26, 27, 28])
+
+    # From every day of the cover the n-th of the exchange days after it, or 17. 14
+    # never comes; trading days, which were answered before, keep their due day.
+    def test_every_day(self):
+        rest = random.Random(3)
+        days = sorted(weekdays_between(trading.first_day(PLAIN), trading.last_day(PLAIN)))
+        closed = frozenset(rest.sample(days, 150))
+        calendar = Calendar(2008, 3, closed, frozenset(rest.sample(sorted(closed), 60)))
+        self.assertTrue(trading.every_week_trades(calendar))
+        counted = [day for day in days if day not in closed or day in calendar.exchange]
+        numbers = set()
+        for n, one in enumerate(self.ITEMS, 1):
+            held = opened(self.ITEMS, calendar, dates.day_of(2008, 3, 17), one.id)
+            for day in range(trading.first_day(PLAIN) - 1, trading.last_day(PLAIN) + 2):
+                after = [later for later in counted if later > day][:n]
+                answer = (0, after[-1]) if len(after) == n else (17, 0)
+                if not trading.in_cover(PLAIN, day):
+                    answer = (11, 0)
+                self.assertEqual(table.due(held, day), answer)
+                numbers.add(answer[0])
+        self.assertEqual(numbers, {0, 11, 17})
+
+    # 31 December of the last year gets 17, the day after 11; an unsound table gets
+    # 10 also on a Saturday, and on that day after.
+    def test_refusals(self):
+        last = dates.day_of(2010, 12, 31)
+        for one in self.ITEMS:
+            held = opened(self.ITEMS, EASTER, dates.day_of(2008, 3, 17), one.id)
+            self.assertEqual(table.due(held, last), (17, 0))
+            self.assertEqual(table.due(held, last + 1), (11, 0))
+            for day in (FRIDAY_21 + 1, FRIDAY_21, last, last + 1):
+                self.assertEqual(table.due(replace(held, given=0), day), (10, 0))
 
 
 class Maps(unittest.TestCase):
@@ -879,7 +941,7 @@ class Tables(unittest.TestCase):
         for month in (march - 1, march + 4, 1200, 0):
             self.assertEqual(table.last_trading_day(held, month), (18, 0, 0))
         self.assertEqual(table.due(held, THURSDAY_20), (0, dates.day_of(2008, 3, 26)))
-        self.assertEqual(table.due(held, FRIDAY_21), (14, 0))
+        self.assertEqual(table.due(held, FRIDAY_21), (0, dates.day_of(2008, 3, 26)))
         self.assertEqual(table.due(held, 2921), (11, 0))
         self.assertEqual(table.due(held, dates.day_of(2010, 12, 28)), (0, dates.day_of(2010, 12, 31)))
         self.assertEqual(table.due(held, dates.day_of(2010, 12, 29)), (17, 0))

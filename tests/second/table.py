@@ -1,5 +1,5 @@
 """The table of listed maturities and its calls (01, "The table", "Questions";
-02, notes 2 and 3).
+02, notes 2 to 5).
 
 Every call answers first the number of the question that refused it, or 0.
 """
@@ -182,16 +182,14 @@ def last_trading_day(table, key):
 
 
 # 01, Questions: "Due: 10, 11, 14, 17." "Due day: the n-th trading day after a
-# given trading day." 02, note 4: "Due days count trading days and these days; the
-# starting day is still a trading day"; "question 17 reads with exchange days".
-# (number, day).
+# given trading day." 02, note 4: "Due days count trading days and these days";
+# "question 17 reads with exchange days". 02, note 5: "Due now counts from any day in
+# the cover"; "due no longer gives 14". (number, day).
 def due(table, day):
     if not is_sound(table):
         return 10, 0
     if not trading.in_cover(table.calendar, day):
         return 11, 0
-    if not trading.is_trading_day(table.calendar, day):
-        return 14, 0
     n = product.days_to_settlement(table.product)
     due_day = trading.nth_exchange_day_after(table.calendar, day, n)
     if due_day is None:

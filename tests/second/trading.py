@@ -1,5 +1,5 @@
 """The cover, closed days, trading days and exchange days (01, "Days and months",
-questions 5, 6 and 15; 02, note 4)."""
+questions 5, 6 and 15; 02, notes 4 and 5)."""
 
 from dataclasses import dataclass, replace
 from functools import lru_cache
@@ -207,8 +207,8 @@ def latest_trading_day(calendar, day):
 
 
 # 01, Due day: "the n-th trading day after a given trading day", with 02, note 4
-# the n-th exchange day; None if it is not in the cover. The given day may be any
-# day here.
+# the n-th exchange day; None if it is not in the cover. 02, note 5: "from any day":
+# "the first counted day is the first exchange day after it".
 def nth_exchange_day_after(calendar, day, n):
     day = max(day, first_day(calendar) - 1)
     while n > 0:

@@ -1,5 +1,5 @@
 """Damaged tables: one field of a sound table changed, and every call on it (01,
-"A table is sound if"; 02, notes 1 to 4)."""
+"A table is sound if"; 02, notes 1 to 5)."""
 
 from second import dates, listing, product, table, trading
 from tables.files import (EASTER_SECOND, EXAMPLE, FIRST_DAYS_WEEKLY, ONE_YEAR, SEVEN_YEARS, SEVEN_YEARS_SECOND,
@@ -326,6 +326,13 @@ def damaged_weekly_tables(script):
     given_at_bounds(script, SIXTEEN_YEARS_WEEKLY, b'AXAW', BOUNDS_OF_16_YEARS)
     other_fridays(script)
     dates_of_the_first_week(script)
+
+
+# 02, note 5, on an unsound table: due from some days gets 10, whatever day it is.
+def dues_on_unsound_table(script, days):
+    script.damage(GIVEN, 0, 0)
+    if {script.due(day) for day in days} != {10}:
+        raise ValueError('due on a damaged table is refused by another question than 10')
 
 
 # The table of zeros that a refused open gives back is not sound.

@@ -217,7 +217,7 @@ class Script:
         self.write(record('L', number=key), 'L' + words(refusal, day, back), refusal)
         return refusal
 
-    # 01, Questions: "Due: 10, 11, 14, 17."
+    # 01, Questions: "Due: 10, 11, 14, 17."; 02, note 5: without 14.
     def due(self, day):
         refusal, due_day = table.due(self.table, day)
         self.write(record('U', number=day), 'U' + words(refusal, due_day), refusal)

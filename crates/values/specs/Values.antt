@@ -1,4 +1,4 @@
--- Calls that return days and leave the table as it is (01, Due day, tick, cash; Questions, in order; 02, notes 2 to 4).
+-- Calls that return days and leave the table as it is (01, Due day, tick, cash; Questions, in order; 02, notes 2 to 5).
 -- Assumes nothing.
 use Prim.Native.Nat.{ℕ}
 use mathlib.Core.List.{List, [], _∷_}
@@ -37,19 +37,27 @@ lastDayAsks t key = ask 10 (sound t) ∷ ask 18 (isListed (listedIn t) key) ∷ 
 unfoldable pub lastDayCall : Table → ℕ → Answer LastDay
 lastDayCall t key = answer (lastDayAsks t key) (record { day = 0; back = 0 }) (workedOut (t .calendar) (t .product .kind) (t .product .group) key)
 
--- 'Due day: the n-th trading day after a given trading day'; 'Due days count trading days and these days' (02, note 4)
+-- 'Due day: the n-th trading day after a given trading day'; 'Due days count trading days and these days' (02, note 4); 'Due now counts from any day in the cover: the first counted day is the first exchange day after it' (02, note 5)
 unfoldable pub dueDay : Table → ℕ → ℕ
 dueDay t day = nthExchangeDay (t .calendar) (settlementDays (t .product .kind) (t .product .group)) day
 
--- 'Due: 10, 11, 14, 17'; 'the starting day is still a trading day' (02, note 4); 'question 17 reads with exchange days' (02, note 4)
+-- 'Due: 10, 11, 14, 17' without 14: 'due no longer gives 14. Question 17 can still refuse near the cover's end' (02, note 5); 'question 17 reads with exchange days' (02, note 4)
 unfoldable pub dueAsks : Table → ℕ → List Ask
 dueAsks t day =
+    ask 10 (sound t)
+    ∷ ask 11 (inCover (t .calendar .cover) day)
+    ∷ ask 17 (inCover (t .calendar .cover) (dueDay t day))
+    ∷ []
+
+-- 'Due: 10, 11, 14, 17' (01, Questions), what due asked before note 5, with the exchange days of note 4; only the theorem on days 'that were answered before' (02, note 5) needs it
+unfoldable pub dueAsksBefore : Table → ℕ → List Ask
+dueAsksBefore t day =
     ask 10 (sound t)
     ∷ ask 11 (inCover (t .calendar .cover) day)
     ∷ ask 14 (tradingDay (t .calendar) day)
     ∷ ask 17 (inCover (t .calendar .cover) (dueDay t day))
     ∷ []
 
--- 'Due day: the n-th trading day after a given trading day'; 'With it: .. other calls return zero values'
+-- the due day of a day of the cover; 'With it: .. other calls return zero values'
 unfoldable pub dueCall : Table → ℕ → Answer ℕ
 dueCall t day = answer (dueAsks t day) 0 (dueDay t day)

@@ -57,7 +57,7 @@ pub fn last_trading_day(t: Table, key: u16) -> LastDayReply
     }
 }
 
-// The due day of a trading day: trading days and days of the second map count.
+// The due day of a day of the cover: trading days and days of the second map count, from the first one after it.
 pub fn due(t: Table, day: u16) -> DayReply
     ensures { λ r. ⌜ dayReply r ≡ dueCall t day ⌝ }
 {
@@ -66,9 +66,6 @@ pub fn due(t: Table, day: u16) -> DayReply
     }
     if !calendar::in_cover(t.calendar.cover, day) {
         return no_day(11);
-    }
-    if !calendar::is_trading_day(t.calendar, day) {
-        return no_day(14);
     }
     let p = t.product;
     let kind = p.kind;

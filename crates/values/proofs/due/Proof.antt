@@ -1,4 +1,4 @@
-use Rattle.values.proofs.Answers.{due-10, due-11, due-14, due-17, due-yes, due-is}
+use Rattle.values.proofs.Answers.{due-10, due-11, due-17, due-yes, due-is}
 use Rattle.questions.proofs.Bools.{said-no, said-yes}
 use mathlib.Core.Path.{_∙_, sym}
 use borrow.Author.Needs.{needs}
@@ -23,22 +23,6 @@ no-day-requires-2 c κs = tt
 returns-2 : tie.Need-returns-2
 returns-2 c = c .no-day2 .ensures ∙ sym (due-11 _ _ (said-yes (c .before .before .before .before .is-sound .ensures) (c .before .before .before .if1 .left)) (said-no (c .before .before .in-cover .ensures) (c .before .if2 .taken)))
 
-is-trading-day-requires : tie.Need-is-trading-day-requires
-is-trading-day-requires c κs = tt
-
-no-day-requires-3 : tie.Need-no-day-requires-3
-no-day-requires-3 c κs = tt
-
-returns-3 : tie.Need-returns-3
-returns-3 c =
-    let at-if2 = c .before .before .before in
-    let at-in-cover = at-if2 .before in
-    let at-if1 = at-in-cover .before in
-    let at-is-sound = at-if1 .before in
-    let yes-is-sound = said-yes (at-is-sound .is-sound .ensures) (at-if1 .if1 .left) in
-    let yes-in-cover = said-yes (at-in-cover .in-cover .ensures) (at-if2 .if2 .left) in
-    c .no-day3 .ensures ∙ sym (due-14 _ _ yes-is-sound yes-in-cover (said-no (c .before .before .is-trading-day .ensures) (c .before .if3 .taken)))
-
 settlement-days-requires : tie.Need-settlement-days-requires
 settlement-days-requires c κs = tt
 
@@ -51,37 +35,31 @@ nth-exchange-day-requires c κs = tt
 in-cover-requires-2 : tie.Need-in-cover-requires-2
 in-cover-requires-2 c κs = tt
 
-no-day-requires-4 : tie.Need-no-day-requires-4
-no-day-requires-4 c κs = tt
+no-day-requires-3 : tie.Need-no-day-requires-3
+no-day-requires-3 c κs = tt
+
+returns-3 : tie.Need-returns-3
+returns-3 c =
+    let at-nth-exchange-day = c .before .before .before in
+    let at-settlement-days = at-nth-exchange-day .before in
+    let at-if2 = at-settlement-days .before .before .before in
+    let at-in-cover = at-if2 .before in
+    let at-if1 = at-in-cover .before in
+    let at-is-sound = at-if1 .before in
+    let yes-is-sound = said-yes (at-is-sound .is-sound .ensures) (at-if1 .if1 .left) in
+    let yes-in-cover = said-yes (at-in-cover .in-cover .ensures) (at-if2 .if2 .left) in
+    c .no-day3 .ensures ∙ sym (due-17 _ _ yes-is-sound yes-in-cover _ (due-is _ _ _ _ (at-settlement-days .settlement-days .ensures) (at-nth-exchange-day .nth-exchange-day .ensures)) (said-no (c .before .before .in-cover2 .ensures) (c .before .if3 .taken)))
 
 returns-4 : tie.Need-returns-4
 returns-4 c =
-    let at-nth-exchange-day = c .before .before .before in
-    let at-settlement-days = at-nth-exchange-day .before in
-    let at-if3 = at-settlement-days .before .before .before in
-    let at-is-trading-day = at-if3 .before in
-    let at-if2 = at-is-trading-day .before in
-    let at-in-cover = at-if2 .before in
-    let at-if1 = at-in-cover .before in
-    let at-is-sound = at-if1 .before in
-    let yes-is-sound = said-yes (at-is-sound .is-sound .ensures) (at-if1 .if1 .left) in
-    let yes-in-cover = said-yes (at-in-cover .in-cover .ensures) (at-if2 .if2 .left) in
-    let yes-is-trading-day = said-yes (at-is-trading-day .is-trading-day .ensures) (at-if3 .if3 .left) in
-    c .no-day4 .ensures ∙ sym (due-17 _ _ yes-is-sound yes-in-cover yes-is-trading-day _ (due-is _ _ _ _ (at-settlement-days .settlement-days .ensures) (at-nth-exchange-day .nth-exchange-day .ensures)) (said-no (c .before .before .in-cover2 .ensures) (c .before .if4 .taken)))
-
-returns-5 : tie.Need-returns-5
-returns-5 c =
     let at-settlement-days = c .before .before .before in
-    let at-if3 = at-settlement-days .before .before .before in
-    let at-is-trading-day = at-if3 .before in
-    let at-if2 = at-is-trading-day .before in
+    let at-if2 = at-settlement-days .before .before .before in
     let at-in-cover = at-if2 .before in
     let at-if1 = at-in-cover .before in
     let at-is-sound = at-if1 .before in
     let yes-is-sound = said-yes (at-is-sound .is-sound .ensures) (at-if1 .if1 .left) in
     let yes-in-cover = said-yes (at-in-cover .in-cover .ensures) (at-if2 .if2 .left) in
-    let yes-is-trading-day = said-yes (at-is-trading-day .is-trading-day .ensures) (at-if3 .if3 .left) in
-    sym (due-yes _ _ yes-is-sound yes-in-cover yes-is-trading-day _ (due-is _ _ _ _ (at-settlement-days .settlement-days .ensures) (c .before .before .nth-exchange-day .ensures)) (said-yes (c .before .in-cover2 .ensures) (c .if4 .left)))
+    sym (due-yes _ _ yes-is-sound yes-in-cover _ (due-is _ _ _ _ (at-settlement-days .settlement-days .ensures) (c .before .before .nth-exchange-day .ensures)) (said-yes (c .before .in-cover2 .ensures) (c .if3 .left)))
 
 pub due-spec : {M : Type 1} → statement M
 due-spec =
@@ -93,13 +71,10 @@ due-spec =
     in-cover-requires
     no-day-requires-2
     returns-2
-    is-trading-day-requires
-    no-day-requires-3
-    returns-3
     settlement-days-requires
     cast-n
     nth-exchange-day-requires
     in-cover-requires-2
-    no-day-requires-4
-    returns-4
-    returns-5)
+    no-day-requires-3
+    returns-3
+    returns-4)
