@@ -3,8 +3,11 @@ use calendar::Calendar;
 use calendar::Cover;
 use product::Kind;
 ghost use mathlib.Core.Path.{_≡_};
-ghost use Prim.Native.Nat.{_≤_};
-ghost use Rattle.calendar.specs.Trading.{calendarWith, coverEnd};
+ghost use mathlib.Core.Bool.{cond};
+ghost use Prim.Native.Nat.{_-_, _≤_};
+ghost use Rattle.questions.specs.Search.{latest};
+ghost use Rattle.calendar.specs.Trading.{calendarWith, coverEnd, tradingDay};
+ghost use Rattle.product.specs.Settlement.{italian};
 ghost use Rattle.expiry.specs.LastDays.{thirdFriday, weeklyFriday, monthAnchor, keyOf, anchorOf, lastDay, steppedTo, workedOut};
 
 // A last trading day, and the number of days it stepped back from its anchor.
@@ -31,15 +34,22 @@ pub fn is_weekly_friday(day: u16) -> bool
     day != third_friday(days::month_of(day))
 }
 
-// The day on which a month's trading would end: the third Friday, for the Italian groups the day before.
-fn month_anchor(group: [u8; 4], month: u16) -> u16
-    ensures { λ r. ⌜ r ≡ monthAnchor group month ⌝ }
+// For the Italian groups the day before.
+fn italian_exception(group: [u8; 4], friday: u16) -> u16
+    requires { ⌜ 1 ≤ friday ⌝ }
+    ensures { λ r. ⌜ r ≡ cond (italian group) (friday - 1) friday ⌝ }
 {
-    let friday = third_friday(month);
     if product::is_italian(group) {
         return friday - 1;
     }
     friday
+}
+
+// The day on which a month's trading would end: the third Friday, for the Italian groups the day before.
+fn month_anchor(group: [u8; 4], month: u16) -> u16
+    ensures { λ r. ⌜ r ≡ monthAnchor group month ⌝ }
+{
+    italian_exception(group, third_friday(month))
 }
 
 // The anchor of a key: its month's, or the Friday itself.
@@ -52,20 +62,33 @@ pub fn anchor(kind: Kind, group: [u8; 4], key: u16) -> u16
     month_anchor(group, key)
 }
 
-// The anchor if it is a trading day, else the latest trading day before it, and the steps made back to it; day 0, a Saturday, where there is none. By the cover and the lent maps.
-pub fn last_day_in(cover: Cover, closed: &[u8], anchor: u16) -> LastDay
-    ensures { λ r. ⌜ r ≡ steppedTo anchor (lastDay (calendarWith cover (now (closed .entry))) anchor) ⌝ }
+// The latest trading day before an anchor, and the steps made back to it; day 0, a Saturday, where there is none. By the cover and the lent maps.
+fn trading_day_before_in(cover: Cover, closed: &[u8], anchor: u16) -> LastDay
+    ensures { λ r. ⌜ r ≡ steppedTo anchor (latest (tradingDay (calendarWith cover (now (closed .entry)))) (anchor - 1)) ⌝ }
 {
     let mut day = anchor;
     let mut back: u16 = 0;
     while 0 < day {
+        day -= 1;
+        back += 1;
         if calendar::is_trading_day_in(cover, closed, day) {
             return LastDay { day, back };
         }
-        day -= 1;
-        back += 1;
     }
     LastDay { day, back }
+}
+
+// The anchor if it is a trading day, else the latest trading day before it, and the steps made back to it. By the cover and the lent maps.
+pub fn last_day_in(cover: Cover, closed: &[u8], anchor: u16) -> LastDay
+    ensures { λ r. ⌜ r ≡ steppedTo anchor (lastDay (calendarWith cover (now (closed .entry))) anchor) ⌝ }
+{
+    if calendar::is_trading_day_in(cover, closed, anchor) {
+        return LastDay {
+            day: anchor,
+            back: 0,
+        };
+    }
+    trading_day_before_in(cover, closed, anchor)
 }
 
 // The same of a calendar.
@@ -76,7 +99,26 @@ pub fn last_day(cal: Calendar, anchor: u16) -> LastDay
     last_day_in(cover, &cal.closed, anchor)
 }
 
-// 002, 1.6.4 (2): the third Friday, the Italian exception, the day itself or the trading day before it; of a weekly maturity its Friday or the trading day before it. By the cover and the lent maps.
+// 002, 1.6.4 (2), a step to a line, each under its words. By the cover and the lent maps.
+fn month_last_day_in(cover: Cover, closed: &[u8], group: [u8; 4], month: u16) -> LastDay
+    ensures { λ r. ⌜ r ≡ steppedTo (monthAnchor group month) (lastDay (calendarWith cover (now (closed .entry))) (monthAnchor group month)) ⌝ }
+{
+    // 'der dritte Freitag'
+    let friday = third_friday(month);
+    // '(.. Gruppenkennung IT01: der Tag vor dem dritten Freitag)'
+    let usual = italian_exception(group, friday);
+    // 'sofern dieser Tag ein .. Handelstag ist'
+    if calendar::is_trading_day_in(cover, closed, usual) {
+        return LastDay {
+            day: usual,
+            back: 0,
+        };
+    }
+    // 'andernfalls der davor liegende Handelstag'
+    trading_day_before_in(cover, closed, usual)
+}
+
+// The last trading day of a key: of a month by 002, 1.6.4 (2), of a weekly maturity its Friday or the trading day before it. By the cover and the lent maps.
 pub fn last_trading_day_in(
     cover: Cover,
     closed: &[u8],
@@ -86,7 +128,10 @@ pub fn last_trading_day_in(
 ) -> LastDay
     ensures { λ r. ⌜ r ≡ workedOut (calendarWith cover (now (closed .entry))) kind group key ⌝ }
 {
-    last_day_in(cover, closed, anchor(kind, group, key))
+    if product::is_weekly(kind) {
+        return last_day_in(cover, closed, key);
+    }
+    month_last_day_in(cover, closed, group, key)
 }
 
 // The same of a calendar.

@@ -1,52 +1,22 @@
-use Rattle.expiry.proofs.Stepping.{Stepping, starts, again, found, none}
-use Rattle.calendar.specs.Trading.{calendarWith}
+use Rattle.expiry.proofs.Stepping.{there, before}
 use Prim.Native.Nat.{_-_}
-use native.Mathlib.Omega.{arith}
 use mathlib.Core.Path.{_∙_, sym}
 use Rattle.expiry.proofs.last_day_in.Statement.{statement}
 use Rattle.expiry.proofs.last_day_in.Tie as tie
 
-abbrev Inv-loop : tie.InvT-loop
-Inv-loop cover closed anchor day₀ back₀ day back = Stepping (calendarWith cover closed) anchor day back
-
-abbrev μ-loop : tie.MeasureT-loop
-μ-loop cover closed anchor day₀ back₀ day back = day
-
-loop-holds : tie.Need-loop-holds Inv-loop μ-loop
-loop-holds c = starts _ _
-
-is-trading-day-in-requires : tie.Need-is-trading-day-in-requires Inv-loop μ-loop
+is-trading-day-in-requires : tie.Need-is-trading-day-in-requires
 is-trading-day-in-requires c κs = tt
 
-returns : tie.Need-returns Inv-loop μ-loop
-returns c = found _ _ _ _ (c .before .before .before .loop .inv) (sym (c .before .is-trading-day-in .ensures) ∙ c .if1 .taken)
+returns : tie.Need-returns
+returns c = there _ _ (sym (c .before .is-trading-day-in .ensures) ∙ c .if1 .taken)
 
-sub-day : tie.Need-sub-day Inv-loop μ-loop
-sub-day c = omega arith
+trading-day-before-in-requires : tie.Need-trading-day-before-in-requires
+trading-day-before-in-requires c κs = tt
 
-add-back : tie.Need-add-back Inv-loop μ-loop
-add-back c = omega (arith, c .before .before .before .loop .inv .made)
-
-loop-less : tie.Need-loop-less Inv-loop μ-loop
-loop-less c = omega arith
-
-loop-again : tie.Need-loop-again Inv-loop μ-loop
-loop-again c = again _ _ _ _ (c .before .before .before .loop .inv) (c .before .before .loop-test .taken) (sym (c .before .is-trading-day-in .ensures) ∙ c .if1 .left)
-
-returns-2 : tie.Need-returns-2 Inv-loop μ-loop
-returns-2 c = none _ _ _ _ (c .before .loop .inv) (c .loop-test .left)
+returns-2 : tie.Need-returns-2
+returns-2 c = c .trading-day-before-in .ensures ∙ before _ _ (sym (c .before .before .is-trading-day-in .ensures) ∙ c .before .if1 .left)
 
 pub last-day-in-spec : {M : Type 1} → statement M
 last-day-in-spec =
     tie.close
-    (tie.spec
-    Inv-loop
-    μ-loop
-    loop-holds
-    is-trading-day-in-requires
-    returns
-    sub-day
-    add-back
-    loop-less
-    loop-again
-    returns-2)
+    (tie.spec is-trading-day-in-requires returns trading-day-before-in-requires returns-2)

@@ -1,0 +1,42 @@
+use Rattle.expiry.proofs.Fridays.{third-is}
+use Rattle.expiry.proofs.Stepping.{there, before, exception}
+use Prim.Native.Nat.{_-_}
+use native.Mathlib.Omega.{arith}
+use mathlib.Core.Path.{_∙_, sym}
+use Rattle.expiry.proofs.month_last_day_in.Statement.{statement}
+use Rattle.expiry.proofs.month_last_day_in.Tie as tie
+
+third-friday-requires : tie.Need-third-friday-requires
+third-friday-requires c κs = tt
+
+italian-exception-requires : tie.Need-italian-exception-requires
+italian-exception-requires c κs = omega (arith, c .third-friday .ensures, third-is (c .before .before .args .month))
+
+is-trading-day-in-requires : tie.Need-is-trading-day-in-requires
+is-trading-day-in-requires c κs = tt
+
+returns : tie.Need-returns
+returns c =
+    let at-exception = c .before .before in
+    rw (← exception _ _ _ _ (at-exception .before .third-friday .ensures) (at-exception .italian-exception .ensures))
+    (there _ _ (sym (c .before .is-trading-day-in .ensures) ∙ c .if1 .taken))
+
+trading-day-before-in-requires : tie.Need-trading-day-before-in-requires
+trading-day-before-in-requires c κs = tt
+
+returns-2 : tie.Need-returns-2
+returns-2 c =
+    let at-exception = c .before .before .before in
+    rw (← exception _ _ _ _ (at-exception .before .third-friday .ensures) (at-exception .italian-exception .ensures))
+    (c .trading-day-before-in .ensures ∙ before _ _ (sym (c .before .before .is-trading-day-in .ensures) ∙ c .before .if1 .left))
+
+pub month-last-day-in-spec : {M : Type 1} → statement M
+month-last-day-in-spec =
+    tie.close
+    (tie.spec
+    third-friday-requires
+    italian-exception-requires
+    is-trading-day-in-requires
+    returns
+    trading-day-before-in-requires
+    returns-2)
