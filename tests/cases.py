@@ -539,13 +539,34 @@ def second_map_cases():
     yield from second_map_order_cases()
 
 
+# ---- Loading one block at a time (02, note 8) ----
+
+# What a loader that carries too little, or too much, from block to block gets wrong.
+def one_block_cases():
+    # a gap in the years that a later block fills, so that their number and the last are right
+    for name, years in (('two', (2008, 2010, 2010, 2011)), ('one', (2008, 2010, 2009, 2011))):
+        yield f'q4-years-gap-filled-by-{name}', with_years(*years)
+    # a year that is not a leap year has no day 365
+    yield 'q6-seven-days-over-the-turn-of-2009', six(closed=weekdays((2009, 12, 29), (2010, 1, 4)))
+    yield 'ok-six-days-over-the-turn-of-2009', six(closed=weekdays((2009, 12, 30), (2010, 1, 3)))
+    # a week of which one day lies in the next year
+    yield 'q6-week-with-one-day-in-the-next-year', six(closed=weekdays((2008, 12, 26), (2009, 1, 1)))
+    # headers that say more than a block or a century has
+    for name, block, number in (('65535-records', 5, 65535), ('year-65535', 0, 65535), ('year-0', 2, 0)):
+        yield f'q3-{name}', six(('bytes', block, 2, master.two_bytes(number)))
+    # a product block that says it has no record, between ids that fall
+    yield 'q3-no-records-and-8', six(('bytes', 5, 16, b'A   '), ('bytes', 4, 2, b'\0\0'))
+    # the fault with the lower number in the last block
+    yield 'q2-last-and-3-first', six(('bytes', 0, 2, master.two_bytes(1999)), ('check', 5, 1))
+
+
 # ---- All cases ----
 
 # Every case in turn: (name, file).
 def cases():
     for part in (accepted, length_cases, check_cases, header_cases, order_cases, clean_cases,
                  week_cases, field_cases, record_cases, id_cases, pair_cases, many_fault_cases,
-                 kind_4_cases, second_map_cases, kind_5_cases):
+                 kind_4_cases, second_map_cases, kind_5_cases, one_block_cases):
         yield from part()
 
 

@@ -7,7 +7,7 @@ from dataclasses import replace
 
 import cases
 import histories
-from second import dates, listing, master, product, trading
+from second import dates, intake, listing, master, product, trading
 from second.trading import Calendar
 
 NO_DAY = 36525
@@ -337,8 +337,34 @@ def file_calendar_line(file):
             + (f' {len(second)} {sum(second)}' if second else ''))
 
 
+# The calls of 02, note 8, on the whole blocks of a file, one by one: the number that is
+# announced and its refusal; if it is accepted, for each block the refusals of 511 bytes
+# of it, of a final call before it and of the block itself, then that of one block too
+# many and the answer of the final call. Each call gets the state that came back.
+def calls_line(file):
+    whole = [block for block in master.blocks_of(file) if len(block) == master.BLOCK]
+    number, state = intake.announce(len(whole), intake.Carried)
+    said = [len(whole), number]
+    if number == 0:
+        for block in whole:
+            short, state = state.take(block[:-1])
+            said += [short, state.finish()[0]]
+            number, state = state.take(block)
+            said.append(number)
+        number, state = state.take(whole[0])
+        said += [number, *state.finish()]
+    return 'U ' + ' '.join(map(str, said))
+
+
+# The file loaded one block at a time: the answer, and the calls one by one.
+def block_lines(file):
+    number, years, records = intake.load(file, -(-len(file) // master.BLOCK))
+    yield f'B {number} {years} {records}'
+    yield calls_line(file)
+
+
 # The lines of one file: refusal and counts; if it is accepted, its calendar and
-# the records with the ids of the test.
+# the records with the ids of the test; then the file block by block.
 def file_lines(index, file):
     number, years, records = master.load(file)
     yield f'F {index} {number} {years} {records}'
@@ -346,6 +372,7 @@ def file_lines(index, file):
         yield file_calendar_line(file)
         for code in cases.IDS:
             yield id_line(file, code)
+    yield from block_lines(file)
 
 
 # ---- All programs ----

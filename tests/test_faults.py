@@ -8,7 +8,6 @@ they are skipped.
 import errno
 import os
 import resource
-import shutil
 import subprocess
 import sys
 import tempfile
@@ -17,14 +16,13 @@ import unittest
 TESTS = os.path.dirname(os.path.abspath(__file__))
 sys.path.insert(0, TESTS)
 
+import faults  # noqa: E402
 from second import terms  # noqa: E402
 
 ROOT = os.path.dirname(TESTS)
 PROGRAM = os.path.join(ROOT, 'target', 'bin', 'terms')
 EXAMPLES = os.path.join(ROOT, 'examples')
 MASTER = os.path.join(EXAMPLES, 'master.bin')
-SOURCE = os.path.join(TESTS, 'faults', 'failing_read.c')
-COMPILER = shutil.which('cc')
 OPEN = b'O XTAF 2008-03-20\n'
 MANY = 5000  # as many opens need several reads and several writes
 SECONDS = 20
@@ -37,9 +35,9 @@ def answers(commands):
 
 # A run of terms on the example file with some words of the environment: its status,
 # what it printed and what it said on standard error.
-def run(source, **faults):
+def run(source, **words):
     ran = subprocess.run([PROGRAM], cwd=EXAMPLES, stdin=source, stdout=subprocess.PIPE, stderr=subprocess.PIPE,
-                         env={**os.environ, **faults}, timeout=SECONDS)
+                         env={**os.environ, **words}, timeout=SECONDS)
     return ran.returncode, ran.stdout, ran.stderr
 
 
@@ -51,20 +49,12 @@ def commands_in(data):
     return file
 
 
-@unittest.skipUnless(COMPILER, 'no C compiler')
-class Reads(unittest.TestCase):
-
-    @classmethod
-    def setUpClass(cls):
-        folder = tempfile.TemporaryDirectory()
-        cls.addClassCleanup(folder.cleanup)
-        cls.library = os.path.join(folder.name, 'failing_read.so')
-        subprocess.run([COMPILER, '-shared', '-fPIC', '-O1', '-o', cls.library, SOURCE], check=True)
+class Reads(faults.FailingReads):
 
     # A run on some commands in which reads of a file fail.
-    def run_with(self, commands, file=None, **faults):
+    def run_with(self, commands, file=None, **words):
         with commands_in(commands) as source:
-            return run(source, LD_PRELOAD=self.library, FAULT_FILE=file or source.name, **faults)
+            return run(source, LD_PRELOAD=self.library, FAULT_FILE=file or source.name, **words)
 
     # A master.bin whose reads are short and do not fail is read whole.
     def test_short_reads(self):
@@ -154,6 +144,6 @@ class Writes(unittest.TestCase):
 if __name__ == '__main__':
     if not os.access(PROGRAM, os.X_OK):
         sys.exit(f'faults: {PROGRAM} is no program; run `rt check terms` first')
-    if not COMPILER:
+    if not faults.COMPILER:
         print('faults: no C compiler (cc), so the tests of failed reads are skipped', file=sys.stderr)
     unittest.main()

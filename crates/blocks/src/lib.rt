@@ -1,5 +1,6 @@
 // The blocks of a master file, their checks and their headers: questions 1 to 3.
 ghost use mathlib.Core.Path.{_≡_};
+ghost use mathlib.Core.Bool.{_&&_};
 ghost use Prim.Native.Nat.{_+_, _*_, _≤_, _<_};
 ghost use lib.Dec.{eqb};
 ghost use lib.ListN.{length, getD};
@@ -121,13 +122,22 @@ fn weighted_sum(bytes: &[u8]) -> u32
     sum
 }
 
-// Whether the check of a block is right.
+// Question 2, of a lent block: whether it is one, of 512 bytes, and its check is right.
+pub fn block_check_right(b: &[u8]) -> bool
+    ensures { λ r. ⌜ r ≡ (eqb (length (now (b .entry))) 512 && checkRight (now (b .entry))) ⌝ }
+{
+    if b.len() != 512 {
+        return false;
+    }
+    (weighted_sum(b) % 65521) as usize == number_at(b, 510)
+}
+
+// The same of a block of the file.
 fn check_right(file: &[u8], k: usize) -> bool
     requires { ⌜ k < blockCount (now file) ⌝ }
     ensures { λ r. ⌜ r ≡ checkRight (blockOf (now (file .entry)) k) ⌝ }
 {
-    let b = block_at(file, k);
-    (weighted_sum(b) % 65521) as usize == number_at(b, 510)
+    block_check_right(block_at(file, k))
 }
 
 // Question 2.
@@ -154,12 +164,18 @@ fn block_kind_right(b: &[u8]) -> bool
     ((kind == 1) & (2000 <= n) & (n <= 2099)) | ((kind == 2) & (1 <= n) & (n <= 15))
 }
 
-// Whether the header of a block is right.
+// Question 3, of a lent block: whether its header is right, with the index k.
+pub fn block_header_right(b: &[u8], k: usize) -> bool
+    ensures { λ r. ⌜ r ≡ headerRight (now (b .entry)) k ⌝ }
+{
+    block_kind_right(b) & (byte_at(b, 1) == 1) & (number_at(b, 4) == k) & are_zero(b, 6, 10)
+}
+
+// The same of a block of the file.
 fn header_right(file: &[u8], k: usize) -> bool
     ensures { λ r. ⌜ r ≡ headerRight (blockOf (now (file .entry)) k) k ⌝ }
 {
-    let b = block_at(file, k);
-    block_kind_right(b) & (byte_at(b, 1) == 1) & (number_at(b, 4) == k) & are_zero(b, 6, 10)
+    block_header_right(block_at(file, k), k)
 }
 
 // Question 3.

@@ -1,5 +1,6 @@
 // Judges the master files of its data folder and prints what they hold. The second program writes the same text.
 // The file cases has each of them after its length, four bytes big-endian.
+mod blockwise;
 mod calendars;
 mod finds;
 mod text;
@@ -10,7 +11,7 @@ use crate::text::put_short;
 use crate::text::start_line;
 ghost use Prim.Native.Nat.{_<_};
 
-// The counts of a file, and of an accepted one the calendar and some records.
+// The counts of a file, and of an accepted one the calendar and some records; then the answers of loading it block by block.
 fn file_lines(file: &[u8], index: u16) {
     let loaded = master::load(file);
     let counts = loaded.counts;
@@ -24,6 +25,7 @@ fn file_lines(file: &[u8], index: u16) {
         calendars::print(file);
         finds::print(file);
     }
+    blockwise::print(file);
 }
 
 fn wide(byte: u8) -> usize

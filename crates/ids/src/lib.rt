@@ -44,7 +44,7 @@ fn byte_rises(x: u8, y: u8, rest: bool) -> bool
 }
 
 // Whether the second of two ids is greater.
-fn id_rises(a: [u8; 4], b: [u8; 4]) -> bool
+pub fn id_rises(a: [u8; 4], b: [u8; 4]) -> bool
     ensures { λ r. ⌜ r ≡ idRises a b ⌝ }
 {
     byte_rises(

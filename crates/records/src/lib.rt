@@ -1,24 +1,34 @@
 // The records of a master file's product blocks: question 7.
 ghost use mathlib.Core.Path.{_≡_};
-ghost use mathlib.Core.Bool.{not, _||_};
+ghost use mathlib.Core.Bool.{not, _&&_, _||_};
+ghost use Prim.Native.Nat.{_<_};
+ghost use lib.Dec.{eqb};
+ghost use lib.ListN.{length};
 ghost use Rattle.questions.specs.Search.{every};
-ghost use Rattle.blocks.specs.Blocks.{blockOf, isProducts, numberAt};
+ghost use Rattle.blocks.specs.Blocks.{blockCount, blockOf, isProducts, numberAt};
 ghost use Rattle.records.specs.Records.{recordOf, threeBytes, fourBytes, recordRight, recordPlaceRight, recordsRight, productsRight};
 
-// A record of a block; no bytes where the file has no such place.
+// Record k of a lent block; no bytes where it has no such place.
+fn block_record(b: &[u8], k: usize) -> &[u8]
+    requires { ⌜ length (now b) ≡ 512 ⌝ }
+    ensures { λ r. ⌜ now r ≡ recordOf (now (b .entry)) k ⌝ }
+{
+    if 15 <= k {
+        return &b[0..0];
+    }
+    let start = 16 + 32 * k;
+    let end = start + 32;
+    &b[start..end]
+}
+
+// A record of a block of the file; no bytes where the file has no such place.
 pub fn record_at(file: &[u8], n: usize, k: usize) -> &[u8]
     ensures { λ r. ⌜ now r ≡ recordOf (blockOf (now (file .entry)) n) k ⌝ }
 {
     if file.len() / 512 <= n {
         return &file[0..0];
     }
-    if 15 <= k {
-        return &file[0..0];
-    }
-    let b = blocks::block_at(file, n);
-    let start = 16 + 32 * k;
-    let end = start + 32;
-    &b[start..end]
+    block_record(blocks::block_at(file, n), k)
 }
 
 // A currency's bytes.
@@ -73,25 +83,27 @@ fn record_right(r: &[u8]) -> bool
         & blocks::are_zero(r, 20, 12)
 }
 
-// Whether a place of a block holds a record as stated, or is unused and zero.
-fn record_place_right(file: &[u8], n: usize, k: usize) -> bool
-    ensures { λ r. ⌜ r ≡ recordPlaceRight (blockOf (now (file .entry)) n) k ⌝ }
+// Whether a place of a lent block holds a record as stated, or is unused and zero.
+fn record_place_right(b: &[u8], k: usize) -> bool
+    requires { ⌜ length (now b) ≡ 512 ⌝ }
+    ensures { λ r. ⌜ r ≡ recordPlaceRight (now (b .entry)) k ⌝ }
 {
-    let count = blocks::number_at(blocks::block_at(file, n), 2);
-    let r = record_at(file, n, k);
+    let count = blocks::number_at(b, 2);
+    let r = block_record(b, k);
     if k < count {
         return record_right(r);
     }
     blocks::are_zero(r, 0, 32)
 }
 
-// The same of all places of a block.
-fn record_places_right(file: &[u8], n: usize) -> bool
-    ensures { λ r. ⌜ r ≡ every 15 (recordPlaceRight (blockOf (now (file .entry)) n)) ⌝ }
+// The same of all places of a lent block.
+fn record_places_right(b: &[u8]) -> bool
+    requires { ⌜ length (now b) ≡ 512 ⌝ }
+    ensures { λ r. ⌜ r ≡ every 15 (recordPlaceRight (now (b .entry))) ⌝ }
 {
     let mut k: usize = 0;
     while k < 15 {
-        if !record_place_right(file, n, k) {
+        if !record_place_right(b, k) {
             return false;
         }
         k += 1;
@@ -99,15 +111,25 @@ fn record_places_right(file: &[u8], n: usize) -> bool
     true
 }
 
-// Question 7, of a block; other blocks have no records.
-fn block_right(file: &[u8], n: usize) -> bool
-    ensures { λ r. ⌜ r ≡ (not (isProducts (blockOf (now (file .entry)) n)) || recordsRight (blockOf (now (file .entry)) n)) ⌝ }
+// Question 7, of a lent block: whether it is one, of 512 bytes, and its records are right; other blocks than product blocks have none.
+pub fn block_records_right(b: &[u8]) -> bool
+    ensures { λ r. ⌜ r ≡ (eqb (length (now (b .entry))) 512 && (not (isProducts (now (b .entry))) || recordsRight (now (b .entry)))) ⌝ }
 {
-    let b = blocks::block_at(file, n);
+    if b.len() != 512 {
+        return false;
+    }
     if blocks::byte_at(b, 0) != 2 {
         return true;
     }
-    record_places_right(file, n) & blocks::are_zero(b, 496, 14)
+    record_places_right(b) & blocks::are_zero(b, 496, 14)
+}
+
+// The same of a block of the file.
+fn block_right(file: &[u8], n: usize) -> bool
+    requires { ⌜ n < blockCount (now file) ⌝ }
+    ensures { λ r. ⌜ r ≡ (not (isProducts (blockOf (now (file .entry)) n)) || recordsRight (blockOf (now (file .entry)) n)) ⌝ }
+{
+    block_records_right(blocks::block_at(file, n))
 }
 
 // Question 7.

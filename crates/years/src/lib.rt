@@ -4,8 +4,9 @@ use calendar::Cover;
 ghost use mathlib.Core.Path.{_≡_};
 ghost use Prim.Native.Nat.{_≤_, _<_};
 ghost use Rattle.questions.specs.Search.{every};
+ghost use Rattle.calendar.specs.Trading.{mayClose, bitsClean};
 ghost use Rattle.blocks.specs.Blocks.{blockCount, blockOf, numberAt, zeros};
-ghost use Rattle.years.specs.Calendars.{yearCount, inOrder, orderRight, mapsFrom, calendarBlocks, calendarOf, weeksRight};
+ghost use Rattle.years.specs.Calendars.{yearCount, inOrder, orderRight, mapBit, dayClean, blockClean, mapsFrom, calendarBlocks, calendarOf, weeksRight};
 
 // How many calendar blocks the file has.
 pub fn year_count(file: &[u8]) -> usize
@@ -68,6 +69,46 @@ pub fn order_right(file: &[u8]) -> bool
         return false;
     }
     all_in_order(file, years)
+}
+
+// Whether day n of the year, from 0, has its bit in the map that begins at a byte of a lent calendar block.
+pub fn map_bit(b: &[u8], at: u16, n: u16) -> bool
+    ensures { λ r. ⌜ r ≡ mapBit at (now (b .entry)) n ⌝ }
+{
+    let byte = blocks::byte_at(b, (at as usize) + (n / 8) as usize);
+    (byte >> (7 - n % 8)) % 2 == 1
+}
+
+// Question 5, of a day of a year: its bits in the two maps of a lent calendar block.
+fn day_clean(b: &[u8], year: u16, n: u16) -> bool
+    ensures { λ r. ⌜ r ≡ bitsClean (mayClose year n) (mapBit 16 (now (b .entry)) n) (mapBit 62 (now (b .entry)) n) ⌝ }
+{
+    if !map_bit(b, 16, n) {
+        return !map_bit(b, 62, n);
+    }
+    calendar_questions::may_close(year, n)
+}
+
+// The same of every day.
+fn days_clean(b: &[u8]) -> bool
+    ensures { λ r. ⌜ r ≡ every 368 (dayClean (now (b .entry))) ⌝ }
+{
+    let year = blocks::number_at(b, 2) as u16;
+    let mut n: u16 = 0;
+    while n < 368 {
+        if !day_clean(b, year, n) {
+            return false;
+        }
+        n += 1;
+    }
+    true
+}
+
+// Question 5, of a lent calendar block. Of a whole file it is asked of the calendar, eight weeks at a time.
+pub fn block_clean(b: &[u8]) -> bool
+    ensures { λ r. ⌜ r ≡ blockClean (now (b .entry)) ⌝ }
+{
+    days_clean(b) & blocks::are_zero(b, 108, 402)
 }
 
 // The maps that begin at a byte of the calendar blocks, 46 bytes for each year, then zeros.

@@ -1,38 +1,18 @@
-use mathlib.Core.Path.{sym, _∙_}
 use Prim.Native.Nat.{_-_}
-use borrow.Author.Tests.{eq-eqb, ne-eqb}
-use Rattle.records.specs.Records.{recordsRight}
+use borrow.Author.Tests.{eq-eqb}
 use Rattle.records.proofs.block_right.Statement.{statement}
 use Rattle.records.proofs.block_right.Tie as tie
 
 block-at-requires : tie.Need-block-at-requires
 block-at-requires c κs = tt
 
-byte-at-requires : tie.Need-byte-at-requires
-byte-at-requires c κs = tt
+block-records-right-requires : tie.Need-block-records-right-requires
+block-records-right-requires c κs = tt
 
 returns : tie.Need-returns
-returns c = simp (← c .before .before .block-at .ensures .0, ne-eqb _ _ (λ h. c .if1 .taken (c .before .byte-at .ensures ∙ h)))
-
-record-places-right-requires : tie.Need-record-places-right-requires
-record-places-right-requires c κs = tt
-
-are-zero-requires : tie.Need-are-zero-requires
-are-zero-requires c κs = tt
-
-returns-2 : tie.Need-returns-2
-unfolding recordsRight
-returns-2 c =
-    let d = c .before .before in
-    simp (← d .before .before .block-at .ensures .0, eq-eqb _ _ (sym (d .before .byte-at .ensures) ∙ d .if1 .left), c .are-zero .ensures, c .before .record-places-right .ensures)
+returns c =
+    let d = c .before in
+    rw (c .block-records-right .ensures, eq-eqb _ _ (d .block-at .ensures .1 (d .before .before .pre)), d .block-at .ensures .0)
 
 pub block-right-spec : {M : Type 1} → statement M
-block-right-spec =
-    tie.close
-    (tie.spec
-    block-at-requires
-    byte-at-requires
-    returns
-    record-places-right-requires
-    are-zero-requires
-    returns-2)
+block-right-spec = tie.close (tie.spec block-at-requires block-records-right-requires returns)

@@ -21,7 +21,7 @@ loop-holds : tie.Need-loop-holds Inv-loop μ-loop
 loop-holds c = (omega arith, every-none _)
 
 block-right-requires : tie.Need-block-right-requires Inv-loop μ-loop
-block-right-requires c κs = tt
+block-right-requires c κs = c .loop-test .taken
 
 returns : tie.Need-returns Inv-loop μ-loop
 unfolding productsRight

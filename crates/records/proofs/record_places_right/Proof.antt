@@ -5,22 +5,21 @@ use native.Mathlib.Omega.{arith}
 use Rattle.questions.specs.Search.{every}
 use Rattle.questions.proofs.Search.{every-none, every-more, every-not}
 use Rattle.questions.proofs.Bools.{said-no, said-yes}
-use Rattle.blocks.specs.Blocks.{blockOf}
 use Rattle.records.specs.Records.{recordPlaceRight}
 use Rattle.records.proofs.record_places_right.Statement.{statement}
 use Rattle.records.proofs.record_places_right.Tie as tie
 
 abbrev Inv-loop : tie.InvT-loop
-Inv-loop file n k₀ k = (k ≤ 15) × (every k (recordPlaceRight (blockOf file n)) ≡ true)
+Inv-loop b k₀ k = (k ≤ 15) × (every k (recordPlaceRight b) ≡ true)
 
 abbrev μ-loop : tie.MeasureT-loop
-μ-loop file n k₀ k = 15 - k
+μ-loop b k₀ k = 15 - k
 
 loop-holds : tie.Need-loop-holds Inv-loop μ-loop
 loop-holds c = (omega arith, every-none _)
 
 record-place-right-requires : tie.Need-record-place-right-requires Inv-loop μ-loop
-record-place-right-requires c κs = tt
+record-place-right-requires c κs = c .before .before .before .pre
 
 returns : tie.Need-returns Inv-loop μ-loop
 returns c = sym (every-not _ _ _ (said-no (c .before .record-place-right .ensures) (c .if1 .taken)) (omega arith))

@@ -1,0 +1,26 @@
+use Prim.Native.Nat.{_-_}
+use native.Mathlib.Omega.{arith}
+use borrow.Author.Tests.{eq-eqb, ne-eqb}
+use Rattle.blocks.specs.Blocks.{checkRight}
+use Rattle.blocks.proofs.block_check_right.Statement.{statement}
+use Rattle.blocks.proofs.block_check_right.Tie as tie
+
+returns : tie.Need-returns
+returns c = rw (ne-eqb _ _ (c .if1 .taken))
+
+weighted-sum-requires : tie.Need-weighted-sum-requires
+weighted-sum-requires c κs = c .if1 .left
+
+cast-result : tie.Need-cast-result
+cast-result c = omega arith
+
+number-at-requires : tie.Need-number-at-requires
+number-at-requires c κs = tt
+
+returns-2 : tie.Need-returns-2
+unfolding checkRight
+returns-2 c = simp (c .number-at .ensures .0, c .before .weighted-sum .ensures, eq-eqb _ _ (c .before .before .if1 .left))
+
+pub block-check-right-spec : {M : Type 1} → statement M
+block-check-right-spec =
+    tie.close (tie.spec returns weighted-sum-requires cast-result number-at-requires returns-2)

@@ -1,0 +1,56 @@
+use mathlib.Core.Path.{_∙_, sym, ap}
+use native.Mathlib.Omega.{arith}
+use Rattle.questions.proofs.Bools.{said-no, said-yes}
+use Rattle.intake.specs.declared.Finished.{Finished}
+use Rattle.intake.specs.Intake.{finishedAnswer}
+use Rattle.intake.proofs.Steps.{lowest-small, finish-early, finish-refused, finish-accepted}
+use Rattle.intake.proofs.Intake.finish.Statement.{statement}
+use Rattle.intake.proofs.Intake.finish.Tie as tie
+
+all-taken-requires : tie.Need-all-taken-requires
+all-taken-requires c κs = tt
+
+ended-requires : tie.Need-ended-requires
+ended-requires c κs = tt
+
+returns : tie.Need-returns
+returns c =
+    let e = c .ended .ensures in
+    let no = c .before in
+    (ap finishedAnswer e ∙ sym (finish-early _ (said-no (no .before .all-taken .ensures) (no .if1 .taken))), ap (λ (r : Finished). r .state) e)
+
+cast-ended : tie.Need-cast-ended
+cast-ended c =
+    let yes = c .before in
+    omega (arith, lowest-small _ (said-yes (yes .before .all-taken .ensures) (yes .if1 .left)))
+
+ended-requires-2 : tie.Need-ended-requires-2
+ended-requires-2 c κs = tt
+
+returns-2 : tie.Need-returns-2
+returns-2 c =
+    let e = c .ended2 .ensures in
+    let yes = c .before .before in
+    (ap finishedAnswer e ∙ sym (finish-refused _ (said-yes (yes .before .all-taken .ensures) (yes .if1 .left)) (c .before .if2 .taken)), ap (λ (r : Finished). r .state) e)
+
+ended-requires-3 : tie.Need-ended-requires-3
+ended-requires-3 c κs = tt
+
+returns-3 : tie.Need-returns-3
+returns-3 c =
+    let e = c .ended3 .ensures in
+    let yes = c .before .before in
+    (ap finishedAnswer e ∙ sym (finish-accepted _ (said-yes (yes .before .all-taken .ensures) (yes .if1 .left)) (c .before .if2 .left)), ap (λ (r : Finished). r .state) e)
+
+pub finish-spec : {M : Type 1} → statement M
+finish-spec =
+    tie.close
+    (tie.spec
+    all-taken-requires
+    ended-requires
+    returns
+    cast-ended
+    ended-requires-2
+    returns-2
+    ended-requires-3
+    returns-3)

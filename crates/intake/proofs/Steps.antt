@@ -1,0 +1,100 @@
+-- Laws of one block that is taken: days, refusals, states.
+-- Assumes nothing.
+use Prim.Native.Nat.{ℕ, suc, _+_, _-_, _*_, _≤_, _<_}
+use mathlib.Core.Path.{_≡_, refl, _∙_, sym, ap}
+use mathlib.Core.Bool.{Bool, true, false, not, _&&_}
+use mathlib.Core.List.{List}
+use native.Mathlib.Numerals.{add-one}
+use native.Mathlib.Omega.{arith}
+use lib.Dec.{eqb, leb, ltb}
+use lib.ListN.{length}
+use borrow.Author.Tests.{eq-eqb, ne-eqb, eqb-true, leb-true, ltb-true, lt-ltb, le-ltb}
+use Rattle.questions.specs.Questions.{firstNo, answer}
+use Rattle.questions.proofs.Bools.{both}
+use Rattle.days.specs.Gregorian.{weekdayOf}
+use Rattle.days.specs.Dates.{yearStart}
+use Rattle.blocks.specs.Blocks.{yearOfBlock}
+use Rattle.years.specs.Calendars.{mapBit}
+use Rattle.intake.specs.declared.Intake.{Intake}
+use Rattle.intake.specs.Intake.{dayTrades, idleNext, idleThrough, plausible, mayTake, allTaken, finishCall, tooEarly}
+
+-- a test that asks for 512 bytes first, of a block that has them
+pub of-block : {r test : Bool} (b : List ℕ) → length b ≡ 512 → r ≡ (eqb (length b) 512 && test) → r ≡ test
+of-block b h e = rw (eq-eqb (length b) 512 h) at e
+
+module _ (b : List ℕ) (n start w : ℕ) (s : start ≡ yearStart (yearOfBlock b)) (e : w ≡ weekdayOf (start + n)) where
+  week : w ≡ weekdayOf (yearStart (yearOfBlock b) + n)
+  week = e ∙ ap (λ (d : ℕ). weekdayOf (d + n)) s
+
+  pub weekend : 5 ≤ w → false ≡ dayTrades b n
+  unfolding dayTrades
+  weekend h = rw (sym week, le-ltb w 5 h)
+
+  pub weekday-trades : (r : Bool) → w < 5 → r ≡ mapBit 16 b n → not r ≡ dayTrades b n
+  unfolding dayTrades
+  weekday-trades r h q = rw (sym week, lt-ltb w 5 h, q)
+
+module _ (b : List ℕ) (idle : ℕ) where
+  pub through-none : idle ≡ idleThrough b idle 0
+  unfolding idleThrough
+  through-none = refl
+
+  -- one day more
+  pub through-more : (n run r : ℕ) (t : Bool) → t ≡ dayTrades b n → run ≡ idleThrough b idle n → r ≡ idleNext t run → r ≡ idleThrough b idle (n + 1)
+  unfolding idleThrough
+  through-more n run r t e f g = g ∙ rw (e, f, add-one n)
+
+  pub week-goes-on : (n r : ℕ) → r ≡ idleThrough b idle (n + 1) → r < 7 → ltb (idleThrough b idle (suc n)) 7 ≡ true
+  week-goes-on n r e h = lt-ltb (idleThrough b idle (suc n)) 7 (omega (arith, e ∙ ap (idleThrough b idle) (add-one n), h))
+
+  pub week-ends : (n r : ℕ) → r ≡ idleThrough b idle (n + 1) → 7 ≤ r → ltb (idleThrough b idle (suc n)) 7 ≡ false
+  week-ends n r e h = le-ltb (idleThrough b idle (suc n)) 7 (omega (arith, e ∙ ap (idleThrough b idle) (add-one n), h))
+
+-- what a plausible state has
+pub record Fits (s : Intake) : Type 0 where
+  pub announced : s .announced ≤ 128
+  pub lowest : s .lowest ≤ 8
+  pub years : s .years ≤ s .taken
+  pub idle : s .idle ≤ 7
+  pub records : s .records ≤ 15 * s .taken
+
+pub fits : (s : Intake) → plausible s ≡ true → Fits s
+unfolding plausible
+fits s e =
+    let (a, p) = both (leb 2 (s .announced)) _ e in
+    let (b, q) = both (leb (s .announced) 128) _ p in
+    let (c, r) = both (leb (s .taken) (s .announced)) _ q in
+    let (d, t) = both (leb (s .lowest) 8) _ r in
+    let (f, u) = both (leb (s .years) (s .taken)) _ t in
+    let (g, h) = both (leb (s .idle) 7) (leb (s .records) (15 * s .taken)) u in
+    record {
+      announced = leb-true _ _ b;
+      lowest = leb-true _ _ d;
+      years = leb-true _ _ f;
+      idle = leb-true _ _ g;
+      records = leb-true _ _ h;
+    }
+
+-- what a block that may be taken needs
+pub takeable : (s : Intake) (b : List ℕ) → mayTake s b ≡ true → (s .taken < 128) × (s .years ≤ s .taken) × (s .idle ≤ 7) × (s .records ≤ 15 * s .taken) × (length b ≡ 512)
+takeable s b e =
+    let (p, q) = both (plausible s) (ltb (s .taken) (s .announced) && eqb (length b) 512) e in
+    let (t, l) = both (ltb (s .taken) (s .announced)) (eqb (length b) 512) q in
+    let x = fits s p in
+    (omega (arith, ltb-true (s .taken) (s .announced) t, x .announced), x .years, x .idle, x .records, eqb-true (length b) 512 l)
+
+module _ (s : Intake) where
+  pub lowest-small : allTaken s ≡ true → s .lowest ≤ 8
+  lowest-small e = fits s (both (plausible s) (eqb (s .taken) (s .announced)) e .0) .lowest
+
+  pub finish-early : allTaken s ≡ false → finishCall s ≡ tooEarly
+  unfolding finishCall answer firstNo
+  finish-early e = rw e
+
+  pub finish-refused : allTaken s ≡ true → (s .lowest ≡ 0 → ⊥) → finishCall s ≡ record { refusal = s .lowest; value = record { years = 0; records = 0 } }
+  unfolding finishCall answer firstNo
+  finish-refused e h = rw (e, ne-eqb (s .lowest) 0 h, ne-eqb (s .lowest) 0 h)
+
+  pub finish-accepted : allTaken s ≡ true → s .lowest ≡ 0 → finishCall s ≡ record { refusal = 0; value = record { years = s .years; records = s .records } }
+  unfolding finishCall answer firstNo
+  finish-accepted e h = rw (e, eq-eqb (s .lowest) 0 h)
