@@ -20,17 +20,18 @@ from tables.files import (EASTER_ALONE, EASTER_SECOND, EXAMPLE, FIRST_DAYS_WEEKL
                           TWO_YEARS_WEEKLY, WEEKLY, WEEKLY_2010, YEAR_END_SECOND, Numbers, accepted_files,
                           all_files, calendar_of, easter_sunday, file_name, first_date, last_date, openable,
                           opening_date, product_of, refused_files, refused_second_maps, refused_weekly_files)
-from tables.moments import PRICES, push_calls, some_calls, some_value
-from tables.script import Script, book_call, make
+from tables.moments import PRICES, push_calls, some_calls, some_calls_and_reopenings, some_value
+from tables.reopenings import reopened_tables
+from tables.script import CALLS, Script, book_call, make
 
 
 # ---- Mixed histories ----
 
 # A history of mixed calls, with value calls among them.
-def mixed_history(script, numbers, number, code, date, length):
+def mixed_history(script, numbers, number, code, date, length, choose=some_calls):
     script.open(number, code, date)
     for _ in range(length):
-        make(script, some_calls(numbers, script.book))
+        make(script, choose(numbers, script.book))
         if numbers.below(3) == 0:
             some_value(script, numbers)
 
@@ -249,12 +250,12 @@ def value_calls(script):
 # ---- Whole histories in one call ----
 
 # The calls of a mixed history, chosen by the book alone.
-def calls_of(numbers, number, code, date, length):
+def calls_of(numbers, number, code, date, length, choose=some_calls):
     item = product_of(number, code)
     book = Book(item.kind, item.group, calendar_of(number), date)
     calls = []
     while len(calls) < length:
-        more = some_calls(numbers, book)[:length - len(calls)]
+        more = choose(numbers, book)[:length - len(calls)]
         calls += [(call, book_call(book, *call)) for call in more]
     return [call for call, _ in calls]
 
@@ -269,14 +270,14 @@ def whole_histories(script, numbers):
         script.history(number, code, date, calls_of(numbers, number, code, date, length))
 
 
-# A buffer longer than the answers; one too short, and lists of unequal length,
-# with which no call is made; an open that is refused.
+# A buffer longer than the answers; one too short, and numbers that are no whole
+# calls, with which no call is made; an open that is refused.
 def odd_histories(script, numbers):
     calls = calls_of(numbers, EXAMPLE, b'AXA ', 3000, 5)
-    script.history(EXAMPLE, b'AXA ', 3000, calls, buffer_lent=17)
-    script.history(EXAMPLE, b'AXA ', 3000, calls, buffer_lent=14)
-    script.history(EXAMPLE, b'AXA ', 3000, calls, days_lent=4)
-    script.history(EXAMPLE, b'AXA ', 3000, calls, days_lent=6)
+    script.history(EXAMPLE, b'AXA ', 3000, calls, buffer_lent=22)
+    script.history(EXAMPLE, b'AXA ', 3000, calls, buffer_lent=19)
+    script.history(EXAMPLE, b'AXA ', 3000, calls, numbers_lent=19)
+    script.history(EXAMPLE, b'AXA ', 3000, calls, numbers_lent=21, buffer_lent=24)
     script.history_without_open(EXAMPLE, b'NONE', 3000, calls)
 
 
@@ -538,13 +539,60 @@ def dues_around_second_maps(script):
                 script.due(day)
 
 
+# ---- A holiday called off ----
+
+# 02, note 9: "calls on a table, monthly and weekly": reopenings between rolls and
+# closures, on every kind, in calendars with second maps and without.
+def mixed_reopenings(script, numbers):
+    for number in (THREE_YEARS, SIXTEEN_YEARS, SIXTEEN_YEARS_SECOND, TWO_YEARS_WEEKLY):
+        for code in openable(number):
+            date = opening_date(number, code) + numbers.below(300)
+            if date <= last_date(number, code):
+                mixed_history(script, numbers, number, code, date, 12, some_calls_and_reopenings)
+
+
+# 02, note 9: "Histories with reopenings in them are held to the same statement as
+# those without".
+def whole_reopenings(script, numbers):
+    for number, code, date, length in ((EXAMPLE, b'AXA ', 2930, 120), (SEVEN_YEARS, b'ENEL', 6950, 120),
+                                       (SIXTEEN_YEARS_SECOND, b'FIAT', 30700, 256),
+                                       (SIXTEEN_YEARS_SECOND, b'FIA5', 33000, 120),
+                                       (TWO_YEARS_WEEKLY, b'AXAW', 2600, 120),
+                                       (SIXTEEN_YEARS_WEEKLY, b'ENIW', 30700, 256)):
+        script.history(number, code, date, calls_of(numbers, number, code, date, length, some_calls_and_reopenings))
+
+
+# Numbers of whole calls, but not of all of them; numbers that are no whole calls; a
+# buffer that has no room for the last number; arguments that no two bytes hold, each
+# 65,536 more than one that is accepted, which get 11; an open that is refused.
+def odd_reopenings(script):
+    calls = [(letter, dates.day_of(2008, 3, day)) for letter, day in (
+        ('C', 20), ('E', 21), ('E', 20), ('R', 20), ('C', 21), ('E', 21))]
+    start = dates.day_of(2008, 3, 17)
+    for numbers_lent, buffer_lent in ((20, 24), (20, 20), (16, 23), (4, 4), (0, 0), (22, 24), (23, 24), (1, 4),
+                                      (24, 23), (24, 20), (20, 18)):
+        script.history(EXAMPLE, b'AXA ', start, calls, numbers_lent, buffer_lent)
+    script.history(EXAMPLE, b'AXA ', start, [one for letter, day in calls for one in (
+        (letter, day + 65536), (letter, day + 255 * 65536), (letter, day))])
+    script.history_without_open(EXAMPLE, b'NONE', start, calls)
+
+
+# 02, note 9, whole.
+def all_of_reopenings(script, numbers):
+    reopened_tables(script)
+    mixed_reopenings(script, numbers)
+    whole_reopenings(script, numbers)
+    odd_reopenings(script)
+
+
 # ---- The whole script ----
 
-# 01, Questions, and 02, notes 3 and 5: the numbers that each call can give back.
+# 01, Questions, and 02, notes 3, 5 and 9: the numbers that each call can give back.
 ANSWERS = {
     'O': (0, 1, 2, 3, 4, 5, 6, 7, 8, 9, 11, 16, 24),
     'R': (0, 10, 11, 12, 16),
     'C': (0, 10, 11, 13, 14, 15, 16),
+    'E': (0, 10, 11, 13, 26, 27),
     'L': (0, 10, 18),
     'U': (0, 10, 11, 17),
     'T': (0, 10, 19, 20),
@@ -557,13 +605,21 @@ ANSWERS = {
 STEPS = {'third Friday': (0, 1, 2, 3, 4), 'Italian': (0, 1, 2, 3, 6), 'weekly': (0, 1, 2, 3, 4)}
 
 
-# What the script must have: every answer of every call, closures that push the
-# front month or Friday out, for each kind, with an Italian group and with another,
-# and every number of days stepped back.
+# What happens on tables of each kind, with an Italian group and with another:
+# closures that push the front month or Friday out; reopenings that 27 refuses, accepted
+# ones, and of these the ones of a day of the second map and the ones that move the
+# front's day and another day later.
+EVENTS = ('pushed', 'refused by 27', 'reopened', 'reopened in both maps', 'front later', 'another later')
+
+
+# What the script must have: every answer of every call, also in whole histories, these
+# events, and every number of days stepped back.
 def wanted():
     answers = {(letter, number) for letter, given in ANSWERS.items() for number in given}
-    pushed = {('pushed', kind, italian) for kind in product.KINDS for italian in (False, True)}
-    return answers | pushed | {('back', back, rule) for rule, steps in STEPS.items() for back in steps}
+    in_histories = {('history', letter, number) for letter in CALLS for number in ANSWERS[letter]}
+    events = {(event, kind, italian) for event in EVENTS for kind in product.KINDS for italian in (False, True)}
+    return (answers | in_histories | events
+            | {('back', back, rule) for rule, steps in STEPS.items() for back in steps})
 
 
 # The script with all its histories.
@@ -595,9 +651,10 @@ def whole_script():
     all_of_weekly_options(script, Numbers(SEED + 7))
     dues_from_any_day(script)
     dues_around_second_maps(script)
+    all_of_reopenings(script, Numbers(SEED + 9))
     if wanted() - script.seen:
         raise ValueError(f'the script has no {sorted(wanted() - script.seen)}')
-    others = {answer for answer in script.seen - wanted() if answer[0] in ANSWERS}
+    others = {answer for answer in script.seen - wanted() if answer[0] in (*ANSWERS, 'history')}
     if others:
         raise ValueError(f'no call may answer {sorted(others)}')
     return script

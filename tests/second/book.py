@@ -1,5 +1,5 @@
-"""The book of demand 3 (01, "The table"; 02, notes 2 and 3). It knows nothing of
-table.py."""
+"""The book of demand 3 (01, "The table"; 02, notes 2, 3 and 9). It knows nothing
+of table.py."""
 
 from second import listing, trading
 
@@ -76,3 +76,17 @@ class Book:
         if not self._fits(closed, self.date):
             return 16, 0, 0
         return self._accept(closed, self.date)
+
+    # 02, note 9: "the book takes a reopening like a close, with its own questions
+    # except 10 and the day cleared in both maps": 11, 13, 26, 27.
+    def reopen(self, day):
+        if not trading.in_cover(self.calendar, day):
+            return 11, 0, 0
+        if not day > self.date:
+            return 13, 0, 0
+        if not trading.is_closed_weekday(self.calendar, day):
+            return 26, 0, 0
+        reopened = trading.reopen_day(self.calendar, day)
+        if not listing.front_stays(self.calendar, reopened, self.group, self.kind, self.date):
+            return 27, 0, 0
+        return self._accept(reopened, self.date)

@@ -1,5 +1,5 @@
 """Last trading days, listed months and listed Fridays (01, "Last trading day",
-"Listed months", question 16; 02, notes 1, 2 and 3).
+"Listed months", question 16; 02, notes 1, 2, 3 and 9).
 
 The key of a maturity is its month number; that of a weekly option's is the day
 number of its Friday.
@@ -214,3 +214,10 @@ def keys_before(calendar, kind, front):
 # the cover's first day?" The other kinds are not asked.
 def passes_24(calendar, kind, date):
     return not product.is_weekly(kind) or date >= trading.first_day(calendar) + 7
+
+
+# 02, note 9, question 27: "does the front maturity stay the same month or Friday,
+# whatever its day, so that none before it comes back?", with the calendar before and
+# after a reopening.
+def front_stays(before, after, group, kind, date):
+    return front_key(after, group, kind, date) == front_key(before, group, kind, date)

@@ -1,5 +1,5 @@
 """The table of listed maturities and its calls (01, "The table", "Questions";
-02, notes 2 to 5).
+02, notes 2 to 5 and 9).
 
 Every call answers first the number of the question that refused it, or 0.
 """
@@ -165,6 +165,23 @@ def close(table, day):
     if not listing_in_cover(closed):
         return 16, table, 0, 0
     return (0, *relist(closed))
+
+
+# 02, note 9: "It asks 10, 11, 13, then the new questions", 26 and 27, "and clears the
+# day in both maps."
+def reopen(table, day):
+    if not is_sound(table):
+        return 10, table, 0, 0
+    if not trading.in_cover(table.calendar, day):
+        return 11, table, 0, 0
+    if day <= table.date:
+        return 13, table, 0, 0
+    if not trading.is_closed_weekday(table.calendar, day):
+        return 26, table, 0, 0
+    calendar = trading.reopen_day(table.calendar, day)
+    if not listing.front_stays(table.calendar, calendar, table.product.group, table.product.kind, table.date):
+        return 27, table, 0, 0
+    return (0, *relist(replace(table, calendar=calendar)))
 
 
 # ---- Calls that give values ----

@@ -1,5 +1,5 @@
 """The cover, closed days, trading days and exchange days (01, "Days and months",
-questions 5, 6 and 15; 02, notes 4 and 5)."""
+questions 5, 6 and 15; 02, notes 4, 5 and 9)."""
 
 from dataclasses import dataclass, replace
 from functools import lru_cache
@@ -193,6 +193,19 @@ def close_day(calendar, day):
 # trading day?"
 def every_week_trades_without(calendar, day):
     return every_week_trades(close_day(calendar, day))
+
+
+# 02, note 9, question 26: "is the day a closed Monday to Friday?"
+def is_closed_weekday(calendar, day):
+    return is_closed(calendar, day) and dates.is_weekday(day)
+
+
+# 02, note 9: reopening "clears the day in both maps". A day outside the cover
+# changes nothing.
+def reopen_day(calendar, day):
+    if not in_cover(calendar, day):
+        return calendar
+    return replace(calendar, closed=calendar.closed - {day}, exchange=calendar.exchange - {day})
 
 
 # 01, Last trading day: a day "if it is a trading day, else the latest trading

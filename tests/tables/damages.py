@@ -1,10 +1,11 @@
 """Damaged tables: one field of a sound table changed, and every call on it (01,
-"A table is sound if"; 02, notes 1 to 5)."""
+"A table is sound if"; 02, notes 1 to 5 and 9)."""
 
 from second import dates, listing, product, table, trading
 from tables.files import (EASTER_SECOND, EXAMPLE, FIRST_DAYS_WEEKLY, ONE_YEAR, SEVEN_YEARS, SEVEN_YEARS_SECOND,
                           SIXTEEN_YEARS, SIXTEEN_YEARS_2005, SIXTEEN_YEARS_SECOND, SIXTEEN_YEARS_WEEKLY,
                           THREE_YEARS_2005, THREE_YEARS_WEEKLY, WEEKLY_2010, first_date, opening_date)
+from tables.moments import closed_after
 from tables.script import (BACK, CLOSED, CURRENCY, DATE, DAY, EXCHANGE, FIRST_YEAR, GIVEN, GROUP, ID, KEY, KIND,
                            MARKET, NUMBER, SIZE, TICK, YEARS)
 
@@ -127,12 +128,18 @@ def day_to_close(now):
     return day
 
 
+# The first day after a sound table's date that it can reopen; the date, which 13
+# refuses, where there is none.
+def day_to_reopen(now):
+    return next((day for day in closed_after(now.calendar, now.date) if table.reopen(now, day)[0] == 0), now.date)
+
+
 # Every call, with arguments that the saved table would accept: the refusals.
 def every_call(script):
     now = script.saved
     return {script.roll(now.date), script.close(day_to_close(now)),
             script.last_trading_day(now.places[0][0]), script.due(now.places[0][1]),
-            script.tick(100), script.cash(1, 100, 200)}
+            script.tick(100), script.cash(1, 100, 200), script.reopen(day_to_reopen(now))}
 
 
 # 01, Questions: "the number of the first answered no": 10 also where later
@@ -140,7 +147,8 @@ def every_call(script):
 def every_call_refused_twice(script):
     refusals = {script.roll(65535), script.roll(0), script.close(65535), script.close(0),
                 script.last_trading_day(65535), script.due(65535), script.due(5),
-                script.tick(0), script.tick(7), script.cash(0, 0, 0), script.cash(0, 100, 100)}
+                script.tick(0), script.tick(7), script.cash(0, 0, 0), script.cash(0, 100, 100),
+                script.reopen(65535), script.reopen(0), script.reopen(5)}
     if refusals != {10}:
         raise ValueError('a damaged table is refused by another question than 10')
 

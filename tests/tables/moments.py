@@ -1,5 +1,5 @@
 """Calls that fit the moment of a history: the dates, days, months and prices that
-decide between answers (01, "Questions"; 02, note 3)."""
+decide between answers (01, "Questions"; 02, notes 3 and 9)."""
 
 from second import dates, listing, product, trading
 
@@ -25,7 +25,7 @@ def some_day(numbers, book):
     soon = book.date + 1 + numbers.below(60)
     return numbers.one_of((
         front, front - 1, front, last, last - 1, soon, soon, soon - dates.weekday(soon) + 5,
-        numbers.one_of(sorted(book.calendar.closed)), book.date - numbers.below(3),
+        numbers.one_of(sorted(book.calendar.closed) or [soon]), book.date - numbers.below(3),
         trading.last_day(book.calendar) + 1 + numbers.below(400),
         max(0, trading.first_day(book.calendar) - 1 - numbers.below(400)),
     ))
@@ -42,6 +42,52 @@ def push_calls(book):
     if earlier is None:
         return [('C', last)]
     return [('R', earlier), ('C', before), ('R', last - 1), ('C', last)]
+
+
+# The closed days after a date, or the day itself where there are none.
+def closed_after(calendar, date):
+    return sorted(day for day in calendar.closed if day > date) or [date]
+
+
+# 02, note 9. A day to reopen: one of the next closed days, one of the days from a last
+# trading day to its anchor, a day of the second map, a closed day, a last trading day,
+# a Saturday, a day not after the date, one outside the cover.
+def some_closed_day(numbers, book):
+    after = closed_after(book.calendar, book.date)
+    _, last, back, _ = numbers.one_of(book.maturities)
+    soon = book.date + 1 + numbers.below(60)
+    marked = [day for day in after if day in book.calendar.exchange] or after
+    return numbers.one_of((
+        after[0], after[0], numbers.one_of(after[:6]), last + back, last + min(back, 1), numbers.one_of(marked),
+        numbers.one_of(after), last, soon - dates.weekday(soon) + 5, book.date - numbers.below(3),
+        trading.last_day(book.calendar) + 1 + numbers.below(400),
+        max(0, trading.first_day(book.calendar) - 1 - numbers.below(400)),
+    ))
+
+
+# 02, note 9, question 27: the front month or Friday pushed out, then the day that did
+# it reopened, which would bring it back.
+def push_and_reopen_calls(book):
+    calls = push_calls(book)
+    return [*calls, ('E', calls[-1][1])]
+
+
+# A last trading day closed and reopened.
+def close_and_reopen_calls(numbers, book):
+    _, last, _, _ = numbers.one_of(book.maturities)
+    return [('C', last), ('E', last)]
+
+
+# Rolls, closes and reopenings.
+def some_calls_and_reopenings(numbers, book):
+    choice = numbers.below(10)
+    if choice == 0:
+        return push_and_reopen_calls(book)
+    if choice == 1:
+        return close_and_reopen_calls(numbers, book)
+    if choice < 6:
+        return [('E', some_closed_day(numbers, book))]
+    return some_calls(numbers, book)
 
 
 # A roll, a close, or calls that push the front month out.

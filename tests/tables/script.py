@@ -1,6 +1,6 @@
 """A script of table calls: its records, the lines that they must print, and the
-table and the book that they leave (01, "The table", "Questions"; 02, notes 2 and
-3)."""
+table and the book that they leave (01, "The table", "Questions"; 02, notes 2, 3
+and 9)."""
 
 from dataclasses import replace
 from functools import lru_cache
@@ -11,6 +11,12 @@ from second.trading import Calendar
 
 RECORD = 16
 SUM_MODULUS = 65521
+
+# The calls that a history may hold, by the letters of their records.
+CALLS = {'R': 'roll', 'C': 'close', 'E': 'reopen'}
+
+# How many numbers a call of a whole history is handed over as, and answered with.
+NUMBERS_TO_A_CALL = 4
 
 
 # ---- Records of the script ----
@@ -193,21 +199,43 @@ class Script:
                 or held != (book.calendar, book.date, book.maturities, book.given)):
             raise Differs(f'after record {len(self.records)}: {outcome} and {answer}')
 
-    def roll(self, date):
-        outcome = table.roll(self.table, date)
-        answer = self.book.roll(date) if self.book else None
-        refusal = self.write_outcome(record('R', number=date), outcome)
+    # A call of a history on the table and on the book: its outcome.
+    def call(self, letter, day):
+        outcome = getattr(table, CALLS[letter])(self.table, day)
+        answer = book_call(self.book, letter, day) if self.book else None
+        self.write_outcome(record(letter, number=day), outcome)
         self.compare_with_book(outcome, answer)
-        return refusal
+        return outcome
+
+    # Something seen with the product's kind, and whether its group is Italian.
+    def see(self, what):
+        item = self.table.product
+        self.seen.add((what, item.kind, product.is_italian(item.group)))
+
+    def roll(self, date):
+        return self.call('R', date)[0]
 
     def close(self, day):
-        outcome = table.close(self.table, day)
-        answer = self.book.close(day) if self.book else None
-        refusal = self.write_outcome(record('C', number=day), outcome)
-        self.compare_with_book(outcome, answer)
-        if outcome[3]:
-            item = self.table.product
-            self.seen.add(('pushed', item.kind, product.is_italian(item.group)))
+        refusal, _, _, left = self.call('C', day)
+        if left:
+            self.see('pushed')
+        return refusal
+
+    # 02, note 9. Seen: reopenings that 27 refuses, and accepted ones; of these the ones
+    # of a day of the second map, and the ones that move a listed day, the front's or
+    # another, to a later one.
+    def reopen(self, day):
+        old = self.table
+        refusal, now, _, _ = self.call('E', day)
+        if refusal == 27:
+            self.see('refused by 27')
+        if refusal == 0:
+            self.see('reopened')
+            if day in old.calendar.exchange:
+                self.see('reopened in both maps')
+            for place, (before, after) in enumerate(zip(old.places, now.places, strict=True)):
+                if after[1] > before[1]:
+                    self.see('another later' if place else 'front later')
         return refusal
 
     # 01, Questions: "Last trading day of a listed month: 10, 18."; 02, note 3: or of
@@ -252,49 +280,54 @@ class Script:
         self.write(entry, 'D' + words(field, place, value))
 
     # 01, The table: "The list of rolls and closes starts from the table that an
-    # accepted open gave back". The expected table and answers are the book's.
-    # Where the lists or the buffer do not fit, no call is made.
-    def history(self, number, code, date, calls, days_lent=None, buffer_lent=None):
+    # accepted open gave back"; 02, note 9: "Histories with reopenings in them are held
+    # to the same statement". The expected table and answers are the book's. A call is
+    # lent as four numbers and answered with four; where the numbers lent are no whole
+    # calls, or more than the buffer, no call is made. The answer of a call that is not
+    # made stays 0.
+    def history(self, number, code, date, calls, numbers_lent=None, buffer_lent=None):
         calendar, products = master.contents(self.file(number))
         item = products[code]
         book = Book(item.kind, item.group, calendar, date)
-        days_lent = len(calls) if days_lent is None else days_lent
-        buffer_lent = 3 * len(calls) if buffer_lent is None else buffer_lent
-        fits = days_lent == len(calls) and 3 * len(calls) <= buffer_lent
-        answers = [book_call(book, *call) if fits else (0, 0, 0) for call in calls]
-        self.write_history(number, code, date, calls, days_lent, buffer_lent)
-        self.lines.append('H' + words(int(fits), 0) + table_words(
+        all_numbers = NUMBERS_TO_A_CALL * len(calls)
+        numbers_lent = all_numbers if numbers_lent is None else numbers_lent
+        buffer_lent = all_numbers if buffer_lent is None else buffer_lent
+        fits = numbers_lent % NUMBERS_TO_A_CALL == 0 and numbers_lent <= buffer_lent
+        made = calls[:numbers_lent // NUMBERS_TO_A_CALL] if fits else []
+        answers = [book_call(book, *call) for call in made]
+        self.write_history(number, code, date, calls, (numbers_lent, buffer_lent))
+        self.write_answers((int(fits), 0), calls, answers, table_words(
             item, book.calendar, book.date, book.maturities, book.given))
-        self.lines += ['A' + words(*answer) for answer in answers]
-        self.table = table.ZERO_TABLE
-        self.book = None
 
     # The same with an id that the file has not: every call is refused by 10.
     def history_without_open(self, number, code, date, calls):
         zero = table.ZERO_TABLE
-        self.write_history(number, code, date, calls, len(calls), 3 * len(calls))
-        self.lines.append('H' + words(1, 9) + table_words(
+        self.write_history(number, code, date, calls, (NUMBERS_TO_A_CALL * len(calls),) * 2)
+        self.write_answers((1, 9), calls, [(10, 0, 0)] * len(calls), table_words(
             zero.product, zero.calendar, zero.date, zero.places, zero.given))
-        self.lines += ['A' + words(10, 0, 0) for _ in calls]
-        self.table = zero
-        self.book = None
 
-    # The record of a history and those of its calls.
-    def write_history(self, number, code, date, calls, days_lent, buffer_lent):
-        lengths = b''.join(map(master.two_bytes, (len(calls), days_lent, buffer_lent)))
+    # The record of a history and those of its calls, whose argument has three bytes.
+    def write_history(self, number, code, date, calls, lent):
+        lengths = b''.join(map(master.two_bytes, (len(calls), *lent)))
         self.records.append(record('H', number, date, code + lengths))
-        self.records += [record(letter, number=day) for letter, day in calls]
+        self.records += [record(letter, *divmod(day, 65536)) for letter, day in calls]
+
+    # The line of a history and those of its calls' answers. No table is left.
+    def write_answers(self, verdict, calls, answers, held):
+        self.lines.append('H' + words(*verdict) + held)
+        not_made = [(0, 0, 0)] * (len(calls) - len(answers))
+        self.lines += ['A' + words(*answer) for answer in (*answers, *not_made)]
+        self.seen |= {('history', letter, answer[0]) for (letter, _), answer in zip(calls, answers)}
+        self.table = table.ZERO_TABLE
+        self.book = None
 
 
 # A call of a history, asked of the book: (number, entered, left).
 def book_call(book, letter, day):
-    return book.roll(day) if letter == 'R' else book.close(day)
+    return getattr(book, CALLS[letter])(day)
 
 
-# Rolls and closes one after the other.
+# Calls of a history one after the other.
 def make(script, calls):
     for letter, day in calls:
-        if letter == 'R':
-            script.roll(day)
-        else:
-            script.close(day)
+        getattr(script, CALLS[letter])(day)

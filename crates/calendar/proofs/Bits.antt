@@ -1,20 +1,22 @@
--- One bit of a map set: that bit is 1, and every other is as it was.
+-- One bit of a map set or cleared: that bit is 1 or 0, and every other is as it was.
 -- Assumes nothing.
 use mathlib.Core.Path.{_≡_, refl, _∙_, sym, ap, subst}
-use mathlib.Core.Bool.{Bool, true, false}
+use mathlib.Core.Bool.{Bool, true, false, cond}
 use mathlib.Core.Logic.{_⊎_, inl, inr, ⊎-elim}
 use Prim.Native.Nat.{ℕ, zero, suc, _+_, _-_, _*_, _/_, _%_, _^_, _≤_, _<_}
 use native.Mathlib.Nat.{div-eq-of-lt, div-self, mul-div-cancel, one-mul, zero-div}
 use native.Mathlib.Omega.{arith}
 use lib.Dec.{lit<, eqb}
-use lib.Bits.{bitOr, or-shr, or-mod, or-zero-r}
+use lib.Bits.{bitOr, bitAnd, or-shr, or-mod, or-zero-r, and-shr, and-mod, and-zero-r}
 use mathlib.Core.List.{List}
 use lib.ListN.{getD, length, List·getD-eq-default}
 use lib.Pow.{pow-pos, pow-lt, pow-add, shl-exact}
 use lib.Seq.{getD-set-same, getD-set-other, set-out}
-use borrow.Author.Tests.{eqb-true, eqb-false}
-use Rattle.questions.proofs.Bools.{lt-or-ge}
-use Rattle.calendar.specs.Bits.{bitAt, setBit}
+use borrow.Author.Tests.{eqb-true, eqb-false, eq-eqb}
+use Rattle.questions.specs.Search.{every}
+use Rattle.questions.proofs.Bools.{clash, lt-or-ge}
+use Rattle.questions.proofs.Search.{every-at}
+use Rattle.calendar.specs.Bits.{bitAt, setBit, clearBit}
 
 or-one : (x : ℕ) → x < 2 → bitOr x 1 ≡ 1
 or-one zero h = refl
@@ -90,3 +92,75 @@ set-keeps map n e = go (lt-or-ge (n / 8) (length map))
 pub bit-past : (map : List ℕ) (n : ℕ) → length map ≤ n / 8 → bitAt map n ≡ false
 unfolding bitAt
 bit-past map n h = simp (List·getD-eq-default map 0 h, zero-div (2 ^ (7 - n % 8)))
+
+-- the bits of a mask: 0 at its place, 1 at the others
+abbrev mask-bit : ℕ → ℕ → Bool
+mask-bit k j = eqb ((255 - 2 ^ k) / 2 ^ j % 2) (cond (eqb j k) 0 1)
+
+mask-bits : every 8 (λ k. every 8 (mask-bit k)) ≡ true
+unfolding every
+mask-bits = refl
+
+mask-is : (k j : ℕ) → k < 8 → j < 8 → (255 - 2 ^ k) / 2 ^ j % 2 ≡ cond (eqb j k) 0 1
+mask-is k j a b =
+    eqb-true ((255 - 2 ^ k) / 2 ^ j % 2) (cond (eqb j k) 0 1)
+    (every-at (mask-bit k) 8 j (every-at (λ i. every 8 (mask-bit i)) 8 k mask-bits a) b)
+
+and-bits : (a b j : ℕ) → bitAnd a b / 2 ^ j % 2 ≡ bitAnd (a / 2 ^ j % 2) (b / 2 ^ j % 2)
+and-bits a b j = ap (λ (n : ℕ). n % 2) (and-shr a b j) ∙ and-mod (a / 2 ^ j) (b / 2 ^ j) 1
+
+and-one : (x : ℕ) → x < 2 → bitAnd x 1 ≡ x
+and-one zero h = refl
+and-one (suc zero) h = refl
+and-one (suc (suc x)) h = absurd (omega arith)
+
+bit-cleared : (b k : ℕ) → k < 8 → bitAnd b (255 - 2 ^ k) / 2 ^ k % 2 ≡ 0
+bit-cleared b k h =
+    and-bits b (255 - 2 ^ k) k ∙ ap (bitAnd (b / 2 ^ k % 2)) (mask-is k k h h ∙ ap (λ (c : Bool). cond c 0 1) (eq-eqb k k refl)) ∙ and-zero-r (b / 2 ^ k % 2)
+
+bit-left : (b k j : ℕ) → k < 8 → j < 8 → (j ≡ k → ⊥) → bitAnd b (255 - 2 ^ k) / 2 ^ j % 2 ≡ b / 2 ^ j % 2
+bit-left b k j h l ne =
+    and-bits b (255 - 2 ^ k) j
+    ∙ ap (bitAnd (b / 2 ^ j % 2)) (mask-is k j h l ∙ go (eqb j k) refl) ∙ and-one (b / 2 ^ j % 2) (omega arith)
+  where
+    go : (c : Bool) → eqb j k ≡ c → _≡_ {A = ℕ} (cond c 0 1) 1
+    go true e = absurd (ne (eqb-true j k e))
+    go false e = refl
+
+-- the byte with its bit cleared
+abbrev pub cleared : List ℕ → ℕ → ℕ
+cleared map n = bitAnd (getD map (n / 8) 0) (255 - 2 ^ (7 - n % 8))
+
+-- the bit that is cleared
+pub clear-here : (map : List ℕ) (n : ℕ) → bitAt (clearBit map n) n ≡ false
+unfolding bitAt clearBit
+clear-here map n = go (lt-or-ge (n / 8) (length map))
+  where
+    go : (n / 8 < length map) ⊎ (length map ≤ n / 8) → bitAt (clearBit map n) n ≡ false
+    go (inl h) = simp (getD-set-same map (n / 8) (cleared map n) 0 h, bit-cleared (getD map (n / 8) 0) (7 - n % 8) (omega arith))
+    go (inr h) = rw (set-out map (n / 8) (cleared map n) h) (simp (List·getD-eq-default map 0 h, zero-div (2 ^ (7 - n % 8))))
+
+-- every other bit
+pub clear-other : (map : List ℕ) (n m : ℕ) → (m ≡ n → ⊥) → bitAt (clearBit map n) m ≡ bitAt map m
+unfolding bitAt clearBit
+clear-other map n m ne = go (eqb (m / 8) (n / 8)) refl (lt-or-ge (n / 8) (length map))
+  where
+    same : m / 8 ≡ n / 8 → n / 8 < length map → bitAt (clearBit map n) m ≡ bitAt map m
+    same p h =
+        simp (p, getD-set-same map (n / 8) (cleared map n) 0 h, bit-left (getD map (n / 8) 0) (7 - n % 8) (7 - m % 8) (omega arith) (omega arith) (λ q. ne (omega arith)))
+
+    out : length map ≤ n / 8 → bitAt (clearBit map n) m ≡ bitAt map m
+    out h = simp (set-out map (n / 8) (cleared map n) h)
+
+    go : (b : Bool) → eqb (m / 8) (n / 8) ≡ b → (n / 8 < length map) ⊎ (length map ≤ n / 8) → bitAt (clearBit map n) m ≡ bitAt map m
+    go b q (inr h) = out h
+    go true q (inl h) = same (eqb-true _ _ q) h
+    go false q (inl h) = simp (getD-set-other map (n / 8) (m / 8) (cleared map n) 0 (eqb-false _ _ q))
+
+-- a bit that is 1 afterwards was 1
+pub clear-before : (map : List ℕ) (n m : ℕ) → bitAt (clearBit map n) m ≡ true → bitAt map m ≡ true
+clear-before map n m t = go (eqb m n) refl
+  where
+    go : (b : Bool) → eqb m n ≡ b → bitAt map m ≡ true
+    go true e = let q : m ≡ n = eqb-true m n e in clash (ap (bitAt (clearBit map n)) (sym q) ∙ t) (clear-here map n)
+    go false e = sym (clear-other map n m (eqb-false m n e)) ∙ t

@@ -5,3 +5,4 @@ pub mod Closing
 pub mod Weeks
 pub mod Next
 pub mod Second
+pub mod Reopening

@@ -132,3 +132,15 @@ pub within-six : (cal : Calendar) → everyWeek cal ≡ true → (d : ℕ) → c
 within-six cal t d a b =
     let p = some-one (λ i. tradingDay cal (d - 6 + i)) 7 (every-week cal t (d - 6) (omega arith) (omega arith)) in
     omega (arith, latest-ge (tradingDay cal) d (d - 6 + p .at) (omega arith) (p .passes))
+
+-- with more trading days every week still holds one
+pub weeks-more : (cal cal′ : Calendar) → cal′ .cover ≡ cal .cover → ((d : ℕ) → tradingDay cal′ d ≡ true → tradingDay cal d ≡ true) → everyWeek cal′ ≡ true → everyWeek cal ≡ true
+unfolding everyWeek
+weeks-more cal cal′ c more e =
+    every-all (λ k. someTrades cal (coverStart (cal .cover) + k) 7) (coverEnd (cal .cover) - coverStart (cal .cover) - 6)
+    (λ k l. each (coverStart (cal .cover) + k) (every-week cal′ e (coverStart (cal .cover) + k) (omega (arith, ap coverStart c)) (omega (arith, ap coverEnd c))))
+  where
+    each : (x : ℕ) → some 7 (λ i. tradingDay cal′ (x + i)) ≡ true → some 7 (λ i. tradingDay cal (x + i)) ≡ true
+    each x s =
+        let q = some-one (λ i. tradingDay cal′ (x + i)) 7 s in
+        some-at (λ i. tradingDay cal (x + i)) 7 (q .at) (more (x + q .at) (q .passes)) (q .below)

@@ -7,7 +7,7 @@ use lib.Dec.{leb, ltb}
 use Rattle.questions.specs.Search.{every, some, firstFrom}
 use Rattle.days.specs.Gregorian.{weekdayOf}
 use Rattle.days.specs.Dates.{yearOf, yearStart, dayInYear}
-use Rattle.calendar.specs.Bits.{bitAt, setBit}
+use Rattle.calendar.specs.Bits.{bitAt, setBit, clearBit}
 use Rattle.calendar.specs.declared.Cover.{Cover}
 use Rattle.calendar.specs.declared.Calendar.{Calendar}
 
@@ -113,3 +113,16 @@ closeDay cal d =
       closed = cond (inCover (cal .cover) d) (setBit (cal .closed) (slotOf (cal .cover) d)) (cal .closed);
       exchange = cal .exchange;
     }
+
+-- 'clears the day in both maps' (02, note 9); a day outside the cover changes nothing
+unfoldable pub reopenDay : Calendar → ℕ → Calendar
+reopenDay cal d =
+    record {
+      cover = cal .cover;
+      closed = cond (inCover (cal .cover) d) (clearBit (cal .closed) (slotOf (cal .cover) d)) (cal .closed);
+      exchange = cond (inCover (cal .cover) d) (clearBit (cal .exchange) (slotOf (cal .cover) d)) (cal .exchange);
+    }
+
+-- 26: 'is the day a closed Monday to Friday?' (02, note 9)
+unfoldable pub closedWeekday : Calendar → ℕ → Bool
+closedWeekday cal d = closedOn cal d && ltb (weekdayOf d) 5

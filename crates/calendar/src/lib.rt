@@ -3,7 +3,7 @@ ghost use mathlib.Core.Path.{_≡_};
 ghost use mathlib.Core.Bool.{_&&_};
 ghost use Prim.Native.Nat.{_-_, _≤_};
 ghost use Rattle.calendar.specs.Bits.{bitAt};
-ghost use Rattle.calendar.specs.Trading.{calendarOfMaps, calendarWith, validCover, coverStart, coverEnd, inCover, slotOf, closedOn, tradingDay, inSecondMap, exchangeDay, nextExchangeDay, nthExchangeDay, closeDay};
+ghost use Rattle.calendar.specs.Trading.{calendarOfMaps, calendarWith, validCover, coverStart, coverEnd, inCover, slotOf, closedOn, tradingDay, inSecondMap, exchangeDay, nextExchangeDay, nthExchangeDay, closeDay, reopenDay, closedWeekday};
 
 // A run of whole years.
 pub struct Cover {
@@ -241,4 +241,34 @@ pub fn close_day(cal: Calendar, day: u16) -> Calendar
     let mut next = cal;
     next.closed[at] = next.closed[at] | bit;
     next
+}
+
+// The calendar with one day open again, in both maps; a day outside the cover changes nothing.
+pub fn reopen_day(cal: Calendar, day: u16) -> Calendar
+    ensures { λ r. ⌜ r ≡ reopenDay cal day ⌝ }
+{
+    let cover = cal.cover;
+    if !in_cover(cover, day) {
+        return cal;
+    }
+    let slot = slot_of(cover, day);
+    let at = slot / 8;
+    if 736 <= at {
+        return cal;
+    }
+    let bit: u8 = 1 << (7 - slot % 8);
+    let mut next = cal;
+    next.closed[at] = next.closed[at] & (255 - bit);
+    next.exchange[at] = next.exchange[at] & (255 - bit);
+    next
+}
+
+// Question 26: a closed Monday to Friday.
+pub fn is_closed_weekday(cal: Calendar, day: u16) -> bool
+    ensures { λ r. ⌜ r ≡ closedWeekday cal day ⌝ }
+{
+    if !is_closed(cal, day) {
+        return false;
+    }
+    days::weekday(day) < 5
 }

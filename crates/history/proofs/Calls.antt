@@ -1,6 +1,6 @@
--- What each accepted call leaves in order, and that it brings back no key whose day has passed.
+-- What each accepted call leaves in order, and that the front does not go back.
 -- Assumes nothing.
-use mathlib.Core.Path.{_≡_, refl}
+use mathlib.Core.Path.{_≡_, refl, sym, ap, _∙_}
 use mathlib.Core.Bool.{Bool, true, false, not, _&&_, _||_}
 use mathlib.Core.List.{List}
 use Prim.Native.Nat.{ℕ, _+_, _≤_}
@@ -13,15 +13,17 @@ use Rattle.questions.proofs.Asks.{none-no}
 use Rattle.days.specs.Gregorian.{weekdayOf}
 use Rattle.calendar.specs.declared.Cover.{Cover}
 use Rattle.calendar.specs.declared.Calendar.{Calendar}
-use Rattle.calendar.specs.Trading.{coverStart, inCover, tradingDay, everyWeek, closeDay, closedOn}
+use Rattle.calendar.specs.Trading.{coverStart, inCover, tradingDay, everyWeek, closeDay, reopenDay, closedOn}
 use Rattle.calendar.proofs.Closing.{close-cover, trading-before, clean-close}
+use Rattle.calendar.proofs.Reopening.{reopen-cover, clean-reopen, weeks-reopen}
 use Rattle.product.specs.declared.Kind.{Kind}
 use Rattle.product.specs.Fields.{isWeekly}
 use Rattle.product.specs.declared.Product.{Product}
-use Rattle.listing.specs.Rules.{Rule, lastDayOf, alive, front}
+use Rattle.listing.specs.Rules.{Rule, lastDayOf, front, frontStays, complete}
 use Rattle.listing.specs.Months.{ruleOf, allInCover, weekIntoCover}
 use Rattle.listing.proofs.Lawful.{Lawful, days-rise, front-later}
-use Rattle.history.specs.Book.{Call, roll, close, Book, calendarAfter, dateAfter, bookAsks}
+use Rattle.listing.proofs.Fronts.{same-front, still-complete}
+use Rattle.history.specs.Book.{Call, roll, close, reopen, Book, calendarAfter, dateAfter, bookAsks}
 use Rattle.history.proofs.Soundness.{Opened}
 
 -- a trading day is a Monday to Friday
@@ -62,10 +64,20 @@ module _ (kind : Kind) (group : List ℕ) (b : Book) where
       let (g, e5) = none-no 15 _ _ e4 in
       record { covered = a; trading = d; weeks = f; full = g }
 
+  -- 27 of an accepted reopening
+  stays : (day : ℕ) → Accepted (reopen day) → frontStays (ruleOf (b .calendar) kind group) (b .calendar) (reopenDay (b .calendar) day) (b .date) ≡ true
+  stays day e =
+      let (a, e1) = none-no 10 _ _ e in
+      let (c, e2) = none-no 12 _ _ e1 in
+      let (d, e3) = none-no 25 _ _ e2 in
+      let (f, e4) = none-no 26 _ _ e3 in
+      f
+
 -- the rule stays
 pub rule-stays : (cal : Calendar) (kind : Kind) (group : List ℕ) (c : Call) → ruleOf (calendarAfter cal c) kind group ≡ ruleOf cal kind group
 rule-stays cal kind group (roll date) = refl
 rule-stays cal kind group (close day) = rw (close-cover cal day)
+rule-stays cal kind group (reopen day) = rw (reopen-cover cal day)
 
 -- a later date passes 24 too
 week-later : (kind : Kind) (c : Cover) (date later : ℕ) → leb date later ≡ true → weekIntoCover kind c date ≡ true → weekIntoCover kind c later ≡ true
@@ -93,24 +105,34 @@ after-opened p b o (close day) e =
       week = rw (close-cover (b .calendar) day) (o .week);
       full = y .full;
     }
+after-opened p b o (reopen day) e =
+    record {
+      product = o .product;
+      valid = rw (reopen-cover (b .calendar) day) (o .valid);
+      cleaned = clean-reopen (b .calendar) day (o .cleaned);
+      weeks = weeks-reopen (b .calendar) day (o .weeks);
+      covered = rw (reopen-cover (b .calendar) day) (o .covered);
+      week = rw (reopen-cover (b .calendar) day) (o .week);
+      full = ap (λ (r : Rule). complete r (reopenDay (b .calendar) day) (b .date)) (rule-stays (b .calendar) (p .kind) (p .group) (reopen day))
+          ∙ still-complete (ruleOf (b .calendar) (p .kind) (p .group)) (b .calendar) (reopenDay (b .calendar) day) (b .date) (stays (p .kind) (p .group) b day e) (o .full);
+    }
 
-module _ (r : Rule) (w : Lawful r) where
-  -- an accepted call brings back no key whose day has passed
-  not-back : (kind : Kind) (group : List ℕ) (b : Book) (c : Call) → Accepted kind group b c
-      → (k : ℕ) → alive r (calendarAfter (b .calendar) c) (dateAfter (b .date) c) k ≡ true → alive r (b .calendar) (b .date) k ≡ true
-  not-back kind group b (roll date) e k t =
-      le-leb (b .date) (lastDayOf r (b .calendar) k)
-      (omega (arith, leb-true (b .date) date (rolled kind group b date e .later), leb-true date (lastDayOf r (b .calendar) k) t))
-  not-back kind group b (close day) e k t =
-      le-leb (b .date) (lastDayOf r (b .calendar) k)
-      (omega (
-        arith,
-        leb-true (b .date) (lastDayOf r (closeDay (b .calendar) day) k) t,
-        days-rise r w (closeDay (b .calendar) day) (b .calendar) (trading-before (b .calendar) day) k k (omega arith),
-      ))
-
-  -- so the front does not go back
-  pub forward : (kind : Kind) (group : List ℕ) (b : Book) (c : Call) → Accepted kind group b c
-      → front r (b .calendar) (b .date) ≤ front r (calendarAfter (b .calendar) c) (dateAfter (b .date) c)
-  forward kind group b c e =
-      front-later r w (b .calendar) (calendarAfter (b .calendar) c) (b .date) (dateAfter (b .date) c) (not-back kind group b c e)
+-- an accepted roll or close brings back no key whose day has passed, and 27 keeps a reopening from it: the front does not go back
+pub forward : (kind : Kind) (group : List ℕ) (b : Book) → Lawful (ruleOf (b .calendar) kind group) → (c : Call) → Accepted kind group b c
+    → front (ruleOf (b .calendar) kind group) (b .calendar) (b .date) ≤ front (ruleOf (b .calendar) kind group) (calendarAfter (b .calendar) c) (dateAfter (b .date) c)
+forward kind group b w (roll date) e =
+    let r = ruleOf (b .calendar) kind group in
+    front-later r w (b .calendar) (b .calendar) (b .date) date
+    (λ k t. le-leb (b .date) (lastDayOf r (b .calendar) k)
+    (omega (arith, leb-true (b .date) date (rolled kind group b date e .later), leb-true date (lastDayOf r (b .calendar) k) t)))
+forward kind group b w (close day) e =
+    let r = ruleOf (b .calendar) kind group in
+    front-later r w (b .calendar) (closeDay (b .calendar) day) (b .date) (b .date)
+    (λ k t. le-leb (b .date) (lastDayOf r (b .calendar) k)
+    (omega (
+      arith,
+      leb-true (b .date) (lastDayOf r (closeDay (b .calendar) day) k) t,
+      days-rise r w (closeDay (b .calendar) day) (b .calendar) (trading-before (b .calendar) day) k k (omega arith),
+    )))
+forward kind group b w (reopen day) e =
+    omega (arith, same-front (ruleOf (b .calendar) kind group) (b .calendar) (reopenDay (b .calendar) day) (b .date) (stays kind group b day e))

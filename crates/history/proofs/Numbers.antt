@@ -73,7 +73,7 @@ listed-one [] x = refl
 listed-one (m ∷ ms) x = rw (eqb-either (m .key) x, listed-one ms x)
 
 module _ (dy : ℕ → LastDay) (nu : ℕ → ℕ) where
-  months-of : (ks : List ℕ) → map (λ m. m .key) (map (mat dy nu) ks) ≡ ks
+  pub months-of : (ks : List ℕ) → map (λ m. m .key) (map (mat dy nu) ks) ≡ ks
   months-of [] = refl
   months-of (k ∷ ks) = ap (_∷_ k) (months-of ks)
 

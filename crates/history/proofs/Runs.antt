@@ -149,7 +149,7 @@ module _ (p : Product) where
         go true e =
             let y = eqb-true (firstNo (bookAsks (p .kind) (p .group) b c)) 0 e in
             book-moved (calendarAfter (b .calendar) c) (dateAfter (b .date) c) (after-opened p b (I .opened) c y)
-            (rule-stays (b .calendar) (p .kind) (p .group) c) (forward (ruleIn p b) (lawful b) (p .kind) (p .group) b c y)
+            (rule-stays (b .calendar) (p .kind) (p .group) c) (forward (p .kind) (p .group) b (lawful b) c y)
         go false e = still
 
   -- of three moments the first and the last

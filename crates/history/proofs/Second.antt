@@ -1,14 +1,16 @@
--- The second map through a history: no roll and no closure changes it, so tables of an old file keep their old due days (02, note 4).
+-- The second map through a history: no call puts a day into it, so tables of an old file keep their old due days (02, note 4).
 -- Assumes nothing.
-use mathlib.Core.Path.{_≡_, refl, _∙_, ap}
+use mathlib.Core.Path.{_≡_, sym, _∙_, ap}
 use mathlib.Core.Bool.{Bool, true, false, cond}
 use mathlib.Core.List.{List, [], _∷_}
 use Prim.Native.Nat.{ℕ}
 use lib.Dec.{eqb}
+use Rattle.questions.proofs.Bools.{clash, is-false}
 use Rattle.calendar.specs.declared.Calendar.{Calendar}
 use Rattle.calendar.specs.Bits.{bitAt}
 use Rattle.calendar.specs.Trading.{nthTradingDay}
 use Rattle.calendar.proofs.Closing.{close-exchange}
+use Rattle.calendar.proofs.Reopening.{exchange-bits}
 use Rattle.product.specs.declared.Product.{Product}
 use Rattle.product.specs.Settlement.{settlementDays}
 use Rattle.years.specs.Calendars.{calendarOf, oldFile}
@@ -20,28 +22,29 @@ use Rattle.table.specs.Table.{openCall, openedTable}
 use Rattle.table.proofs.Opens.{accepted-from}
 use Rattle.values.specs.Values.{dueDay}
 use Rattle.values.proofs.Answers.{old-due}
-use Rattle.history.specs.Book.{Call, roll, close, Reply, calendarAfter}
+use Rattle.history.specs.Book.{Call, roll, close, reopen, Reply, calendarAfter}
 use Rattle.history.specs.History.{tableRun, tableReplies, calendarOfCalls, Demand3}
 use Rattle.history.proofs.FromFile.{from-file}
 
-exchange-after : (cal : Calendar) (c : Call) → calendarAfter cal c .exchange ≡ cal .exchange
-exchange-after cal (roll date) = refl
-exchange-after cal (close day) = close-exchange cal day
+exchange-after : (cal : Calendar) (c : Call) (s : ℕ) → bitAt (calendarAfter cal c .exchange) s ≡ true → bitAt (cal .exchange) s ≡ true
+exchange-after cal (roll date) s t = t
+exchange-after cal (close day) s t = rw (close-exchange cal day) at t
+exchange-after cal (reopen day) s t = exchange-bits cal day s t
 
-exchange-of-calls : (cal : Calendar) (cs : List Call) (rs : List Reply) → calendarOfCalls cal cs rs .exchange ≡ cal .exchange
+exchange-of-calls : (cal : Calendar) (cs : List Call) (rs : List Reply) (s : ℕ) → bitAt (calendarOfCalls cal cs rs .exchange) s ≡ true → bitAt (cal .exchange) s ≡ true
 unfolding calendarOfCalls
-exchange-of-calls cal [] rs = refl
-exchange-of-calls cal (c ∷ cs) [] = refl
-exchange-of-calls cal (c ∷ cs) (r ∷ rs) = exchange-of-calls (cond (eqb (r .refusal) 0) (calendarAfter cal c) cal) cs rs ∙ go (eqb (r .refusal) 0)
+exchange-of-calls cal [] rs s t = t
+exchange-of-calls cal (c ∷ cs) [] s t = t
+exchange-of-calls cal (c ∷ cs) (r ∷ rs) s t = go (eqb (r .refusal) 0) (exchange-of-calls (cond (eqb (r .refusal) 0) (calendarAfter cal c) cal) cs rs s t)
   where
-    go : (b : Bool) → cond b (calendarAfter cal c) cal .exchange ≡ cal .exchange
-    go true = exchange-after cal c
-    go false = refl
+    go : (b : Bool) → bitAt (cond b (calendarAfter cal c) cal .exchange) s ≡ true → bitAt (cal .exchange) s ≡ true
+    go true t = exchange-after cal c s t
+    go false t = t
 
 module _ (p : Product) (cal : Calendar) (date : ℕ) (cs ds : List Call) (h : Demand3 p cal date cs ds) where
-  -- the table's second map stays the opened one
-  pub exchange-stays : tableRun (openedTable p cal date) cs .calendar .exchange ≡ cal .exchange
-  exchange-stays = ap (λ (c : Calendar). c .exchange) (h .calendar-is) ∙ exchange-of-calls cal cs (tableReplies (openedTable p cal date) cs)
+  -- no day comes into the table's second map
+  pub exchange-stays : (s : ℕ) → bitAt (tableRun (openedTable p cal date) cs .calendar .exchange) s ≡ true → bitAt (cal .exchange) s ≡ true
+  exchange-stays s t = exchange-of-calls cal cs (tableReplies (openedTable p cal date) cs) s (ap (λ (c : Calendar). bitAt (c .exchange) s) (sym (h .calendar-is)) ∙ t)
 
 -- a table's due day is the one that counts trading days alone
 abbrev pub OldDueDay : Table → ℕ → Type 0
@@ -54,8 +57,7 @@ module _ (f id : List ℕ) (date : ℕ) (e : openCall f id date .refusal ≡ 0) 
       let h = from-file f id date e cs [] in
       let o = ordered f (all-yes f (accepted-from f id date e .loaded) .yes4) in
       ap (λ (t : Table). bitAt (tableRun t cs .calendar .exchange) s) (h .opened) ∙
-      ap (λ (map : List ℕ). bitAt map s) (exchange-stays (productOf f id) (calendarOf f) date cs [] (h .demand)) ∙
-      old-bits f o old s
+      is-false _ (λ t. clash (exchange-stays (productOf f id) (calendarOf f) date cs [] (h .demand) s t) (old-bits f o old s))
 
   pub old-due-stays : (cs : List Call) (day : ℕ) → OldDueDay (tableRun (openCall f id date .table) cs) day
   old-due-stays cs day = old-due (tableRun (openCall f id date .table) cs) (old-bits-stay cs) day

@@ -28,8 +28,8 @@ use Rattle.table.specs.declared.Table.{Table}
 use Rattle.places.specs.Numbering.{isListed, numberOf, sameMaturity, numbersRight}
 use Rattle.places.proofs.Rising.{place-of, at-map}
 use Rattle.places.proofs.Unique.{same-maturity}
-use Rattle.table.specs.Table.{listedIn, listsFresh, sound, moved, refusedWith, answered, rollCall, closeCall}
-use Rattle.history.specs.Book.{Call, roll, close, Book, calendarAfter, dateAfter, bookAsks}
+use Rattle.table.specs.Table.{listedIn, listsFresh, sound, moved, refusedWith, answered, rollCall, closeCall, reopenCall}
+use Rattle.history.specs.Book.{Call, roll, close, reopen, Book, calendarAfter, dateAfter, bookAsks}
 use Rattle.history.specs.History.{tableCall}
 use Rattle.history.proofs.Numbers.{Numbers}
 use Rattle.history.proofs.Moves.{fresh, now, Numbered, listed-now, given-most, numbersNext, moves}
@@ -267,7 +267,7 @@ module _ (t : Table) (s : Sound t) where
       let date = dateAfter (t .date) c in
       is-sound (t .product) cal date _ _ (numbersNext r (t .calendar) (t .date) (t .given) (numberOf (listedIn t)) cal date) (after-opened (t .product) beside (s .opened) c e)
       (rw (rule-stays (t .calendar) (t .product .kind) (t .product .group) c)
-      (moves r w (t .calendar) (t .date) (listedIn t) (t .given) (numberOf (listedIn t)) numbered cal date (forward r w (t .product .kind) (t .product .group) beside c e) .numbered))
+      (moves r w (t .calendar) (t .date) (listedIn t) (t .given) (numberOf (listedIn t)) numbered cal date (forward (t .product .kind) (t .product .group) beside w c e) .numbered))
 
   called-sound : sound t ≡ true → (c : Call) → sound (tableCall t c .table) ≡ true
   unfolding answered
@@ -317,3 +317,6 @@ module _ (t : Table) (e : sound t ≡ true) where
 
   pub close-sound : (day : ℕ) → sound (closeCall t day .table) ≡ true
   close-sound day = call-sound (close day)
+
+  pub reopen-sound : (day : ℕ) → sound (reopenCall t day .table) ≡ true
+  reopen-sound day = call-sound (reopen day)

@@ -11,8 +11,8 @@ use Rattle.calendar.specs.declared.Calendar.{Calendar}
 use Rattle.product.specs.declared.Product.{Product}
 use Rattle.table.specs.declared.Table.{Table}
 use Rattle.table.specs.declared.Outcome.{Outcome}
-use Rattle.table.specs.Table.{listedIn, sound, moved, refusedWith, answered, rollCall, closeCall, openedTable}
-use Rattle.history.specs.Book.{Call, roll, close, Reply, Book, calendarAfter, dateAfter, bookOpened, bookAsks, bookMoved, bookCounts, bookAfter, bookReply, bookRun, bookReplies}
+use Rattle.table.specs.Table.{listedIn, sound, moved, refusedWith, answered, rollCall, closeCall, reopenCall, openedTable}
+use Rattle.history.specs.Book.{Call, roll, close, reopen, Reply, Book, calendarAfter, dateAfter, bookOpened, bookAsks, bookMoved, bookCounts, bookAfter, bookReply, bookRun, bookReplies}
 use Rattle.history.specs.History.{tableCall, tableRun, replyOf, tableReplies, calendarOfCalls, dateOfCalls}
 use Rattle.history.proofs.Soundness.{tableOf, holds, is-sound}
 use Rattle.history.proofs.Runs.{Inv, turn-later}
@@ -20,9 +20,10 @@ use Rattle.history.proofs.Runs.{Inv, turn-later}
 -- a sound table's call: the questions are those of a book with its calendar and date
 pub table-answer : (t : Table) (b : Book) → b .calendar ≡ t .calendar → b .date ≡ t .date → sound t ≡ true → (c : Call)
     → tableCall t c ≡ answered t (bookAsks (t .product .kind) (t .product .group) b c) (moved t (calendarAfter (t .calendar) c) (dateAfter (t .date) c))
-unfolding rollCall closeCall answered
+unfolding rollCall closeCall reopenCall answered
 table-answer t b p q s (roll date) = rw (p, q, first-yes 10 _ s)
 table-answer t b p q s (close day) = rw (p, q, first-yes 10 _ s)
+table-answer t b p q s (reopen day) = rw (p, q, first-yes 10 _ s)
 
 -- the table that holds what a book holds
 abbrev pub tableIn : Product → Book → Table

@@ -1,4 +1,4 @@
--- The book of demand 3 (01, The table, 'The book of demand 3 ..'). Nothing of it reads a table. What `renumbered` and `missing` give, which the table uses too, is said without their recursion in `places` Laws.
+-- The book of demand 3 (01, The table, 'The book of demand 3 ..'; 02, note 9). Nothing of it reads a table. What `renumbered` and `missing` give, which the table uses too, is said without their recursion in `places` Laws.
 -- Assumes nothing.
 use Prim.Native.Nat.{ℕ, _+_}
 use mathlib.Core.Bool.{cond}
@@ -7,15 +7,16 @@ use lib.Dec.{leb, ltb, eqb}
 use lib.ListN.{length}
 use Rattle.questions.specs.Questions.{Ask, ask, firstNo}
 use Rattle.calendar.specs.declared.Calendar.{Calendar}
-use Rattle.calendar.specs.Trading.{inCover, tradingDay, everyWeek, closeDay}
+use Rattle.calendar.specs.Trading.{inCover, tradingDay, everyWeek, closeDay, reopenDay, closedWeekday}
 use Rattle.product.specs.declared.Kind.{Kind}
 use Rattle.listing.specs.declared.Maturity.{Maturity}
+use Rattle.listing.specs.Rules.{frontStays}
 use Rattle.places.specs.Numbering.{missing, renumbered, numberedFresh}
-use Rattle.listing.specs.Months.{freshOf, allInCover}
+use Rattle.listing.specs.Months.{ruleOf, freshOf, allInCover}
 
--- 'The list of rolls and closes': a call with its argument, a date or a day
+-- 'The list of rolls and closes', and of reopenings (02, note 9): a call with its argument, a date or a day
 pub data Call : Type 0 where
-  roll close : ℕ → Call
+  roll close reopen : ℕ → Call
 
 -- 'every call's acceptance or refusal number and its two counts'; acceptance is 0
 pub record Reply : Type 0 where
@@ -31,15 +32,17 @@ pub record Book : Type 0 where
   pub given : ℕ
   pub gone : List ℕ
 
--- 'close marks the day closed'
+-- 'close marks the day closed'; 'the book takes a reopening like a close, with .. the day cleared in both maps' (02, note 9)
 abbrev pub calendarAfter : Calendar → Call → Calendar
 calendarAfter cal (roll date) = cal
 calendarAfter cal (close day) = closeDay cal day
+calendarAfter cal (reopen day) = reopenDay cal day
 
 -- 'roll sets the date'
 abbrev pub dateAfter : ℕ → Call → ℕ
 dateAfter date (roll later) = later
 dateAfter date (close day) = date
+dateAfter date (reopen day) = date
 
 -- 'It starts with the fresh listing, numbered 1, 2, .. by rising month; given is its length, and no month has left'
 unfoldable pub bookOpened : Kind → List ℕ → Calendar → ℕ → Book
@@ -47,7 +50,7 @@ bookOpened kind group cal date =
     let fresh = freshOf cal kind group date in
     record { calendar = cal; date = date; maturities = numberedFresh fresh; given = length fresh; gone = [] }
 
--- 'A roll or close asks the book its questions except 10; 16 is asked with the date and calendar that the call would leave'
+-- 'A roll or close asks the book its questions except 10; 16 is asked with the date and calendar that the call would leave'; a reopening 'with its own questions except 10' (02, note 9)
 abbrev pub bookAsks : Kind → List ℕ → Book → Call → List Ask
 bookAsks kind group b (roll date) =
     ask 11 (inCover (b .calendar .cover) date)
@@ -60,6 +63,12 @@ bookAsks kind group b (close day) =
     ∷ ask 14 (tradingDay (b .calendar) day)
     ∷ ask 15 (everyWeek (closeDay (b .calendar) day))
     ∷ ask 16 (allInCover (closeDay (b .calendar) day) kind group (b .date))
+    ∷ []
+bookAsks kind group b (reopen day) =
+    ask 11 (inCover (b .calendar .cover) day)
+    ∷ ask 13 (ltb (b .date) day)
+    ∷ ask 26 (closedWeekday (b .calendar) day)
+    ∷ ask 27 (frontStays (ruleOf (b .calendar) kind group) (b .calendar) (reopenDay (b .calendar) day) (b .date))
     ∷ []
 
 -- 'Else the call is accepted .. The fresh listing then replaces the old. A month in both keeps its number; a new one has entered and takes the next number after given, by rising month; given grows by the entered. A month only in the old one joins those that left'

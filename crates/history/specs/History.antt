@@ -1,4 +1,4 @@
--- Demand 3: one claim about every list of rolls and closes on a table that an accepted open gave back (01, The table; the sentences that do not stand there are the demand's own). For a weekly product 'demand 3 and its book read with Fridays for months' (02, note 3): a month m is there the day number of a Friday.
+-- Demand 3: one claim about every list of rolls, closes and reopenings on a table that an accepted open gave back (01, The table; the sentences that do not stand there are the demand's own). For a weekly product 'demand 3 and its book read with Fridays for months' (02, note 3): a month m is there the day number of a Friday.
 -- Assumes nothing.
 use Prim.Native.Nat.{ℕ, suc, _+_, _≤_, _<_}
 use mathlib.Core.Path.{_≡_}
@@ -18,13 +18,14 @@ use Rattle.table.specs.declared.Table.{Table}
 use Rattle.table.specs.declared.Outcome.{Outcome}
 use Rattle.places.specs.Numbering.{isListed, numberOf, unnumbered}
 use Rattle.listing.specs.Months.{freshOf, allInCover, keysOf, weekIntoCover}
-use Rattle.table.specs.Table.{listedIn, sound, rollCall, closeCall, openedTable}
-use Rattle.history.specs.Book.{Call, roll, close, Reply, Book, calendarAfter, dateAfter, bookOpened, bookRun, bookReplies}
+use Rattle.table.specs.Table.{listedIn, sound, rollCall, closeCall, reopenCall, openedTable}
+use Rattle.history.specs.Book.{Call, roll, close, reopen, Reply, Book, calendarAfter, dateAfter, bookOpened, bookRun, bookReplies}
 
--- 'the table .. rolls and closes a day': a call on a table
+-- 'the table .. rolls and closes a day', and 'reopening of a day' (02, note 9): a call on a table
 abbrev pub tableCall : Table → Call → Outcome
 tableCall t (roll date) = rollCall t date
 tableCall t (close day) = closeCall t day
+tableCall t (reopen day) = reopenCall t day
 
 -- the table after a list of calls: 'nothing else changes the table between its calls'
 unfoldable pub tableRun : Table → List Call → Table
@@ -40,7 +41,7 @@ unfoldable pub tableReplies : Table → List Call → List Reply
 tableReplies t [] = []
 tableReplies t (c ∷ cs) = replyOf (tableCall t c) ∷ tableReplies (tableCall t c .table) cs
 
--- 'the file's calendar with the accepted closures'
+-- 'the file's calendar with the accepted closures', and reopenings: 'the calendar as it then is' (02, note 9)
 unfoldable pub calendarOfCalls : Calendar → List Call → List Reply → Calendar
 calendarOfCalls cal [] rs = cal
 calendarOfCalls cal (c ∷ cs) [] = cal
@@ -77,7 +78,7 @@ module _ (p : Product) (cal : Calendar) (date : ℕ) where
   abbrev pub bookAnswers : List Call → List Reply
   bookAnswers cs = bookReplies (p .kind) (p .group) (bookOpened (p .kind) (p .group) cal date) cs
 
-  -- 'the file's calendar with the accepted closures'
+  -- 'the file's calendar with the accepted closures' and reopenings
   abbrev pub calendarThen : List Call → Calendar
   calendarThen cs = calendarOfCalls cal cs (answers cs)
 

@@ -1,6 +1,6 @@
 -- A history that starts at the file: the open, the calls of a lent list, and what a lent buffer then holds of their answers.
 -- Assumes nothing.
-use Prim.Native.Nat.{ℕ, _*_}
+use Prim.Native.Nat.{ℕ, _%_}
 use mathlib.Core.Path.{_≡_}
 use mathlib.Core.Bool.{Bool, true, false, _&&_, cond}
 use mathlib.Core.List.{List, [], _∷_, _++_}
@@ -10,39 +10,45 @@ use Rattle.years.specs.Calendars.{calendarOf}
 use Rattle.master.specs.Load.{productOf}
 use Rattle.table.specs.Table.{openedTable, openCall}
 use Rattle.history.specs.declared.Replay.{Replay}
-use Rattle.history.specs.Book.{Call, roll, close, Reply}
+use Rattle.history.specs.Book.{Call, roll, close, reopen, Reply}
 use Rattle.history.specs.History.{tableRun, tableReplies, Demand3}
 
--- 'The list of rolls and closes starts from the table that an accepted open gave back': what demand 3 says of every file, id and date with an accepted open, and every list of calls
+-- 'The list of rolls and closes', with reopenings among them (02, note 9), 'starts from the table that an accepted open gave back': what demand 3 says of every file, id and date with an accepted open, and every list of calls
 pub record FromFile (f id : List ℕ) (date : ℕ) (cs ds : List Call) : Type 0 where
   pub opened : openCall f id date .table ≡ openedTable (productOf f id) (calendarOf f) date
   pub demand : Demand3 (productOf f id) (calendarOf f) date cs ds
 
--- a call of the lent lists: 0 for a roll, anything else for a close, and its date or day
+-- a date or day of the lent list; a number that does not fit 16 bits is read as 65,535, which is no day
+abbrev pub dayIn : ℕ → ℕ
+dayIn number = cond (leb number 65535) number 65535
+
+-- a call of the lent list by its kind and its date or day: 0 a roll, 2 a reopening, anything else a close
 abbrev pub callOf : ℕ → ℕ → Call
-callOf kind day = cond (eqb kind 0) (roll day) (close day)
+callOf kind number = cond (eqb kind 0) (roll (dayIn number)) (cond (eqb kind 2) (reopen (dayIn number)) (close (dayIn number)))
 
--- the calls of two lent lists
-unfoldable pub callsOf : List ℕ → List ℕ → List Call
-callsOf [] days = []
-callsOf (kind ∷ kinds) [] = []
-callsOf (kind ∷ kinds) (day ∷ days) = callOf kind day ∷ callsOf kinds days
+-- the calls of a lent list, four numbers each: the kind, the date or day, and two that no call reads
+unfoldable pub callsOf : List ℕ → List Call
+callsOf (kind ∷ number ∷ x ∷ y ∷ rest) = callOf kind number ∷ callsOf rest
+callsOf (kind ∷ number ∷ x ∷ []) = []
+callsOf (kind ∷ number ∷ []) = []
+callsOf (kind ∷ []) = []
+callsOf [] = []
 
--- the answers as numbers: refusal, entered and left of each call in turn
+-- the answers as numbers, four for each call: refusal, entered, left, and 0
 unfoldable pub numbersOf : List Reply → List ℕ
 numbersOf [] = []
-numbersOf (r ∷ rs) = r .refusal ∷ r .entered ∷ r .left ∷ numbersOf rs
+numbersOf (r ∷ rs) = r .refusal ∷ r .entered ∷ r .left ∷ 0 ∷ numbersOf rs
 
--- the lists are of one length, and the buffer has three places for each call
-unfoldable pub replayFits : List ℕ → List ℕ → List ℕ → Bool
-replayFits kinds days buffer = eqb (length kinds) (length days) && leb (3 * length kinds) (length buffer)
+-- the list holds whole calls, and the buffer has four places for each
+unfoldable pub replayFits : List ℕ → List ℕ → Bool
+replayFits calls buffer = eqb (length calls % 4) 0 && leb (length calls) (length buffer)
 
--- where the lists fit, the table is the one that the calls leave and the buffer starts with their answers; where they do not, no call is made and nothing is written
-pub record Replayed (f id : List ℕ) (date : ℕ) (kinds days before after : List ℕ) (r : Replay) : Type 0 where
-  pub fits : r .fits ≡ replayFits kinds days before
+-- where the list fits, the table is the one that the calls leave and the buffer starts with their answers; where it does not, no call is made and nothing is written
+pub record Replayed (f id : List ℕ) (date : ℕ) (calls before after : List ℕ) (r : Replay) : Type 0 where
+  pub fits : r .fits ≡ replayFits calls before
   pub refusal : r .refusal ≡ openCall f id date .refusal
-  pub table : r .fits ≡ true → r .table ≡ tableRun (openCall f id date .table) (callsOf kinds days)
-  pub answers : r .fits ≡ true → after ≡ numbersOf (tableReplies (openCall f id date .table) (callsOf kinds days)) ++ drop (3 * length kinds) before
+  pub table : r .fits ≡ true → r .table ≡ tableRun (openCall f id date .table) (callsOf calls)
+  pub answers : r .fits ≡ true → after ≡ numbersOf (tableReplies (openCall f id date .table) (callsOf calls)) ++ drop (length calls) before
   pub idle : r .fits ≡ false → (r .table ≡ openCall f id date .table) × (after ≡ before)
-  -- demand 3 of this run, and of every longer one
-  pub history : r .refusal ≡ 0 → (ds : List Call) → FromFile f id date (callsOf kinds days) ds
+  -- demand 3 of these calls, at their end and after any more of them; `FromFile` is proved of every list, so of each moment within the run too
+  pub history : r .refusal ≡ 0 → (ds : List Call) → FromFile f id date (callsOf calls) ds

@@ -10,3 +10,4 @@ pub mod Weekly
 pub mod OfKinds
 pub mod Text2005
 pub mod Second
+pub mod Fronts

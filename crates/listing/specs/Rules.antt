@@ -1,4 +1,4 @@
--- Listings by rule, whatever the maturities are (01, Last trading day; Listed months; The table; Questions, 16; 02, notes 1 to 3). A maturity is named by a key: a month's number, or the day number of a weekly maturity's Friday (02, note 3).
+-- Listings by rule, whatever the maturities are (01, Last trading day; Listed months; The table; Questions, 16; 02, notes 1 to 3 and 9). A maturity is named by a key: a month's number, or the day number of a weekly maturity's Friday (02, note 3).
 -- Assumes nothing.
 use Prim.Native.Nat.{ℕ, zero, suc, _+_, _-_}
 use mathlib.Core.Bool.{Bool, true, _&&_, cond}
@@ -51,6 +51,10 @@ countFrom counted (suc n) k = cond (counted k) 1 0 + countFrom counted n (suc k)
 -- 'the number of cover months before the front month' (01, The table); 'the cover's weekly Fridays before the front one take the place of cover months' (02, note 3)
 unfoldable pub keysBefore : Rule → Calendar → ℕ → ℕ
 keysBefore r cal date = countFrom (r .counted) (front r cal date - r .first) (r .first)
+
+-- 27: 'does the front maturity stay the same month or Friday, whatever its day, so that none before it comes back?' (02, note 9)
+unfoldable pub frontStays : Rule → Calendar → Calendar → ℕ → Bool
+frontStays r cal reopened date = eqb (front r cal date) (front r reopened date)
 
 -- the first key of a set from k on; the first key beyond the cover where the cover has none
 abbrev pub nextOf : ℕ → (ℕ → Bool) → ℕ → ℕ

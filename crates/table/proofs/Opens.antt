@@ -20,7 +20,7 @@ use Rattle.table.specs.Table.{refusedWith, answered, zeroTable, openedWi
 use Rattle.table.proofs.Calls.{answered-no, answered-yes}
 
 -- an accepted call has no question answered no
-refusal-is : (t : Table) (asks : List Ask) (o : Outcome) → answered t asks o .refusal ≡ 0 → firstNo asks ≡ 0
+pub refusal-is : (t : Table) (asks : List Ask) (o : Outcome) → answered t asks o .refusal ≡ 0 → firstNo asks ≡ 0
 refusal-is t asks o e = go (firstNo asks) refl
   where
     go : (n : ℕ) → firstNo asks ≡ n → firstNo asks ≡ 0

@@ -1,4 +1,4 @@
--- The table, its soundness, and the calls that open it, roll it and close a day (01, The table; Questions, in order; 02, notes 2 and 3).
+-- The table, its soundness, and the calls that open it, roll it, close a day and open it again (01, The table; Questions, in order; 02, notes 2, 3 and 9).
 -- Assumes nothing.
 use Prim.Native.Nat.{ℕ, zero, _+_, _-_}
 use mathlib.Core.Bool.{Bool, _&&_, cond}
@@ -8,11 +8,11 @@ use lib.ListN.{length, take, replicate}
 use Rattle.questions.specs.Questions.{Ask, ask, firstNo}
 use Rattle.questions.specs.Search.{every}
 use Rattle.calendar.specs.declared.Calendar.{Calendar}
-use Rattle.calendar.specs.Trading.{validCover, inCover, tradingDay, clean, everyWeek, closeDay}
+use Rattle.calendar.specs.Trading.{validCover, inCover, tradingDay, clean, everyWeek, closeDay, reopenDay, closedWeekday}
 use Rattle.product.specs.declared.Product.{Product}
 use Rattle.product.specs.Fields.{productRight}
 use Rattle.listing.specs.declared.Maturity.{Maturity}
-use Rattle.listing.specs.Rules.{keysBefore, unused, places15}
+use Rattle.listing.specs.Rules.{keysBefore, frontStays, unused, places15}
 use Rattle.listing.specs.Months.{placesOfKind, ruleOf, freshOf, allInCover, weekIntoCover}
 use Rattle.years.specs.Calendars.{calendarOf}
 use Rattle.master.specs.Load.{productOf}
@@ -56,7 +56,7 @@ sound t =
     -- 'and the date passes 24' (02, note 3)
     && (weekIntoCover (t .product .kind) (t .calendar .cover) (t .date) && listingSound t)))))
 
--- what an accepted roll or close gives back, for a fresh listing: 'Both then hold the fresh listing; a month that was there keeps its number, and months that enter take the next numbers by rising month. A month left if the old table had it and the new has not'
+-- what an accepted roll, close or reopening gives back, for a fresh listing: 'Both then hold the fresh listing; a month that was there keeps its number, and months that enter take the next numbers by rising month. A month left if the old table had it and the new has not'
 abbrev pub movedTo : Table → Calendar → ℕ → List Maturity → Outcome
 movedTo t cal date fresh =
     record {
@@ -125,8 +125,7 @@ abbrev pub closeAsks : Table → ℕ → List Ask
 closeAsks t day =
     ask 10 (sound t)
     ∷ ask 11 (inCover (t .calendar .cover) day)
-    ∷ ask 13 (ltb (t .date) day)
-    ∷ ask 14 (tradingDay (t .calendar) day)
+    ∷ ask 13 (ltb (t .date) day) ∷ ask 14 (tradingDay (t .calendar) day)
     ∷ ask 15 (everyWeek (closeDay (t .calendar) day))
     ∷ ask 16 (allInCover (closeDay (t .calendar) day) (t .product .kind) (t .product .group) (t .date))
     ∷ []
@@ -134,6 +133,19 @@ closeAsks t day =
 -- 'Close marks one day closed'
 unfoldable pub closeCall : Table → ℕ → Outcome
 closeCall t day = answered t (closeAsks t day) (moved t (closeDay (t .calendar) day) (t .date))
+
+-- 'It asks 10, 11, 13, then the new questions', 26 and 27 (02, note 9)
+abbrev pub reopenAsks : Table → ℕ → List Ask
+reopenAsks t day =
+    ask 10 (sound t)
+    ∷ ask 11 (inCover (t .calendar .cover) day)
+    ∷ ask 13 (ltb (t .date) day) ∷ ask 26 (closedWeekday (t .calendar) day)
+    ∷ ask 27 (frontStays (ruleOf (t .calendar) (t .product .kind) (t .product .group)) (t .calendar) (reopenDay (t .calendar) day) (t .date))
+    ∷ []
+
+-- 'The exchange withdraws a closure. Add reopening of a day to the calls on a table' (02, note 9)
+unfoldable pub reopenCall : Table → ℕ → Outcome
+reopenCall t day = answered t (reopenAsks t day) (moved t (reopenDay (t .calendar) day) (t .date))
 
 -- only the code needs it: the same table on another date, no month entered or left
 abbrev pub keptOn : Table → ℕ → Outcome

@@ -10,7 +10,7 @@ ghost use Rattle.places.specs.Numbering.{isListed};
 ghost use lib.Dec.{eqb};
 ghost use Rattle.listing.specs.Rules.{front, unused};
 ghost use Rattle.listing.specs.Months.{placesOfKind, ruleOf, allInCover};
-ghost use Rattle.table.specs.Table.{listedIn, listsFresh, listingSound, sound, movedTo, moved, keptOn, refusedWith, zeroTable, openedWith, openCall, rollCall, closeCall};
+ghost use Rattle.table.specs.Table.{listedIn, listsFresh, listingSound, sound, movedTo, moved, keptOn, refusedWith, zeroTable, openedWith, openCall, rollCall, closeCall, reopenCall};
 
 // A product, its calendar, a date, up to 15 maturities by rising key, and the count of numbers given.
 pub struct Table {
@@ -201,16 +201,16 @@ fn relisted(t: Table, cal: Calendar, date: u16) -> Outcome
     moved_to(t, cal, date, fresh)
 }
 
-// Whether the front on a date is the key in the first place, which is the front of a sound table.
-fn front_stays(t: Table, date: u16) -> bool
-    ensures { λ r. ⌜ r ≡ eqb (getD (t .maturities) 0 unused .key) (front (ruleOf (t .calendar) (t .product .kind) (t .product .group)) (t .calendar) date) ⌝ }
+// Whether the front under a calendar on a date is the key in the first place, which is the front of a sound table.
+fn front_stays(t: Table, cal: Calendar, date: u16) -> bool
+    ensures { λ r. ⌜ r ≡ eqb (getD (t .maturities) 0 unused .key) (front (ruleOf cal (t .product .kind) (t .product .group)) cal date) ⌝ }
 {
     let p = t.product;
     let kind = p.kind;
     let group = p.group;
     let maturities = t.maturities;
     let first = maturities[0];
-    first.key == listing::front_key(t.calendar, kind, group, date)
+    first.key == listing::front_key(cal, kind, group, date)
 }
 
 // The same table on another date: no month entered or left.
@@ -264,7 +264,7 @@ impl Table {
         if date < self.date {
             return refused(self, 12);
         }
-        if front_stays(self, date) {
+        if front_stays(self, self.calendar, date) {
             return kept(self, date);
         }
         relisted(self, self.calendar, date)
@@ -289,6 +289,28 @@ impl Table {
         let cal = calendar::close_day(self.calendar, day);
         if !calendar_questions::every_week_trades(cal) {
             return refused(self, 15);
+        }
+        relisted(self, cal, self.date)
+    }
+    // Opens a closed day again, where the front stays the same.
+    pub fn reopen(self, day: u16) -> Outcome
+        ensures { λ r. ⌜ r ≡ reopenCall self day ⌝ }
+    {
+        if !is_sound(self) {
+            return refused(self, 10);
+        }
+        if !calendar::in_cover(self.calendar.cover, day) {
+            return refused(self, 11);
+        }
+        if day <= self.date {
+            return refused(self, 13);
+        }
+        if !calendar::is_closed_weekday(self.calendar, day) {
+            return refused(self, 26);
+        }
+        let cal = calendar::reopen_day(self.calendar, day);
+        if !front_stays(self, cal, self.date) {
+            return refused(self, 27);
         }
         relisted(self, cal, self.date)
     }

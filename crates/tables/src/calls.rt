@@ -34,3 +34,10 @@ pub(crate) fn close(t: Table, day: u16) -> Table {
     let next = o.table;
     next
 }
+
+pub(crate) fn reopen(t: Table, day: u16) -> Table {
+    let o = t.reopen(day);
+    put_outcome(b'E', o);
+    let next = o.table;
+    next
+}

@@ -1,22 +1,18 @@
 // Whole histories: a table is opened and a list of calls is run on it, in one call.
+use crate::reading::four;
 use crate::reading::next;
 use crate::reading::read_master;
 use crate::reading::two;
 use crate::show::put_table;
 use crate::text::end_line;
 use crate::text::put;
+use crate::text::put_long;
 use crate::text::start_line;
 use history::Replay;
 use table::Table;
 ghost use mathlib.Core.Path.{_≡_};
 ghost use Prim.Native.Nat.{_≤_};
 ghost use lib.ListN.{length};
-
-// The two lists of calls: kinds, and dates or days.
-pub struct Calls {
-    pub kinds: [u8; 256],
-    pub days: [u16; 256],
-}
 
 // A number, or the most it may be.
 fn at_most(number: u16, most: u16) -> usize
@@ -28,42 +24,44 @@ fn at_most(number: u16, most: u16) -> usize
     number as usize
 }
 
-// A call's kind, from the letter of its record: 0 for a roll.
-fn kind_of(letter: u8) -> u8 {
+// A call's kind, from the letter of its record: 0 for a roll, 2 for a reopening, 1 for a close.
+fn kind_of(letter: u8) -> u32 {
     if letter == b'R' {
         return 0;
+    }
+    if letter == b'E' {
+        return 2;
     }
     1
 }
 
-// The calls of the next n records.
-fn read_calls(fd: i32, n: usize) -> Calls
+// The calls of the next n records, four numbers each: the kind, the date or day, and two that stay 0.
+fn read_calls(fd: i32, n: usize) -> [u32; 1024]
     requires { ⌜ n ≤ 256 ⌝ }
-    ensures { λ r. ⌜ (length (r .kinds) ≡ 256) × (length (r .days) ≡ 256) ⌝ }
+    ensures { λ r. ⌜ length r ≡ 1024 ⌝ }
 {
-    let mut kinds = [0u8; 256];
-    let mut days = [0u16; 256];
+    let mut calls = [0u32; 1024];
     let mut i: usize = 0;
     while i < n {
         let record = next(fd);
         let bytes = record.bytes;
-        kinds[i] = kind_of(bytes[0]);
-        days[i] = two(bytes[2], bytes[3]);
+        calls[4 * i] = kind_of(bytes[0]);
+        calls[4 * i + 1] = four(0, bytes[1], bytes[2], bytes[3]);
         i += 1;
     }
-    Calls { kinds, days }
+    calls
 }
 
-// The answer of each call: refusal, entered, left.
-fn put_answers(answers: [u16; 768], n: usize)
+// The answer of each call: refusal, entered, left. The fourth number is 0 for these calls.
+fn put_answers(answers: [u32; 1024], n: usize)
     requires { ⌜ n ≤ 256 ⌝ }
 {
     let mut i: usize = 0;
     while i < n {
         start_line(b'A');
-        put(answers[3 * i]);
-        put(answers[3 * i + 1]);
-        put(answers[3 * i + 2]);
+        put_long(answers[4 * i]);
+        put_long(answers[4 * i + 1]);
+        put_long(answers[4 * i + 2]);
         end_line();
         i += 1;
     }
@@ -83,23 +81,26 @@ fn put_replay(r: Replay) {
     end_line();
 }
 
-// Opens a table, runs the first n calls on it, of whose days some are lent, and prints the answers from a buffer of which a part is lent.
-fn replay(bytes: [u8; 16], calls: Calls, n: usize, days_lent: usize, buffer_lent: usize) -> Table
-    requires { ⌜ (n ≤ 256) × («days_lent» ≤ 256) × («buffer_lent» ≤ 768) × (length (calls .kinds) ≡ 256) × (length (calls .days) ≡ 256) ⌝ }
+// Opens a table, runs on it the calls whose numbers are lent, and prints the answers of n calls from a buffer of which a part is lent.
+fn replay(
+    bytes: [u8; 16],
+    calls: [u32; 1024],
+    n: usize,
+    numbers_lent: usize,
+    buffer_lent: usize,
+) -> Table
+    requires { ⌜ (n ≤ 256) × («numbers_lent» ≤ 1024) × («buffer_lent» ≤ 1024) × (length calls ≡ 1024) ⌝ }
 {
     let id = [bytes[4], bytes[5], bytes[6], bytes[7]];
     let date = two(bytes[2], bytes[3]);
-    let kinds = calls.kinds;
-    let days = calls.days;
-    let mut answers = [0u16; 768];
+    let mut answers = [0u32; 1024];
     let mut file = io::large_buffer();
     let size = read_master(bytes[1], &mut file);
     let r = history::run(
         &file[..size],
         id,
         date,
-        &kinds[..n],
-        &days[..days_lent],
+        &calls[..numbers_lent],
         &mut answers[..buffer_lent],
     );
     put_replay(r);
@@ -108,11 +109,11 @@ fn replay(bytes: [u8; 16], calls: Calls, n: usize, days_lent: usize, buffer_lent
     t
 }
 
-// A history of the calls in the records that follow. The record says how many there are, how many of their days are lent, and the length of the buffer that is lent.
+// A history of the calls in the records that follow. The record says how many there are, how many of their numbers are lent, and the length of the buffer that is lent.
 pub(crate) fn run(fd: i32, bytes: [u8; 16]) -> Table {
     let n = at_most(two(bytes[8], bytes[9]), 256);
-    let days_lent = at_most(two(bytes[10], bytes[11]), 256);
-    let buffer_lent = at_most(two(bytes[12], bytes[13]), 768);
+    let numbers_lent = at_most(two(bytes[10], bytes[11]), 1024);
+    let buffer_lent = at_most(two(bytes[12], bytes[13]), 1024);
     let calls = read_calls(fd, n);
-    replay(bytes, calls, n, days_lent, buffer_lent)
+    replay(bytes, calls, n, numbers_lent, buffer_lent)
 }

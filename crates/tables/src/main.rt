@@ -19,6 +19,8 @@ const ROLL: u8 = b'R';
 
 const CLOSE: u8 = b'C';
 
+const REOPEN: u8 = b'E';
+
 const DAMAGE: u8 = b'D';
 
 const HISTORY: u8 = b'H';
@@ -41,6 +43,7 @@ fn table_step(fd: i32, bytes: [u8; 16], t: Table) -> Table {
         OPEN => calls::open(bytes),
         ROLL => calls::roll(t, number),
         CLOSE => calls::close(t, number),
+        REOPEN => calls::reopen(t, number),
         DAMAGE => damage::damage(t, bytes[1], number, two(bytes[4], bytes[5])),
         HISTORY => histories::run(fd, bytes),
         _ => t,

@@ -15,47 +15,47 @@ loop-holds c = search needs
 start-line-requires : tie.Need-start-line-requires Inv-loop μ-loop
 start-line-requires c κs = tt
 
-mul-put : tie.Need-mul-put Inv-loop μ-loop
-mul-put c = search needs
+mul-put-long : tie.Need-mul-put-long Inv-loop μ-loop
+mul-put-long c = search needs
 
-mul-put-2 : tie.Need-mul-put-2 Inv-loop μ-loop
-mul-put-2 c = search needs
+mul-put-long-2 : tie.Need-mul-put-long-2 Inv-loop μ-loop
+mul-put-long-2 c = search needs
 
-array-read-put : tie.Need-array-read-put Inv-loop μ-loop
-array-read-put c = search needs
+array-read-put-long : tie.Need-array-read-put-long Inv-loop μ-loop
+array-read-put-long c = search needs
 
-put-requires : tie.Need-put-requires Inv-loop μ-loop
-put-requires c κs = tt
+put-long-requires : tie.Need-put-long-requires Inv-loop μ-loop
+put-long-requires c κs = tt
 
-mul-put-3 : tie.Need-mul-put-3 Inv-loop μ-loop
-mul-put-3 c = search needs
+mul-put-long-3 : tie.Need-mul-put-long-3 Inv-loop μ-loop
+mul-put-long-3 c = search needs
 
-add-put : tie.Need-add-put Inv-loop μ-loop
-add-put c = search needs
+add-put-long : tie.Need-add-put-long Inv-loop μ-loop
+add-put-long c = search needs
 
-mul-put-4 : tie.Need-mul-put-4 Inv-loop μ-loop
-mul-put-4 c = search needs
+mul-put-long-4 : tie.Need-mul-put-long-4 Inv-loop μ-loop
+mul-put-long-4 c = search needs
 
-array-read-put-2 : tie.Need-array-read-put-2 Inv-loop μ-loop
-array-read-put-2 c = search needs
+array-read-put-long-2 : tie.Need-array-read-put-long-2 Inv-loop μ-loop
+array-read-put-long-2 c = search needs
 
-put-requires-2 : tie.Need-put-requires-2 Inv-loop μ-loop
-put-requires-2 c κs = tt
+put-long-requires-2 : tie.Need-put-long-requires-2 Inv-loop μ-loop
+put-long-requires-2 c κs = tt
 
-mul-put-5 : tie.Need-mul-put-5 Inv-loop μ-loop
-mul-put-5 c = search needs
+mul-put-long-5 : tie.Need-mul-put-long-5 Inv-loop μ-loop
+mul-put-long-5 c = search needs
 
-add-put-2 : tie.Need-add-put-2 Inv-loop μ-loop
-add-put-2 c = search needs
+add-put-long-2 : tie.Need-add-put-long-2 Inv-loop μ-loop
+add-put-long-2 c = search needs
 
-mul-put-6 : tie.Need-mul-put-6 Inv-loop μ-loop
-mul-put-6 c = search needs
+mul-put-long-6 : tie.Need-mul-put-long-6 Inv-loop μ-loop
+mul-put-long-6 c = search needs
 
-array-read-put-3 : tie.Need-array-read-put-3 Inv-loop μ-loop
-array-read-put-3 c = search needs
+array-read-put-long-3 : tie.Need-array-read-put-long-3 Inv-loop μ-loop
+array-read-put-long-3 c = search needs
 
-put-requires-3 : tie.Need-put-requires-3 Inv-loop μ-loop
-put-requires-3 c κs = tt
+put-long-requires-3 : tie.Need-put-long-requires-3 Inv-loop μ-loop
+put-long-requires-3 c κs = tt
 
 end-line-requires : tie.Need-end-line-requires Inv-loop μ-loop
 end-line-requires c κs = tt
@@ -80,20 +80,20 @@ put-answers-spec =
     μ-loop
     loop-holds
     start-line-requires
-    mul-put
-    mul-put-2
-    array-read-put
-    put-requires
-    mul-put-3
-    add-put
-    mul-put-4
-    array-read-put-2
-    put-requires-2
-    mul-put-5
-    add-put-2
-    mul-put-6
-    array-read-put-3
-    put-requires-3
+    mul-put-long
+    mul-put-long-2
+    array-read-put-long
+    put-long-requires
+    mul-put-long-3
+    add-put-long
+    mul-put-long-4
+    array-read-put-long-2
+    put-long-requires-2
+    mul-put-long-5
+    add-put-long-2
+    mul-put-long-6
+    array-read-put-long-3
+    put-long-requires-3
     end-line-requires
     add-i
     loop-less

@@ -6,10 +6,10 @@ use Rattle.tables.proofs.histories.read_calls.Statement.{statement}
 use Rattle.tables.proofs.histories.read_calls.Tie as tie
 
 abbrev Inv-loop : tie.InvT-loop
-Inv-loop fd n kinds₀ days₀ i₀ kinds days i = (i ≤ 256) × (length kinds ≡ 256) × (length days ≡ 256)
+Inv-loop fd n calls₀ i₀ calls i = (i ≤ 256) × (length calls ≡ 1024)
 
 abbrev μ-loop : tie.MeasureT-loop
-μ-loop fd n kinds₀ days₀ i₀ kinds days i = 256 - i
+μ-loop fd n calls₀ i₀ calls i = 256 - i
 
 loop-holds : tie.Need-loop-holds Inv-loop μ-loop
 loop-holds c = search needs
@@ -23,23 +23,38 @@ array-read-kind-of c = search needs
 kind-of-requires : tie.Need-kind-of-requires Inv-loop μ-loop
 kind-of-requires c κs = tt
 
-array-write-kinds : tie.Need-array-write-kinds Inv-loop μ-loop
-array-write-kinds c = search needs
+mul-calls : tie.Need-mul-calls Inv-loop μ-loop
+mul-calls c = search needs
 
-array-read-two : tie.Need-array-read-two Inv-loop μ-loop
-array-read-two c = search needs
+mul-calls-2 : tie.Need-mul-calls-2 Inv-loop μ-loop
+mul-calls-2 c = search needs
 
-array-read-two-2 : tie.Need-array-read-two-2 Inv-loop μ-loop
-array-read-two-2 c = search needs
+array-write-calls : tie.Need-array-write-calls Inv-loop μ-loop
+array-write-calls c = search needs
 
-two-requires : tie.Need-two-requires Inv-loop μ-loop
-two-requires c κs = tt
+array-read-four : tie.Need-array-read-four Inv-loop μ-loop
+array-read-four c = search needs
 
-mul-days : tie.Need-mul-days Inv-loop μ-loop
-mul-days c = search needs
+array-read-four-2 : tie.Need-array-read-four-2 Inv-loop μ-loop
+array-read-four-2 c = search needs
 
-array-write-days : tie.Need-array-write-days Inv-loop μ-loop
-array-write-days c = search needs
+array-read-four-3 : tie.Need-array-read-four-3 Inv-loop μ-loop
+array-read-four-3 c = search needs
+
+four-requires : tie.Need-four-requires Inv-loop μ-loop
+four-requires c κs = tt
+
+mul-calls-3 : tie.Need-mul-calls-3 Inv-loop μ-loop
+mul-calls-3 c = search needs
+
+add-calls : tie.Need-add-calls Inv-loop μ-loop
+add-calls c = search needs
+
+mul-calls-4 : tie.Need-mul-calls-4 Inv-loop μ-loop
+mul-calls-4 c = search needs
+
+array-write-calls-2 : tie.Need-array-write-calls-2 Inv-loop μ-loop
+array-write-calls-2 c = search needs
 
 add-i : tie.Need-add-i Inv-loop μ-loop
 add-i c = search needs
@@ -63,12 +78,17 @@ read-calls-spec =
     next-requires
     array-read-kind-of
     kind-of-requires
-    array-write-kinds
-    array-read-two
-    array-read-two-2
-    two-requires
-    mul-days
-    array-write-days
+    mul-calls
+    mul-calls-2
+    array-write-calls
+    array-read-four
+    array-read-four-2
+    array-read-four-3
+    four-requires
+    mul-calls-3
+    add-calls
+    mul-calls-4
+    array-write-calls-2
     add-i
     loop-less
     loop-again

@@ -1,14 +1,15 @@
 use Rattle.tables.proofs.Prefix.{prefix-length}
 use native.Mathlib.Omega.{arith}
 use borrow.Author.Needs.{needs}
+use borrow.Author.Needs.{needs}
 use Rattle.tables.proofs.histories.replay.Statement.{statement}
 use Rattle.tables.proofs.histories.replay.Tie as tie
 
 array-read-two : tie.Need-array-read-two
 array-read-two c = search needs
 
-array-read-t21 : tie.Need-array-read-t21
-array-read-t21 c = search needs
+array-read-t20 : tie.Need-array-read-t20
+array-read-t20 c = search needs
 
 array-read-read-master : tie.Need-array-read-read-master
 array-read-read-master c = search needs
@@ -23,10 +24,10 @@ array-read-two-4 : tie.Need-array-read-two-4
 array-read-two-4 c = search needs
 
 two-requires : tie.Need-two-requires
-two-requires c κs = tt
+two-requires c κs = search needs
 
 large-buffer-requires : tie.Need-large-buffer-requires
-large-buffer-requires c κs = tt
+large-buffer-requires c κs = search needs
 
 array-read-read-master-2 : tie.Need-array-read-read-master-2
 array-read-read-master-2 c = search needs
@@ -35,7 +36,7 @@ slice-aggregate-read-master : tie.Need-slice-aggregate-read-master
 slice-aggregate-read-master c = search needs
 
 read-master-requires : tie.Need-read-master-requires
-read-master-requires c κs = tt
+read-master-requires c κs = search needs
 
 array-share-prefix-file : tie.Need-array-share-prefix-file
 array-share-prefix-file c = search needs
@@ -43,29 +44,23 @@ array-share-prefix-file c = search needs
 slice-aggregate-run : tie.Need-slice-aggregate-run
 slice-aggregate-run c = search needs
 
-array-share-prefix-kinds : tie.Need-array-share-prefix-kinds
-array-share-prefix-kinds c = search needs
+array-share-prefix-calls : tie.Need-array-share-prefix-calls
+array-share-prefix-calls c = search needs
 
 slice-aggregate-run-2 : tie.Need-slice-aggregate-run-2
 slice-aggregate-run-2 c = prefix-length _ _ (omega arith)
 
-array-share-prefix-days : tie.Need-array-share-prefix-days
-array-share-prefix-days c = search needs
+array-borrow-prefix-answers : tie.Need-array-borrow-prefix-answers
+array-borrow-prefix-answers c = search needs
 
 slice-aggregate-run-3 : tie.Need-slice-aggregate-run-3
 slice-aggregate-run-3 c = prefix-length _ _ (omega arith)
 
-array-borrow-prefix-answers : tie.Need-array-borrow-prefix-answers
-array-borrow-prefix-answers c = search needs
-
-slice-aggregate-run-4 : tie.Need-slice-aggregate-run-4
-slice-aggregate-run-4 c = prefix-length _ _ (omega arith)
-
 run-requires : tie.Need-run-requires
-run-requires c κs = tt
+run-requires c κs = search needs
 
 put-replay-requires : tie.Need-put-replay-requires
-put-replay-requires c κs = tt
+put-replay-requires c κs = search needs
 
 put-answers-requires : tie.Need-put-answers-requires
 put-answers-requires c κs = search needs
@@ -78,7 +73,7 @@ replay-spec =
     tie.close
     (tie.spec
     array-read-two
-    array-read-t21
+    array-read-t20
     array-read-read-master
     array-read-two-2
     array-read-two-3
@@ -90,12 +85,10 @@ replay-spec =
     read-master-requires
     array-share-prefix-file
     slice-aggregate-run
-    array-share-prefix-kinds
+    array-share-prefix-calls
     slice-aggregate-run-2
-    array-share-prefix-days
-    slice-aggregate-run-3
     array-borrow-prefix-answers
-    slice-aggregate-run-4
+    slice-aggregate-run-3
     run-requires
     put-replay-requires
     put-answers-requires

@@ -1,0 +1,75 @@
+use lib.ListN.{length-map}
+use Rattle.calendar.proofs.Reopening.{reopen-out, reopen-past, reopen-store}
+use lib.ListN.{length}
+use Rattle.questions.proofs.Bools.{said-no, said-yes}
+use Prim.Native.Nat.{_-_}
+use native.Mathlib.Omega.{arith}
+use mathlib.Core.Path.{_≡_}
+use borrow.Author.Needs.{needs}
+use Rattle.calendar.proofs.reopen_day.Statement.{statement}
+use Rattle.calendar.proofs.reopen_day.Tie as tie
+
+in-cover-requires : tie.Need-in-cover-requires
+in-cover-requires c κs = tt
+
+returns : tie.Need-returns
+returns c = reopen-out _ _ (said-no (c .before .in-cover .ensures) (c .if1 .taken))
+
+slot-of-requires : tie.Need-slot-of-requires
+slot-of-requires c κs = tt
+
+returns-2 : tie.Need-returns-2
+returns-2 c =
+    let start = c .before .before .before .before .before in
+    let l : length (start .args .cal .closed) ≡ 736 = simp length-map at (start .good .0 .1 .1 .1 .0 .1 .0 .1) in
+    let m : length (start .args .cal .exchange) ≡ 736 = simp length-map at (start .good .0 .1 .1 .1 .1 .0 .1 .0 .1) in
+    reopen-past _ _ (omega (arith, c .before .slot-of .ensures)) (omega (arith, c .before .slot-of .ensures))
+
+sub-bit : tie.Need-sub-bit
+sub-bit c = search needs
+
+cast-bit : tie.Need-cast-bit
+cast-bit c = search needs
+
+shl-bit : tie.Need-shl-bit
+shl-bit c = search needs
+
+element-copy-out-next : tie.Need-element-copy-out-next
+element-copy-out-next c = search needs
+
+sub-next : tie.Need-sub-next
+sub-next c = search needs
+
+element-write-next : tie.Need-element-write-next
+element-write-next c = search needs
+
+element-copy-out-next-2 : tie.Need-element-copy-out-next-2
+element-copy-out-next-2 c = search needs
+
+sub-next-2 : tie.Need-sub-next-2
+sub-next-2 c = search needs
+
+element-write-next-2 : tie.Need-element-write-next-2
+element-write-next-2 c = search needs
+
+returns-3 : tie.Need-returns-3
+returns-3 c = reopen-store _ _ _ (c .before .before .before .slot-of .ensures) (said-yes (c .before .before .before .before .before .in-cover .ensures) (c .before .before .before .before .if1 .left))
+
+pub reopen-day-spec : {M : Type 1} → statement M
+reopen-day-spec =
+    tie.close
+    (tie.spec
+    in-cover-requires
+    returns
+    slot-of-requires
+    returns-2
+    sub-bit
+    cast-bit
+    shl-bit
+    element-copy-out-next
+    sub-next
+    element-write-next
+    element-copy-out-next-2
+    sub-next-2
+    element-write-next-2
+    returns-3)
