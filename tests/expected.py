@@ -8,6 +8,7 @@ from dataclasses import replace
 import cases
 import histories
 from second import dates, intake, listing, master, product, trading
+import mornings
 from second.trading import Calendar
 
 NO_DAY = 36525
@@ -396,6 +397,7 @@ PROGRAMS = {
     'comparisons': comparisons,
     'files': files,
     'tables': histories.lines,
+    'morning': mornings.lines,
 }
 
 

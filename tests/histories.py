@@ -7,8 +7,8 @@ python3 tests/histories.py --check crates/tables/data
 
 import sys
 from functools import lru_cache
-from pathlib import Path
 
+import stored
 from second import dates, product, trading
 from second.book import Book
 from tables.damages import (damaged_second_maps, damaged_tables, damaged_tables_of_2005, damaged_weekly_tables,
@@ -672,33 +672,5 @@ def folder():
     return files
 
 
-# Writes the folder's files.
-def write(path):
-    for name, data in folder().items():
-        (path / name).write_bytes(data)
-
-
-# The names of the stored files that are not what is written, or are missing.
-def others(path):
-    files = folder()
-    stored = {one.name: one.read_bytes() for one in path.iterdir()} if path.is_dir() else {}
-    return sorted(name for name in files.keys() | stored.keys() if files.get(name) != stored.get(name))
-
-
-# Writes the folder's files, or says which of the stored ones are others.
-def main(arguments):
-    if len(arguments) != 2 or arguments[0] not in ('--write', '--check'):
-        print('usage: histories.py --write FOLDER | --check FOLDER', file=sys.stderr)
-        return 2
-    path = Path(arguments[1])
-    if arguments[0] == '--write':
-        write(path)
-        return 0
-    wrong = others(path)
-    for name in wrong:
-        print(f'{path / name} is not what histories.py writes')
-    return 1 if wrong else 0
-
-
 if __name__ == '__main__':
-    sys.exit(main(sys.argv[1:]))
+    sys.exit(stored.command('histories.py', sys.argv[1:], folder))

@@ -1,0 +1,61 @@
+use Rattle.rounds.proofs.Places.{index-here, index-next, index-none}
+use Rattle.rounds.specs.Rounds.{indexOf}
+use lib.ListN.{length, take, drop}
+use Prim.Native.Nat.{_+_, _-_, _≤_}
+use native.Mathlib.Nat.{zero-add}
+use native.Mathlib.Omega.{arith}
+use mathlib.Core.Path.{_≡_, sym}
+use Rattle.rounds.proofs.index_of.Statement.{statement}
+use Rattle.rounds.proofs.index_of.Tie as tie
+
+abbrev Inv-loop : tie.InvT-loop
+Inv-loop n table tables i₀ i = (n ≤ length tables) × (i ≤ n) × (indexOf (take n tables) table ≡ i + indexOf (drop i (take n tables)) table)
+
+abbrev μ-loop : tie.MeasureT-loop
+μ-loop n table tables i₀ i = n - i
+
+loop-holds : tie.Need-loop-holds Inv-loop μ-loop
+loop-holds c = (omega (arith, c .good .0 .1 .0 .1), omega arith, sym (zero-add _))
+
+mul-if1 : tie.Need-mul-if1 Inv-loop μ-loop
+mul-if1 c = omega arith
+
+array-read-if1 : tie.Need-array-read-if1 Inv-loop μ-loop
+array-read-if1 c = omega arith
+
+returns : tie.Need-returns Inv-loop μ-loop
+returns c =
+    let v = c .before .before .loop .inv in
+    let h = c .before .loop-test .taken in
+    (index-here _ _ _ (v .0) _ (v .2) h (c .if1 .taken), omega arith)
+
+add-i : tie.Need-add-i Inv-loop μ-loop
+add-i c = omega arith
+
+loop-less : tie.Need-loop-less Inv-loop μ-loop
+loop-less c = omega arith
+
+loop-again : tie.Need-loop-again Inv-loop μ-loop
+loop-again c =
+    let v = c .before .before .loop .inv in
+    (v .0, omega arith, index-next _ _ _ (v .0) _ (v .2) (c .before .loop-test .taken) (c .if1 .left))
+
+returns-2 : tie.Need-returns-2 Inv-loop μ-loop
+returns-2 c =
+    let v = c .before .loop .inv in
+    (index-none _ _ _ (v .0) _ (v .2) (c .loop-test .left), v .1)
+
+pub index-of-spec : {M : Type 1} → statement M
+index-of-spec =
+    tie.close
+    (tie.spec
+    Inv-loop
+    μ-loop
+    loop-holds
+    mul-if1
+    array-read-if1
+    returns
+    add-i
+    loop-less
+    loop-again
+    returns-2)

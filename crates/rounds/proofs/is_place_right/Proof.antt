@@ -1,0 +1,75 @@
+use Rattle.questions.proofs.Search.{every-none, every-more, every-not}
+use Rattle.questions.proofs.Bools.{and-both}
+use Rattle.questions.specs.Search.{every}
+use lib.Dec.{eqb}
+use lib.ListN.{getD}
+use borrow.Author.Tests.{eq-eqb, ne-eqb, le-leb, lt-leb}
+use mathlib.Core.Bool.{true, not}
+use Prim.Native.Nat.{_-_, _≤_}
+use native.Mathlib.Omega.{arith}
+use mathlib.Core.Path.{_≡_, sym, ap}
+use Rattle.rounds.proofs.is_place_right.Statement.{statement}
+use Rattle.rounds.proofs.is_place_right.Tie as tie
+
+abbrev Inv-loop : tie.InvT-loop
+Inv-loop i tables number j₀ j = (j ≤ i) × (getD tables i 0 ≤ 199) × (every j (λ k. not (eqb (getD tables k 0) (getD tables i 0))) ≡ true)
+
+abbrev μ-loop : tie.MeasureT-loop
+μ-loop i tables number j₀ j = i - j
+
+mul-number : tie.Need-mul-number Inv-loop μ-loop
+mul-number c = omega arith
+
+array-read-number : tie.Need-array-read-number Inv-loop μ-loop
+array-read-number c = omega arith
+
+returns : tie.Need-returns Inv-loop μ-loop
+returns c = rw (lt-leb _ _ (c .if1 .taken))
+
+loop-holds : tie.Need-loop-holds Inv-loop μ-loop
+loop-holds c = (omega arith, omega arith, every-none _)
+
+mul-if2 : tie.Need-mul-if2 Inv-loop μ-loop
+mul-if2 c = omega arith
+
+array-read-if2 : tie.Need-array-read-if2 Inv-loop μ-loop
+array-read-if2 c = omega arith
+
+returns-2 : tie.Need-returns-2 Inv-loop μ-loop
+returns-2 c =
+    rw (le-leb _ _ (c .before .before .loop .inv .1)) (sym (every-not _ _ _ (ap not (eq-eqb _ _ (c .if2 .taken))) (c .before .loop-test .taken)))
+
+add-j : tie.Need-add-j Inv-loop μ-loop
+add-j c = omega arith
+
+loop-less : tie.Need-loop-less Inv-loop μ-loop
+loop-less c = omega arith
+
+loop-again : tie.Need-loop-again Inv-loop μ-loop
+loop-again c =
+    let v = c .before .before .loop .inv in
+    (omega arith, v .1, every-more _ _ (v .2) (ap not (ne-eqb _ _ (c .if2 .left))))
+
+returns-3 : tie.Need-returns-3 Inv-loop μ-loop
+returns-3 c =
+    let v = c .before .loop .inv in
+    let e : c .before .loop .j ≡ c .before .before .before .args .i = omega arith in
+    sym (and-both (le-leb _ _ (v .1)) (rw e at (v .2)))
+
+pub is-place-right-spec : {M : Type 1} → statement M
+is-place-right-spec =
+    tie.close
+    (tie.spec
+    Inv-loop
+    μ-loop
+    mul-number
+    array-read-number
+    returns
+    loop-holds
+    mul-if2
+    array-read-if2
+    returns-2
+    add-j
+    loop-less
+    loop-again
+    returns-3)

@@ -1,0 +1,71 @@
+use Rattle.rounds.specs.Rounds.{queuePlaceRight, queueRight}
+use Rattle.questions.proofs.Search.{every-none, every-more, every-not}
+use Rattle.questions.proofs.Bools.{and-both, said-no, said-yes}
+use Rattle.questions.specs.Search.{every}
+use borrow.Author.Tests.{le-leb, lt-leb}
+use borrow.Author.Needs.{needs}
+use mathlib.Core.Bool.{true}
+use Prim.Native.Nat.{_-_, _≤_}
+use native.Mathlib.Omega.{arith}
+use mathlib.Core.Path.{_≡_, sym}
+use Rattle.rounds.proofs.is_right.Statement.{statement}
+use Rattle.rounds.proofs.is_right.Tie as tie
+
+abbrev Inv-loop : tie.InvT-loop
+Inv-loop n tables i₀ i = (n ≤ 200) × (i ≤ n) × (every i (queuePlaceRight tables) ≡ true)
+
+abbrev μ-loop : tie.MeasureT-loop
+μ-loop n tables i₀ i = n - i
+
+cast-n : tie.Need-cast-n Inv-loop μ-loop
+cast-n c = search needs
+
+returns : tie.Need-returns Inv-loop μ-loop
+unfolding queueRight
+returns c = rw (lt-leb _ _ (c .if1 .taken))
+
+loop-holds : tie.Need-loop-holds Inv-loop μ-loop
+loop-holds c = (omega arith, omega arith, every-none _)
+
+is-place-right-requires : tie.Need-is-place-right-requires Inv-loop μ-loop
+is-place-right-requires c κs = omega arith
+
+returns-2 : tie.Need-returns-2 Inv-loop μ-loop
+unfolding queueRight
+returns-2 c =
+    rw (le-leb _ _ (c .before .before .before .loop .inv .0))
+    (sym (every-not _ _ _ (said-no (c .before .is-place-right .ensures) (c .if2 .taken)) (c .before .before .loop-test .taken)))
+
+add-i : tie.Need-add-i Inv-loop μ-loop
+add-i c = omega arith
+
+loop-less : tie.Need-loop-less Inv-loop μ-loop
+loop-less c = omega arith
+
+loop-again : tie.Need-loop-again Inv-loop μ-loop
+loop-again c =
+    let v = c .before .before .before .loop .inv in
+    (v .0, omega arith, every-more _ _ (v .2) (said-yes (c .before .is-place-right .ensures) (c .if2 .left)))
+
+returns-3 : tie.Need-returns-3 Inv-loop μ-loop
+unfolding queueRight
+returns-3 c =
+    let v = c .before .loop .inv in
+    let e : c .before .loop .i ≡ c .before .before .before .before .before .args .q .count = omega arith in
+    sym (and-both (le-leb _ _ (v .0)) (rw e at (v .2)))
+
+pub is-right-spec : {M : Type 1} → statement M
+is-right-spec =
+    tie.close
+    (tie.spec
+    Inv-loop
+    μ-loop
+    cast-n
+    returns
+    loop-holds
+    is-place-right-requires
+    returns-2
+    add-i
+    loop-less
+    loop-again
+    returns-3)

@@ -1,0 +1,62 @@
+use Rattle.rounds.proofs.Places.{Putting, puts, puts-more, puts-all}
+use lib.ListN.{take, drop}
+use mathlib.Core.List.{_++_}
+use Prim.Native.Nat.{_+_, _-_}
+use native.Mathlib.Omega.{arith}
+use Rattle.rounds.proofs.put_after.Statement.{statement}
+use Rattle.rounds.proofs.put_after.Tie as tie
+
+abbrev Inv-loop : tie.InvT-loop
+Inv-loop n first end tables out₀ at₀ i₀ out at i = Putting (take n out₀ ++ drop first (take end tables)) tables end out at i
+
+abbrev μ-loop : tie.MeasureT-loop
+μ-loop n first end tables out₀ at₀ i₀ out at i = end - i
+
+loop-holds : tie.Need-loop-holds Inv-loop μ-loop
+loop-holds c =
+    let p = c .pre in
+    puts _ _ _ _ _ (omega (arith, c .good .0 .1 .0 .1, p .2)) (omega (arith, c .good .1 .1 .0 .1 .0 .1)) (p .0) (p .2) (p .3)
+
+mul-out : tie.Need-mul-out Inv-loop μ-loop
+mul-out c = omega arith
+
+array-read-out : tie.Need-array-read-out Inv-loop μ-loop
+array-read-out c = omega arith
+
+mul-out-2 : tie.Need-mul-out-2 Inv-loop μ-loop
+mul-out-2 c = omega (arith, c .before .loop .inv .room)
+
+array-write-out : tie.Need-array-write-out Inv-loop μ-loop
+array-write-out c = omega (arith, c .before .loop .inv .room)
+
+add-at : tie.Need-add-at Inv-loop μ-loop
+add-at c = omega (arith, c .before .loop .inv .room)
+
+add-i : tie.Need-add-i Inv-loop μ-loop
+add-i c = omega arith
+
+loop-less : tie.Need-loop-less Inv-loop μ-loop
+loop-less c = omega arith
+
+loop-again : tie.Need-loop-again Inv-loop μ-loop
+loop-again c = puts-more _ _ _ _ _ _ (c .before .loop .inv) (c .loop-test .taken)
+
+returns : tie.Need-returns Inv-loop μ-loop
+returns c = puts-all _ _ _ _ _ _ (c .before .loop .inv) (c .loop-test .left)
+
+pub put-after-spec : {M : Type 1} → statement M
+put-after-spec =
+    tie.close
+    (tie.spec
+    Inv-loop
+    μ-loop
+    loop-holds
+    mul-out
+    array-read-out
+    mul-out-2
+    array-write-out
+    add-at
+    add-i
+    loop-less
+    loop-again
+    returns)
