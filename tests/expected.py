@@ -7,8 +7,8 @@ from dataclasses import replace
 
 import cases
 import histories
-from second import dates, intake, listing, master, product, trading
 import mornings
+from second import dates, generated, intake, listing, master, product, trading
 from second.trading import Calendar
 
 NO_DAY = 36525
@@ -177,6 +177,36 @@ def second_map_section():
         start = max(0, trading.first_day(calendar) - 10)
         for day in range(start, trading.last_day(calendar) + 11, 37 if calendar.years == 16 else 5):
             yield exchange_line(calendar, day)
+
+
+# ---- made-up calendars ----
+
+# Seeds and covers: seeds that meet "unless that would leave a seven-day run without
+# a trading day", long covers, and covers that are refused.
+MADE_UP = ((26355, 2000, 1), (59783, 2000, 1), (8256, 2000, 14), (1, 2008, 3), (2**32 - 1, 2000, 16),
+           (2**31, 2084, 16), (7, 2000, 0), (7, 2000, 17), (7, 1999, 1), (7, 2090, 11), (7, 2100, 1),
+           (7, 65535, 65535))
+
+
+# A seed and a cover; the refusal, the calendar's cover, what questions 5 and 6
+# answer, and its closed days. A calendar of zeros has no day, and passes both.
+def made_up_line(seed, first_year, years):
+    number, calendar = generated.make(seed, first_year, years)
+    answers = (1, 1) if number else (int(trading.is_clean(calendar)), int(trading.every_week_trades(calendar)))
+    words = [seed, first_year, years, number, calendar.first_year, calendar.years, *answers,
+             *sorted(calendar.closed)]
+    return 'Z ' + ' '.join(str(word) for word in words)
+
+
+# The section on made-up calendars (02, note 14): every year with two seeds, which
+# lie 20,000,003 apart, then the covers.
+def made_up_section():
+    for index in range(200):
+        seed = 20_000_003 * index
+        yield f'V {seed} {generated.next_value(seed)}'
+        yield made_up_line(seed, 2000 + index % 100, 1)
+    for seed, first_year, years in MADE_UP:
+        yield made_up_line(seed, first_year, years)
 
 
 # ---- products ----
@@ -385,6 +415,7 @@ def comparisons():
     yield from product_section()
     yield from listing_section()
     yield from second_map_section()
+    yield from made_up_section()
 
 
 # The program files: the lines of every case in turn.

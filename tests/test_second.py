@@ -17,7 +17,8 @@ sys.path.insert(0, TESTS)
 
 import cases  # noqa: E402
 from runs.lines import other_lines  # noqa: E402
-from second import dates, intake, listing, master, product, rounds, table, terms, trading  # noqa: E402
+from second import (dates, generated, intake, listing, master, product, rounds, table, terms,  # noqa: E402
+                    trading)
 from second.book import Book  # noqa: E402
 from second.product import Product  # noqa: E402
 from second.trading import Calendar  # noqa: E402
@@ -1583,6 +1584,58 @@ class Rounds(unittest.TestCase):
             self.assertLessEqual(calls, most)
 
 
+# 02, note 14.
+class Generated(unittest.TestCase):
+
+    def closed(self, seed, first_year, years):
+        number, calendar = generated.make(seed, first_year, years)
+        self.assertEqual((number, calendar.first_year, calendar.years, calendar.exchange),
+                         (0, first_year, years, frozenset()))
+        self.assertTrue(trading.is_clean(calendar))
+        self.assertTrue(trading.every_week_trades(calendar))
+        return sorted(dates.date_of(day) for day in calendar.closed)
+
+    def test_values(self):
+        values = [0]
+        for _ in range(4):
+            values.append(generated.next_value(values[-1]))
+        self.assertEqual(values, [0, 1013904223, 1196435762, 3519870697, 2868466484])
+        self.assertEqual(generated.next_value(2**32 - 1), 1012239698)
+
+    def test_closed_days(self):
+        self.assertEqual(self.closed(0, 2008, 1),
+                         [(2008, 1, 21), (2008, 2, 4), (2008, 2, 13), (2008, 5, 30), (2008, 9, 4),
+                          (2008, 10, 3), (2008, 11, 18), (2008, 12, 9), (2008, 12, 23)])
+        days = self.closed(1, 2008, 3)
+        self.assertEqual(len(days), 32)
+        self.assertEqual(days[:5], [(2008, 1, 11), (2008, 3, 12), (2008, 3, 18), (2008, 4, 2), (2008, 4, 3)])
+
+    # "unless that would leave a seven-day run without a trading day": what the run's
+    # last day would have been stays open, and takes its value all the same.
+    def test_spared_days(self):
+        days = self.closed(26355, 2000, 1)
+        self.assertEqual(len(days), 13)
+        self.assertEqual([day for day in days if day[1] == 5],
+                         [(2000, 5, 19), (2000, 5, 22), (2000, 5, 23), (2000, 5, 24)])
+        self.assertEqual(self.closed(59783, 2000, 1)[:4],
+                         [(2000, 1, 10), (2000, 1, 11), (2000, 1, 12), (2000, 1, 13)])
+        self.assertNotIn((2013, 12, 19), self.closed(8256, 2000, 14))
+
+    def test_values_of_spared_days(self):
+        for seed, spared in ((26355, (2000, 5, 25)), (59783, (2000, 1, 14))):
+            value = seed
+            for day in range(dates.day_of(*spared) + 1):
+                if dates.is_weekday(day):
+                    value = generated.next_value(value)
+            self.assertLess(value // 2**24, 8)
+
+    def test_covers(self):
+        for first_year, years in ((2000, 16), (2099, 1), (2084, 16)):
+            self.assertTrue(self.closed(2**32 - 1, first_year, years))
+        for first_year, years in ((2000, 0), (2000, 17), (1999, 1), (2090, 11), (2100, 1)):
+            self.assertEqual(generated.make(7, first_year, years), (4, Calendar(0, 0, frozenset())))
+
+
 class Terms(unittest.TestCase):
 
     FILE = master.build(EASTER, [AXA])
@@ -1731,6 +1784,15 @@ class Expected(unittest.TestCase):
         self.assertEqual(lines[:3], [
             'F 0 0 8 788', 'C 2008 8 53 235919',
             'I 0 11 10 65 88 65 32 70 82 49 49 88 80 65 82 3 100 100 69 85 82'])
+
+    # 02, note 14: the values, and the calendars of two seeds.
+    def test_made_up(self):
+        lines = [line for line in self.lines('comparisons') if line[0] in 'VZ']
+        self.assertEqual(len(lines), 412)
+        self.assertEqual(lines[0], 'V 0 1013904223')
+        self.assertEqual(lines[1].split()[:9], ['Z', '0', '2000', '1', '0', '2000', '1', '1', '1'])
+        self.assertIn('Z 59783 2000 1 0 2000 1 1 1 9 10 11 12 157 212 334', lines)
+        self.assertIn('Z 7 2000 17 4 0 0 1 1', lines)
 
     # 02, note 13: the first lines, and a call whose three tables are rolled.
     def test_mornings(self):

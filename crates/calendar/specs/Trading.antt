@@ -4,6 +4,7 @@ use Prim.Native.Nat.{ℕ, zero, suc, _+_, _-_, _*_, _/_, _%_}
 use mathlib.Core.Bool.{Bool, not, _&&_, _||_, cond}
 use mathlib.Core.List.{List, []}
 use lib.Dec.{leb, ltb}
+use lib.ListN.{replicate}
 use Rattle.questions.specs.Search.{every, some, firstFrom}
 use Rattle.days.specs.Gregorian.{weekdayOf}
 use Rattle.days.specs.Dates.{yearOf, yearStart, dayInYear}
@@ -18,6 +19,14 @@ calendarOfMaps cover closed exchange = record { cover = cover; closed = closed; 
 -- the same with nothing in the second map, on which trading days, last trading days and listings do not depend (Second)
 abbrev pub calendarWith : Cover → List ℕ → Calendar
 calendarWith cover closed = calendarOfMaps cover closed []
+
+-- a cover with nothing in its maps
+unfoldable pub openCalendar : Cover → Calendar
+openCalendar cover = calendarOfMaps cover (replicate 736 0) (replicate 736 0)
+
+-- 'a calendar of zeros' (02, note 14), as in 'a table of zeros' (01, Questions, in order)
+unfoldable pub zeroCalendar : Calendar
+zeroCalendar = openCalendar (record { «first_year» = 0; years = 0 })
 
 -- '1 to 16 years from 2000 to 2099' (01, The table)
 unfoldable pub validCover : Cover → Bool

@@ -3,7 +3,7 @@ ghost use mathlib.Core.Path.{_≡_};
 ghost use mathlib.Core.Bool.{_&&_};
 ghost use Prim.Native.Nat.{_-_, _≤_};
 ghost use Rattle.calendar.specs.Bits.{bitAt};
-ghost use Rattle.calendar.specs.Trading.{calendarOfMaps, calendarWith, validCover, coverStart, coverEnd, inCover, slotOf, closedOn, tradingDay, inSecondMap, exchangeDay, nextExchangeDay, nthExchangeDay, closeDay, reopenDay, closedWeekday};
+ghost use Rattle.calendar.specs.Trading.{calendarOfMaps, calendarWith, openCalendar, zeroCalendar, validCover, coverStart, coverEnd, inCover, slotOf, closedOn, tradingDay, inSecondMap, exchangeDay, nextExchangeDay, nthExchangeDay, closeDay, reopenDay, closedWeekday};
 
 // A run of whole years.
 pub struct Cover {
@@ -17,6 +17,30 @@ pub struct Calendar {
     pub cover: Cover,
     pub closed: [u8; 736],
     pub exchange: [u8; 736],
+}
+
+// A cover with nothing in its maps.
+pub fn open_calendar(cover: Cover) -> Calendar
+    ensures { λ r. ⌜ r ≡ openCalendar cover ⌝ }
+{
+    let closed = [0u8; 736];
+    let exchange = [0u8; 736];
+    Calendar {
+        cover,
+        closed,
+        exchange,
+    }
+}
+
+// A calendar of zeros.
+pub fn zero_calendar() -> Calendar
+    ensures { λ r. ⌜ r ≡ zeroCalendar ⌝ }
+{
+    let cover = Cover {
+        first_year: 0,
+        years: 0,
+    };
+    open_calendar(cover)
 }
 
 // 1 to 16 years from 2000 to 2099.

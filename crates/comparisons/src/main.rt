@@ -2,6 +2,7 @@
 mod calendars;
 mod dates;
 mod listings;
+mod made_up;
 mod patterns;
 mod products;
 mod second_maps;
@@ -13,4 +14,5 @@ fn main() {
     products::print();
     listings::print();
     second_maps::print();
+    made_up::print();
 }

@@ -80,13 +80,7 @@ fn closed_if(cal: Calendar, pattern: u16, day: u16) -> Calendar
 
 // The calendar of a cover with a pattern of closures.
 pub(crate) fn closed_by(cover: Cover, pattern: u16) -> Calendar {
-    let closed = [0u8; 736];
-    let exchange = [0u8; 736];
-    let mut cal = Calendar {
-        cover,
-        closed,
-        exchange,
-    };
+    let mut cal = calendar::open_calendar(cover);
     let end = calendar::cover_end(cover);
     let mut day = calendar::cover_start(cover);
     while day < end {

@@ -13,6 +13,11 @@ pub(crate) fn put(n: u16) {
     io::print_decimal(STDOUT_FILENO, n as u64);
 }
 
+pub(crate) fn put_long(n: u32) {
+    io::write_all(STDOUT_FILENO, b" ");
+    io::print_decimal(STDOUT_FILENO, n as u64);
+}
+
 fn unsigned(n: i64) -> u64
     requires { ⌜ pos 0 ≤ℤ n ⌝ }
     ensures { λ r. ⌜ r < 9223372036854775808 ⌝ }

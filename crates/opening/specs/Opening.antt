@@ -6,7 +6,7 @@ use mathlib.Core.List.{List, [], _∷_, _++_}
 use lib.Dec.{eqb}
 use lib.ListN.{replicate}
 use Rattle.questions.specs.Questions.{Ask, ask, firstNo}
-use Rattle.calendar.specs.Trading.{inCover}
+use Rattle.calendar.specs.Trading.{inCover, zeroCalendar}
 use Rattle.calendar.specs.declared.Calendar.{Calendar}
 use Rattle.product.specs.declared.Product.{Product}
 use Rattle.product.specs.declared.Kind.the-variants.{Future}
@@ -29,10 +29,6 @@ zeroProduct =
       tick = 0;
       currency = replicate 3 0;
     }
-
--- a calendar of zeros
-unfoldable pub zeroCalendar : Calendar
-zeroCalendar = record { cover = record { «first_year» = 0; years = 0 }; closed = replicate 736 0; exchange = replicate 736 0 }
 
 -- 'Open: 1–9, 11, 16'; '24, after 11, in opening kind 5' (02, note 3)
 unfoldable pub openAsks : List ℕ → List ℕ → ℕ → List Ask

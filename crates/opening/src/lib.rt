@@ -1,13 +1,12 @@
 // What opening a table finds in a master file.
 use calendar::Calendar;
-use calendar::Cover;
 use listing::Maturity;
 use master::Found;
 use product::Kind;
 use product::Product;
 use product::Text;
 ghost use mathlib.Core.Path.{_≡_};
-ghost use Rattle.opening.specs.Opening.{zeroProduct, zeroCalendar, refusedOpening, openingOf};
+ghost use Rattle.opening.specs.Opening.{zeroProduct, refusedOpening, openingOf};
 
 // The number of the refusal, 0 where there is none; the product, the file's calendar, and the fresh listing, not yet numbered.
 pub struct Opening {
@@ -32,29 +31,12 @@ pub fn zero_product() -> Product
     }
 }
 
-// A calendar of zeros.
-pub fn zero_calendar() -> Calendar
-    ensures { λ r. ⌜ r ≡ zeroCalendar ⌝ }
-{
-    let cover = Cover {
-        first_year: 0,
-        years: 0,
-    };
-    let closed = [0u8; 736];
-    let exchange = [0u8; 736];
-    Calendar {
-        cover,
-        closed,
-        exchange,
-    }
-}
-
 // The number of a refusal, and zeros.
 fn refused_opening(number: u8) -> Opening
     ensures { λ r. ⌜ r ≡ refusedOpening number ⌝ }
 {
     let product = zero_product();
-    let calendar = zero_calendar();
+    let calendar = calendar::zero_calendar();
     let unused = Maturity {
         key: 0,
         day: 0,

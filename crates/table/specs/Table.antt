@@ -8,7 +8,7 @@ use lib.ListN.{length, take, replicate}
 use Rattle.questions.specs.Questions.{Ask, ask, firstNo}
 use Rattle.questions.specs.Search.{every}
 use Rattle.calendar.specs.declared.Calendar.{Calendar}
-use Rattle.calendar.specs.Trading.{validCover, inCover, tradingDay, clean, everyWeek, closeDay, reopenDay, closedWeekday}
+use Rattle.calendar.specs.Trading.{zeroCalendar, validCover, inCover, tradingDay, clean, everyWeek, closeDay, reopenDay, closedWeekday}
 use Rattle.product.specs.declared.Product.{Product}
 use Rattle.product.specs.Fields.{productRight}
 use Rattle.listing.specs.declared.Maturity.{Maturity}
@@ -16,7 +16,7 @@ use Rattle.listing.specs.Rules.{keysBefore, frontStays, unused, places15}
 use Rattle.listing.specs.Months.{placesOfKind, ruleOf, freshOf, allInCover, weekIntoCover}
 use Rattle.years.specs.Calendars.{calendarOf}
 use Rattle.master.specs.Load.{productOf}
-use Rattle.opening.specs.Opening.{zeroProduct, zeroCalendar, openAsks}
+use Rattle.opening.specs.Opening.{zeroProduct, openAsks}
 use Rattle.table.specs.declared.Table.{Table}
 use Rattle.table.specs.declared.Outcome.{Outcome}
 use Rattle.places.specs.Numbering.{missing, renumbered, numberedFresh, placeRight, numbersRight}

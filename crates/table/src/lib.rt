@@ -120,7 +120,7 @@ pub fn zero_table() -> Table
     ensures { λ r. ⌜ r ≡ zeroTable ⌝ }
 {
     let product = opening::zero_product();
-    let calendar = opening::zero_calendar();
+    let calendar = calendar::zero_calendar();
     let unused = Maturity {
         key: 0,
         day: 0,

@@ -9,6 +9,9 @@ Inv-loop pattern cal₀ end day₀ cal day = day ≤ 36525
 abbrev μ-loop : tie.MeasureT-loop
 μ-loop pattern cal₀ end day₀ cal day = end - day
 
+open-calendar-requires : tie.Need-open-calendar-requires Inv-loop μ-loop
+open-calendar-requires c κs = tt
+
 cover-end-requires : tie.Need-cover-end-requires Inv-loop μ-loop
 cover-end-requires c κs = tt
 
@@ -39,6 +42,7 @@ closed-by-spec =
     (tie.spec
     Inv-loop
     μ-loop
+    open-calendar-requires
     cover-end-requires
     cover-start-requires
     loop-holds
