@@ -585,6 +585,60 @@ def all_of_reopenings(script, numbers):
     odd_reopenings(script)
 
 
+# ---- What one closure can reach ----
+
+# 02, note 10: the trading days of some weeks after the date closed, each on the same
+# table.
+def closures_one_by_one(script):
+    script.save()
+    calendar, date = script.table.calendar, script.table.date
+    for day in range(date + 1, date + 50):
+        if trading.is_trading_day(calendar, day):
+            script.close(day)
+            script.restore()
+
+
+# The date comes to a closed day, with two trading days left to the last trading day
+# of the front maturity: these two.
+def two_days_left(script):
+    last = script.book.maturities[0][1]
+    before = trading.latest_trading_day(script.book.calendar, last - 1)
+    earlier = trading.latest_trading_day(script.book.calendar, before - 1)
+    make(script, (('R', earlier - 1), ('C', earlier), ('R', earlier)))
+    return before, last
+
+
+# "two closures accepted one after the other are accepted in the other order and
+# leave the same table, numbers included".
+def closures_in_both_orders(script, one, two):
+    script.save()
+    front = script.table.places[0][0]
+    ends = []
+    for first, second in ((one, two), (two, one)):
+        ends.append((script.close(first), script.close(second), script.table))
+        script.restore()
+    both = [end for end in ends if end[:2] == (0, 0)]
+    if both and ends[0] != ends[1]:
+        raise ValueError(f'the closures of {one} and {two} are not the same in both orders')
+    if both and ends[0][2].places[0][0] != front:
+        script.seen.add(('both orders', script.table.product.kind))
+
+
+# Both for each kind; of two closures the second takes the front maturity off.
+def closures_of_every_kind(script):
+    for number, code, date in ((EXAMPLE, b'AXA ', 2940), (EXAMPLE, b'ENI ', 2940), (EXAMPLE, b'AXAF', 2940),
+                               (SEVEN_YEARS, b'TIT ', 7050), (SEVEN_YEARS, b'ENEL', 7050),
+                               (SEVEN_YEARS, b'DAI ', 7050), (THREE_YEARS_2005, b'FIA5', 2940),
+                               (THREE_YEARS_WEEKLY, b'AXAW', 3030), (THREE_YEARS_WEEKLY, b'ENIW', 3030)):
+        script.open(number, code, date)
+        closures_one_by_one(script)
+        script.open(number, code, date)
+        before, last = two_days_left(script)
+        next_last = script.book.maturities[1][1]
+        for one, two in ((before, last), (last, next_last), (before, next_last)):
+            closures_in_both_orders(script, one, two)
+
+
 # ---- The whole script ----
 
 # 01, Questions, and 02, notes 3, 5 and 9: the numbers that each call can give back.
@@ -613,12 +667,14 @@ EVENTS = ('pushed', 'refused by 27', 'reopened', 'reopened in both maps', 'front
 
 
 # What the script must have: every answer of every call, also in whole histories, these
-# events, and every number of days stepped back.
+# events, closures in both orders that push the front out, and every number of days
+# stepped back.
 def wanted():
     answers = {(letter, number) for letter, given in ANSWERS.items() for number in given}
     in_histories = {('history', letter, number) for letter in CALLS for number in ANSWERS[letter]}
     events = {(event, kind, italian) for event in EVENTS for kind in product.KINDS for italian in (False, True)}
-    return (answers | in_histories | events
+    both_orders = {('both orders', kind) for kind in product.KINDS}
+    return (answers | in_histories | events | both_orders
             | {('back', back, rule) for rule, steps in STEPS.items() for back in steps})
 
 
@@ -652,6 +708,7 @@ def whole_script():
     dues_from_any_day(script)
     dues_around_second_maps(script)
     all_of_reopenings(script, Numbers(SEED + 9))
+    closures_of_every_kind(script)
     if wanted() - script.seen:
         raise ValueError(f'the script has no {sorted(wanted() - script.seen)}')
     others = {answer for answer in script.seen - wanted() if answer[0] in (*ANSWERS, 'history')}

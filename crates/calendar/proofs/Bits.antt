@@ -1,17 +1,18 @@
 -- One bit of a map set or cleared: that bit is 1 or 0, and every other is as it was.
 -- Assumes nothing.
-use mathlib.Core.Path.{_≡_, refl, _∙_, sym, ap, subst}
+use mathlib.Core.Path.{_≡_, refl, _∙_, sym, ap, ap₂, subst}
 use mathlib.Core.Bool.{Bool, true, false, cond}
 use mathlib.Core.Logic.{_⊎_, inl, inr, ⊎-elim}
-use Prim.Native.Nat.{ℕ, zero, suc, _+_, _-_, _*_, _/_, _%_, _^_, _≤_, _<_}
+use Prim.Native.Nat.{ℕ, zero, suc, _+_, _-_, _*_, _/_, _%_, _^_, _≤_, _<_, max}
 use native.Mathlib.Nat.{div-eq-of-lt, div-self, mul-div-cancel, one-mul, zero-div}
 use native.Mathlib.Omega.{arith}
 use lib.Dec.{lit<, eqb}
-use lib.Bits.{bitOr, bitAnd, or-shr, or-mod, or-zero-r, and-shr, and-mod, and-zero-r}
+use lib.Arith.{bin-ind}
+use lib.Bits.{bitOr, bitAnd, or-step, or-shr, or-mod, or-zero-r, or-comm, and-shr, and-mod, and-zero-r}
 use mathlib.Core.List.{List}
-use lib.ListN.{getD, length, List·getD-eq-default}
+use lib.ListN.{getD, length, set, List·getD-eq-default}
 use lib.Pow.{pow-pos, pow-lt, pow-add, shl-exact}
-use lib.Seq.{getD-set-same, getD-set-other, set-out}
+use lib.Seq.{getD-set-same, getD-set-other, set-out, set-set, set-comm}
 use borrow.Author.Tests.{eqb-true, eqb-false, eq-eqb}
 use Rattle.questions.specs.Search.{every}
 use Rattle.questions.proofs.Bools.{clash, lt-or-ge}
@@ -92,6 +93,72 @@ set-keeps map n e = go (lt-or-ge (n / 8) (length map))
 pub bit-past : (map : List ℕ) (n : ℕ) → length map ≤ n / 8 → bitAt map n ≡ false
 unfolding bitAt
 bit-past map n h = simp (List·getD-eq-default map 0 h, zero-div (2 ^ (7 - n % 8)))
+
+-- an or of three numbers, and its last two exchanged
+or-digits : (x y z : ℕ) → x < 2 → y < 2 → z < 2 → max (bitOr x y) z ≡ max x (bitOr y z)
+or-digits zero zero z a b c = refl
+or-digits zero (suc zero) zero a b c = refl
+or-digits zero (suc zero) (suc zero) a b c = refl
+or-digits (suc zero) zero zero a b c = refl
+or-digits (suc zero) zero (suc zero) a b c = refl
+or-digits (suc zero) (suc zero) zero a b c = refl
+or-digits (suc zero) (suc zero) (suc zero) a b c = refl
+or-digits (suc (suc x)) y z a b c = absurd (omega arith)
+or-digits zero (suc (suc y)) z a b c = absurd (omega arith)
+or-digits (suc zero) (suc (suc y)) z a b c = absurd (omega arith)
+or-digits zero (suc zero) (suc (suc z)) a b c = absurd (omega arith)
+or-digits (suc zero) zero (suc (suc z)) a b c = absurd (omega arith)
+or-digits (suc zero) (suc zero) (suc (suc z)) a b c = absurd (omega arith)
+
+or-assoc : (a b c : ℕ) → bitOr (bitOr a b) c ≡ bitOr a (bitOr b c)
+or-assoc a =
+    bin-ind (λ (n : ℕ). (b c : ℕ) → bitOr (bitOr n b) c ≡ bitOr n (bitOr b c)) (λ b c. refl)
+    (λ n ih b c.
+    or-step (bitOr n b) c
+    ∙ ap₂ (λ (x y : ℕ). bitOr x (c / 2) * 2 + max y (c % 2)) (or-shr n b 1) (or-mod n b 1)
+    ∙ ap₂ (λ (x y : ℕ). x * 2 + y) (ih (b / 2) (c / 2)) (or-digits (n % 2) (b % 2) (c % 2) (omega arith) (omega arith) (omega arith))
+    ∙ ap₂ (λ (x y : ℕ). bitOr (n / 2) x * 2 + max (n % 2) y) (sym (or-shr b c 1)) (sym (or-mod b c 1))
+    ∙ sym (or-step n (bitOr b c))) a
+
+or-turn : (a b c : ℕ) → bitOr (bitOr a b) c ≡ bitOr (bitOr a c) b
+or-turn a b c = or-assoc a b c ∙ ap (bitOr a) (or-comm b c) ∙ sym (or-assoc a c b)
+
+-- two bits set in either order
+pub set-turn : (map : List ℕ) (n m : ℕ) → setBit (setBit map n) m ≡ setBit (setBit map m) n
+unfolding setBit
+set-turn map n m = go (eqb (n / 8) (m / 8)) refl (lt-or-ge (n / 8) (length map))
+  where
+    -- the bits' values, and what stands in a byte
+    x : ℕ
+    x = 2 ^ (7 - n % 8)
+
+    y : ℕ
+    y = 2 ^ (7 - m % 8)
+
+    byte : ℕ → ℕ
+    byte i = getD map i 0
+
+    go : (b : Bool) → eqb (n / 8) (m / 8) ≡ b → (n / 8 < length map) ⊎ (length map ≤ n / 8)
+        → set (set map (n / 8) (bitOr (byte (n / 8)) x)) (m / 8) (bitOr (getD (set map (n / 8) (bitOr (byte (n / 8)) x)) (m / 8) 0) y)
+        ≡ set (set map (m / 8) (bitOr (byte (m / 8)) y)) (n / 8) (bitOr (getD (set map (m / 8) (bitOr (byte (m / 8)) y)) (n / 8) 0) x)
+    go true e (inl l) =
+        let q : n / 8 ≡ m / 8 = eqb-true (n / 8) (m / 8) e in
+        rw (
+          ← q,
+          getD-set-same map (n / 8) (bitOr (byte (n / 8)) x) 0 l,
+          getD-set-same map (n / 8) (bitOr (byte (n / 8)) y) 0 l,
+          set-set map (n / 8) (bitOr (byte (n / 8)) x) (bitOr (bitOr (byte (n / 8)) x) y),
+          set-set map (n / 8) (bitOr (byte (n / 8)) y) (bitOr (bitOr (byte (n / 8)) y) x),
+        )
+        (ap (set map (n / 8)) (or-turn (byte (n / 8)) x y))
+    go true e (inr l) =
+        let q : n / 8 ≡ m / 8 = eqb-true (n / 8) (m / 8) e in
+        rw (← q, set-out map (n / 8) (bitOr (byte (n / 8)) x) l, set-out map (n / 8) (bitOr (byte (n / 8)) y) l)
+        (sym (set-out map (n / 8) (bitOr (byte (n / 8)) x) l))
+    go false e h =
+        let ne : n / 8 ≡ m / 8 → ⊥ = eqb-false (n / 8) (m / 8) e in
+        rw (getD-set-other map (n / 8) (m / 8) (bitOr (byte (n / 8)) x) 0 (λ q. ne (sym q)), getD-set-other map (m / 8) (n / 8) (bitOr (byte (m / 8)) y) 0 ne)
+        (set-comm map (n / 8) (m / 8) (bitOr (byte (n / 8)) x) (bitOr (byte (m / 8)) y) ne)
 
 -- the bits of a mask: 0 at its place, 1 at the others
 abbrev mask-bit : ℕ → ℕ → Bool

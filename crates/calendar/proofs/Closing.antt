@@ -2,6 +2,7 @@
 -- Assumes nothing.
 use mathlib.Core.Path.{_≡_, refl, _∙_, sym, ap}
 use mathlib.Core.Bool.{Bool, true, false, not, _&&_, _||_, cond, and-false}
+use mathlib.Core.List.{List}
 use Prim.Native.Nat.{ℕ, _-_, _*_, _/_, _%_, _^_, _≤_}
 use native.Mathlib.Omega.{arith}
 use lib.Dec.{eqb, ltb}
@@ -14,8 +15,8 @@ use Rattle.questions.proofs.Search.{every-at, every-all}
 use Rattle.days.specs.Gregorian.{weekdayOf}
 use Rattle.calendar.specs.declared.Calendar.{Calendar}
 use Rattle.calendar.specs.Bits.{bitAt, setBit}
-use Rattle.calendar.specs.Trading.{validCover, inCover, slotOf, closedOn, tradingDay, inSecondMap, mayBeClosed, bitsClean, cleanSlot, clean, closeDay}
-use Rattle.calendar.proofs.Bits.{set-here, set-other, set-keeps, marked, one-shl}
+use Rattle.calendar.specs.Trading.{calendarOfMaps, validCover, inCover, slotOf, closedOn, tradingDay, inSecondMap, mayBeClosed, bitsClean, cleanSlot, clean, closeDay}
+use Rattle.calendar.proofs.Bits.{set-here, set-other, set-keeps, set-turn, marked, one-shl}
 use Rattle.calendar.proofs.Covered.{covered, slot-below, slot-may, slot-same}
 use Rattle.calendar.proofs.Clean.{bits-more, bits-second}
 
@@ -159,3 +160,18 @@ module _ (cal : Calendar) (d : ℕ) where
   pub close-store : (slot : ℕ) → slot ≡ slotOf (cal .cover) d → inCover (cal .cover) d ≡ true → _≡_ {A = Calendar} (record { cover = cal .cover; closed = set (cal .closed) (slot / 8) (bitOr (getD (cal .closed) (slot / 8) 0) (1 * 2 ^ (7 - slot % 8) % 256)); exchange = cal .exchange }) (closeDay cal d)
   unfolding closeDay setBit
   close-store slot q e = rw (one-shl (7 - slot % 8) (omega arith), e, q)
+
+-- two days closed in either order
+pub close-turn : (cal : Calendar) (d e : ℕ) → closeDay (closeDay cal d) e ≡ closeDay (closeDay cal e) d
+unfolding closeDay
+close-turn cal d e = ap (λ (closed : List ℕ). calendarOfMaps (cal .cover) closed (cal .exchange)) (go (inCover (cal .cover) d) (inCover (cal .cover) e))
+  where
+    -- the map with the bit of a day set where a test says so
+    mark : Bool → ℕ → List ℕ → List ℕ
+    mark b day closed = cond b (setBit closed (slotOf (cal .cover) day)) closed
+
+    go : (a b : Bool) → mark b e (mark a d (cal .closed)) ≡ mark a d (mark b e (cal .closed))
+    go true true = set-turn (cal .closed) (slotOf (cal .cover) d) (slotOf (cal .cover) e)
+    go true false = refl
+    go false true = refl
+    go false false = refl

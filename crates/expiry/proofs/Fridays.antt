@@ -2,16 +2,18 @@
 -- Assumes nothing.
 use mathlib.Core.Path.{_≡_, refl, sym, ap, _∙_}
 use mathlib.Core.Bool.{Bool, true, false, not, cond}
+use mathlib.Core.Logic.{_⊎_}
 use Prim.Native.Nat.{ℕ, zero, suc, _+_, _-_, _%_}
 use native.Mathlib.Omega.{arith}
 use lib.Dec.{eqb}
 use borrow.Author.Tests.{eq-eqb, ne-eqb}
 use Rattle.questions.specs.Search.{latest, firstFrom}
-use Rattle.questions.proofs.Search.{first-is, latest-here, latest-back, latest-zero}
+use Rattle.questions.proofs.Search.{first-is, latest-here, latest-back, latest-zero, latest-but}
 use Rattle.days.specs.Gregorian.{weekdayOf}
 use Rattle.days.specs.Dates.{firstOf, monthOf}
 use Rattle.calendar.specs.declared.Calendar.{Calendar}
-use Rattle.calendar.specs.Trading.{tradingDay}
+use Rattle.calendar.specs.Trading.{tradingDay, closeDay}
+use Rattle.calendar.proofs.Closing.{trading-before, trading-other}
 use Rattle.expiry.specs.LastDays.{lastDay, friday, thirdFriday, weeklyFriday}
 
 -- the days from d to the next Friday
@@ -39,6 +41,12 @@ last-is cal (suc a) = go (tradingDay cal (suc a)) refl
     go : (b : Bool) → tradingDay cal (suc a) ≡ b → cond b (suc a) (latest (tradingDay cal) (suc a - 1)) ≡ latest (tradingDay cal) (suc a)
     go true e = sym (latest-here (tradingDay cal) (suc a) e)
     go false e = latest-back (tradingDay cal) (suc a) (omega arith) e
+
+-- a closure moves the last trading day of an anchor only where it was the closed day
+pub last-but : (cal : Calendar) (d a : ℕ) → (lastDay cal a ≡ d) ⊎ (lastDay (closeDay cal d) a ≡ lastDay cal a)
+last-but cal d a =
+    rw (last-is cal a, last-is (closeDay cal d) a)
+    (latest-but (tradingDay cal) (tradingDay (closeDay cal d)) d (trading-before cal d) (trading-other cal d) a)
 
 -- the code's test of a weekly Friday
 pub no-friday : (d w : ℕ) → w ≡ weekdayOf d → (w ≡ 4 → ⊥) → false ≡ weeklyFriday d

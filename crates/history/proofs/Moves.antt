@@ -144,7 +144,7 @@ module _ (r : Rule) (w : Lawful r) where
       entered-law : MissingLaw (fresh r cal′ date′) ms (missing (fresh r cal′ date′) ms)
       entered-law = missing-law ms (fresh r cal′ date′) (listing-rises r w cal′ date′ (λ k. 0))
 
-      entered-is : length (missing (fresh r cal′ date′) ms) ≡ countFrom (but p′ p) (r .beyond) 0
+      pub entered-is : length (missing (fresh r cal′ date′) ms) ≡ countFrom (but p′ p) (r .beyond) 0
       entered-is =
           entered-law .count (r .beyond) (λ k e. below cal′ date′ k (sym (listed-now cal′ date′ (λ k. 0) k) ∙ e))
           ∙ ap (λ (q : ℕ → Bool). countFrom q (r .beyond) 0) (fun-ext each)

@@ -308,6 +308,22 @@ module _ (t : Table) (e : sound t ≡ true) where
   pub back-most : (i : ℕ) → i < placesOfKind (t .product .kind) → getD (t .maturities) i unused .back ≤ 6
   back-most = back-in t (sounds t e)
 
+  -- what an accepted open asks holds of its product, calendar and date
+  pub sound-opened : Opened (t .product) (t .calendar) (t .date)
+  sound-opened = sounds t e .opened
+
+  -- the key in a used place is the fresh listing's, it is listed, and the place holds its number
+  pub key-right : (i : ℕ) → i < placesOfKind (t .product .kind)
+      → getD (t .maturities) i unused .key ≡ getD (freshKeys (ruleOf (t .calendar) (t .product .kind) (t .product .group)) (t .calendar) (t .date)) i 0
+  key-right i h = same-in t (sounds t e) i h .0
+
+  pub number-right : (i : ℕ) → i < placesOfKind (t .product .kind) → numberOf (listedIn t) (getD (t .maturities) i unused .key) ≡ getD (t .maturities) i unused .number
+  number-right i h = ap (numberOf (listedIn t)) (key-right i h) ∙ number-key t (sounds t e) i h
+
+  pub key-listed : (i : ℕ) → i < placesOfKind (t .product .kind) → isListed (listedIn t) (getD (t .maturities) i unused .key) ≡ true
+  key-listed i h =
+      number-listed (listedIn t) (getD (t .maturities) i unused .key) (omega (arith, number-right i h, number-in t (sounds t e) i h .pos))
+
   -- accepted or refused, a call on it gives a sound table
   pub call-sound : (c : Call) → sound (tableCall t c .table) ≡ true
   call-sound = called-sound t (sounds t e) e

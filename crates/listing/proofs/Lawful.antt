@@ -10,9 +10,9 @@ use native.Mathlib.Omega.{arith}
 use lib.Dec.{ltb}
 use lib.ListN.{length, getD}
 use borrow.Author.Tests.{eqb-true, leb-true, leb-false}
-use Rattle.questions.specs.Search.{latest, firstFrom}
+use Rattle.questions.specs.Search.{firstFrom}
 use Rattle.questions.proofs.Bools.{clash, both, and-both, lt-or-ge}
-use Rattle.questions.proofs.Search.{latest-le, latest-ge, latest-passes, search-here, search-none}
+use Rattle.questions.proofs.Search.{latest-le, latest-rises, search-here, search-none}
 use Rattle.calendar.specs.declared.Calendar.{Calendar}
 use Rattle.calendar.specs.Trading.{tradingDay}
 use Rattle.listing.specs.Rules.{Rule, lastDayOf, alive, widest, front, nextOf, taken, freshKeys, complete}
@@ -26,14 +26,6 @@ pub record Lawful (r : Rule) : Type 0 where
   pub rising : (k : ℕ) → r .anchor k ≤ r .anchor (suc k)
   pub own : (k d : ℕ) → k < r .start d → r .anchor k < d
   pub counts : (k : ℕ) → widest (r .places) k ≡ true → r .counted k ≡ true
-
--- of more trading days the latest at or before a later day is not earlier
-latest-rises : (f g : ℕ → Bool) (d e : ℕ) → ((k : ℕ) → f k ≡ true → g k ≡ true) → d ≤ e → latest f d ≤ latest g e
-latest-rises f g d e h l = go (lt-or-ge 0 (latest f d))
-  where
-    go : (0 < latest f d) ⊎ (latest f d ≤ 0) → latest f d ≤ latest g e
-    go (inl p) = latest-ge g e (latest f d) (omega (arith, latest-le f d)) (h (latest f d) (latest-passes f d p))
-    go (inr p) = omega arith
 
 -- what does not fall from one key to the next does not fall
 pub risen : (f : ℕ → ℕ) → ((k : ℕ) → f k ≤ f (suc k)) → (j k : ℕ) → j ≤ k → f j ≤ f k

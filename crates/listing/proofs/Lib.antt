@@ -5,6 +5,7 @@ pub mod Walks
 pub mod Counting
 pub mod Places
 pub mod Lawful
+pub mod Fewer
 pub mod Monthly
 pub mod Weekly
 pub mod OfKinds

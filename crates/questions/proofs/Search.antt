@@ -7,6 +7,8 @@ use Prim.Native.Nat.{ℕ, zero, suc, _+_, _-_, _≤_, _<_}
 use native.Mathlib.Nat.{add-zero, le-refl, eq-or-lt-of-le, le-of-suc-le-suc}
 use native.Mathlib.Numerals.{add-one}
 use native.Mathlib.Omega.{arith}
+use lib.Dec.{eqb}
+use borrow.Author.Tests.{eqb-true, eqb-false}
 use Rattle.questions.specs.Search.{every, some, latest, firstFrom}
 use Rattle.questions.proofs.Bools.{clash, both, and-both, or-left, or-right, or-either, is-false, lt-or-ge}
 
@@ -184,3 +186,24 @@ every-add f m n a b = every-all f (m + n) each
         side (inr l) =
             let e : k ≡ m + (k - m) = omega arith in
             ap f e ∙ every-at (λ j. f (m + j)) n (k - m) b (omega arith)
+
+-- of more numbers that pass, the latest up to a later one is not earlier
+pub latest-rises : (f g : ℕ → Bool) (d e : ℕ) → ((k : ℕ) → f k ≡ true → g k ≡ true) → d ≤ e → latest f d ≤ latest g e
+latest-rises f g d e h l = go (lt-or-ge 0 (latest f d))
+  where
+    go : (0 < latest f d) ⊎ (latest f d ≤ 0) → latest f d ≤ latest g e
+    go (inl p) = latest-ge g e (latest f d) (omega (arith, latest-le f d)) (h (latest f d) (latest-passes f d p))
+    go (inr p) = omega arith
+
+-- where one number no longer passes and all others are as they were, the latest was that one or stays
+pub latest-but : (f g : ℕ → Bool) (d : ℕ) → ((k : ℕ) → g k ≡ true → f k ≡ true) → ((k : ℕ) → (k ≡ d → ⊥) → g k ≡ f k)
+    → (e : ℕ) → (latest f e ≡ d) ⊎ (latest g e ≡ latest f e)
+latest-but f g d fewer other e = go (eqb (latest f e) d) refl
+  where
+    below : (latest f e ≡ d → ⊥) → (0 < latest f e) ⊎ (latest f e ≤ 0) → latest f e ≤ latest g e
+    below n (inl p) = latest-ge g e (latest f e) (latest-le f e) (other (latest f e) n ∙ latest-passes f e p)
+    below n (inr p) = omega arith
+
+    go : (b : Bool) → eqb (latest f e) d ≡ b → (latest f e ≡ d) ⊎ (latest g e ≡ latest f e)
+    go true q = inl (eqb-true (latest f e) d q)
+    go false q = inr (omega (arith, below (eqb-false (latest f e) d q) (lt-or-ge 0 (latest f e)), latest-rises g f e e fewer (omega arith)))

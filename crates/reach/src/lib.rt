@@ -1,0 +1,1 @@
+// Definitions and laws only: what one closure of a day can reach.
