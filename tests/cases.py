@@ -588,14 +588,14 @@ def write(path, data):
     return 0
 
 
-# Whether a stored file has these bytes; says so if not.
-def is_stored(path, data):
+# Whether a stored file has the bytes that a script writes; says so if not.
+def is_stored(path, data, script='tests/cases.py'):
     held = None
     if os.path.exists(path):
         with open(path, 'rb') as file:
             held = file.read()
     if held != data:
-        print(f'{path} is not what tests/cases.py writes')
+        print(f'{path} is not what {script} writes')
     return held == data
 
 

@@ -8,8 +8,9 @@ from dataclasses import replace
 import cases
 import histories
 import mornings
-from second import dates, generated, intake, listing, master, product, trading
+from second import dates, generated, intake, listing, master, product, trading, writing
 from second.trading import Calendar
+import writings
 
 NO_DAY = 36525
 
@@ -406,6 +407,38 @@ def file_lines(index, file):
     yield from block_lines(file)
 
 
+# ---- files that are written ----
+
+# One number for some bytes in their order.
+def digest(data):
+    total = 0
+    for byte in data:
+        total = (257 * total + byte + 1) % 4294967291
+    return total
+
+
+# What is written from a draft into the first bytes of the buffer: a letter, the
+# index, refusal, length, and the digest of the whole buffer afterwards.
+def write_line(letter, index, draft, room):
+    before = writings.buffer_before(writings.BUFFER)
+    number, length, after = writing.write(draft, before[:room])
+    return f'{letter} {index} {number} {length} {digest(after + before[room:])}'
+
+
+# What load says of a file, and the file written again.
+def again_lines(index, file):
+    yield 'L {} {} {}'.format(*master.load(file))
+    yield write_line('S', index, writing.draft_from(file), writings.BUFFER)
+
+
+# The lines of one draft; if a file is written, those of the file too.
+def draft_lines(index, draft, room):
+    yield write_line('W', index, draft, room)
+    number, length, after = writing.write(draft, bytes(room))
+    if number == 0:
+        yield from again_lines(index, after[:length])
+
+
 # ---- All programs ----
 
 # The program comparisons: its sections in turn.
@@ -424,11 +457,20 @@ def files():
         yield from file_lines(index, file)
 
 
+# The program writings: the lines of every draft and of every accepted file.
+def written():
+    for index, (_, draft, room) in enumerate(writings.drafts()):
+        yield from draft_lines(index, draft, room)
+    for index, (_, file) in enumerate(writings.files()):
+        yield from again_lines(index, file)
+
+
 PROGRAMS = {
     'comparisons': comparisons,
     'files': files,
     'tables': histories.lines,
     'morning': mornings.lines,
+    'writings': written,
 }
 
 

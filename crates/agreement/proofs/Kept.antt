@@ -15,9 +15,9 @@ use Rattle.table.specs.declared.Outcome.{Outcome}
 use Rattle.table.specs.Table.{moved, answered, rollAsks, rollCall, closeAsks, closeCall, openCall}
 use Rattle.calendar.specs.Trading.{closeDay}
 use Rattle.lines.specs.declared.Command.{Command}
-use Rattle.lines.specs.Lines.{dateAt, moveForm, moveCommand, idInLine, openForm, openCommand, otherLine, commandAt, commandOf, emptyLine}
+use Rattle.lines.specs.Lines.{dateAt, moveForm, moveCommand, idInLine, openForm, openCommand, otherLine, commandAt, commandOf, emptyLine, linesFrom}
 use Rattle.command.specs.declared.Kept.{Kept}
-use Rattle.command.specs.Sessions.{nothingKept, outcomeOf, keptAfter, keptRun, linesFrom, restKept}
+use Rattle.command.specs.Sessions.{nothingKept, outcomeOf, keptAfter, keptRun, restKept}
 use Rattle.command.proofs.Session.{kept-append, whole-kept}
 use Rattle.history.specs.Book.{Call, roll, close}
 use Rattle.history.specs.History.{tableCall, tableRun}

@@ -1,7 +1,7 @@
 // The blocks of a master file, their checks and their headers: questions 1 to 3.
 ghost use mathlib.Core.Path.{_≡_};
 ghost use mathlib.Core.Bool.{_&&_};
-ghost use Prim.Native.Nat.{_+_, _*_, _≤_, _<_};
+ghost use Prim.Native.Nat.{_+_, _*_, _%_, _≤_, _<_};
 ghost use lib.Dec.{eqb};
 ghost use lib.ListN.{length, getD};
 ghost use Rattle.blocks.specs.Blocks.{blockCount, blockOf, numberAt, zeros, weightedSum, checkRight, blockKindRight, headerRight, lengthRight, checksRight, headersRight};
@@ -120,6 +120,13 @@ fn weighted_sum(bytes: &[u8]) -> u32
         i += 1;
     }
     sum
+}
+
+// The check that a block's first 510 bytes have.
+pub fn check_of(block: [u8; 512]) -> u16
+    ensures { λ r. ⌜ r ≡ weightedSum block 510 % 65521 ⌝ }
+{
+    (weighted_sum(&block) % 65521) as u16
 }
 
 // Question 2, of a lent block: whether it is one, of 512 bytes, and its check is right.

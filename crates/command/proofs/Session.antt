@@ -9,10 +9,10 @@ use lib.Dec.{eqb}
 use lib.ListN.{length, getD}
 use borrow.Author.Tests.{eq-eqb, ne-eqb}
 use Rattle.lines.specs.declared.Line.{Line}
-use Rattle.lines.specs.Lines.{commandOf, lineCommand, emptyLine, extended, fed}
+use Rattle.lines.specs.Lines.{commandOf, lineCommand, emptyLine, extended, fed, linesFrom}
 use Rattle.lines.proofs.Feeding.{any-length, any-empty, fed-more}
 use Rattle.command.specs.declared.Kept.{Kept}
-use Rattle.command.specs.Sessions.{answerText, keptAfter, nothingKept, linesFrom, sessionText, keptRun, termsText, restText, restKept}
+use Rattle.command.specs.Sessions.{answerText, keptAfter, nothingKept, sessionText, keptRun, termsText, restText, restKept}
 
 -- the line that the program holds is the line that has begun
 rest-is : (file : List ℕ) (h : Kept) (begun input : List ℕ) → restText file h (fed emptyLine begun) input ≡ sessionText file h (linesFrom begun input)

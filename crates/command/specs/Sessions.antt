@@ -4,14 +4,13 @@ use Prim.Native.Nat.{ℕ}
 use mathlib.Core.Bool.{Bool, true, false, not, _&&_, _||_, cond}
 use mathlib.Core.List.{List, [], _∷_, _++_}
 use lib.Dec.{eqb}
-use lib.ListN.{length}
 use Rattle.table.specs.declared.Table.{Table}
 use Rattle.table.specs.declared.Outcome.{Outcome}
 use Rattle.table.specs.Table.{rollCall, closeCall, zeroTable, openCall}
 use Rattle.printing.specs.Text.{outcomeText, refusalText, badText}
 use Rattle.lines.specs.declared.Command.{Command}
 use Rattle.lines.specs.declared.Line.{Line}
-use Rattle.lines.specs.Lines.{commandOf, lineCommand, emptyLine, extended}
+use Rattle.lines.specs.Lines.{commandOf, lineCommand, emptyLine, extended, linesFrom}
 use Rattle.command.specs.declared.Kept.{Kept}
 
 -- before an accepted O there is no table
@@ -39,11 +38,6 @@ unfoldable pub keptAfter : List ℕ → Kept → Command → Kept
 keptAfter file h c =
     let o = outcomeOf file (h .table) c in
     cond (bad (h .opened) (c .letter)) h (cond (eqb (o .refusal) 0) (record { opened = true; table = o .table }) h)
-
--- 'a line, which ends with a line feed [10] or with the input': the lines of an input, after a line that has begun with some bytes; a last line feed begins no further line
-unfoldable pub linesFrom : List ℕ → List ℕ → List (List ℕ)
-linesFrom begun [] = cond (eqb (length begun) 0) [] (begun ∷ [])
-linesFrom begun (byte ∷ rest) = cond (eqb byte 10) (begun ∷ linesFrom [] rest) (linesFrom (begun ++ (byte ∷ [])) rest)
 
 -- what is printed for some lines, one after the other
 unfoldable pub sessionText : List ℕ → Kept → List (List ℕ) → List ℕ

@@ -6,14 +6,15 @@ use mathlib.Core.List.{List}
 use Prim.Native.Nat.{ℕ, _+_, _-_, _≤_, _<_}
 use native.Mathlib.Omega.{arith}
 use lib.Dec.{eqb, leb}
-use lib.ListN.{replicate}
-use Rattle.questions.proofs.Bools.{and-fst, and-snd}
+use lib.ListN.{length, getD, replicate, List·getD-eq-default}
+use Rattle.questions.proofs.Bools.{and-fst, and-snd, clash, is-false}
+use Rattle.product.specs.Fields.{digit}
 use borrow.Author.Tests.{leb-true, le-leb, lt-leb, eq-eqb, ne-eqb}
 use Rattle.days.specs.declared.DayAnswer.{DayAnswer}
 use Rattle.days.specs.declared.DayAnswer.the-variants.{Day, NotADate}
 use Rattle.days.specs.Dates.{dayCall, dayAnswer}
 use Rattle.lines.specs.declared.DateRead.{DateRead}
-use Rattle.lines.specs.Lines.{twoValue, dateForm, yearAt, noDateRead, dateAt, otherLine, moveForm, moveCommand, idForm, idInLine, openForm, openCommand, commandAt}
+use Rattle.lines.specs.Lines.{twoDigits, twoValue, dateForm, yearAt, noDateRead, dateAt, otherLine, moveForm, moveCommand, idForm, idInLine, openForm, openCommand, commandAt}
 
 module _ (f : ℕ → ℕ) where
   -- the date at a place
@@ -102,3 +103,21 @@ module _ (f : ℕ → ℕ) where
   pub begins-else : (n : ℕ) → (f 0 ≡ 79 → ⊥) → moveCommand f n ≡ commandAt f n
   unfolding commandAt
   begins-else n e = rw (ne-eqb (f 0) 79 e) refl
+
+-- no date reaches beyond the 64 bytes of a line
+pub date-beyond : (bytes : List ℕ) (at : ℕ) → length bytes ≡ 64 → 54 < at → noDateRead ≡ dateAt (λ i. getD bytes i 0) at
+unfolding dateForm
+date-beyond bytes at l h = date-formless f at (is-false (dateForm f at) no)
+  where
+    f : ℕ → ℕ
+    f i = getD bytes i 0
+
+    no : dateForm f at ≡ true → ⊥
+    no e =
+        let a = and-snd (twoDigits f at) _ e in
+        let b = and-snd (twoDigits f (at + 2)) _ a in
+        let c = and-snd (eqb (f (at + 4)) 45) _ b in
+        let d = and-snd (twoDigits f (at + 5)) _ c in
+        let g = and-snd (eqb (f (at + 7)) 45) _ d in
+        let y : digit (f (at + 8 + 1)) ≡ true = and-snd (digit (f (at + 8))) _ g in
+        clash y (ap digit (List·getD-eq-default bytes 0 (omega arith)))

@@ -3,7 +3,7 @@
 -- Assumes nothing.
 use Prim.Native.Nat.{ℕ, _+_, _-_, _*_, _%_}
 use mathlib.Core.Bool.{Bool, true, false, _&&_, _||_, cond}
-use mathlib.Core.List.{List, [], _∷_}
+use mathlib.Core.List.{List, [], _∷_, _++_}
 use lib.Dec.{leb, ltb, eqb}
 use lib.ListN.{getD, set, length, replicate}
 use Rattle.questions.specs.Search.{every}
@@ -91,19 +91,24 @@ commandAt line n = cond (eqb (line 0) 79) (openCommand line n) (moveCommand line
 unfoldable pub commandOf : List ℕ → Command
 commandOf line = commandAt (λ i. getD line i 0) (length line)
 
--- the command of a line as the program holds it: its first 18 bytes and its length, at most 18
+-- the command of a line as the program holds it: its first 64 bytes and its length, at most 64
 unfoldable pub lineCommand : Line → Command
 lineCommand l = commandAt (λ i. getD (l .bytes) i 0) (l .length)
 
 -- a line with no bytes
 unfoldable pub emptyLine : Line
-emptyLine = record { bytes = replicate 18 0; length = 0 }
+emptyLine = record { bytes = replicate 64 0; length = 0 }
 
--- a line with one byte more; a line of 18 bytes is longer than every command and stays as it is
+-- a line with one byte more; a line of 64 bytes is longer than every command and every line of a master file's text, and stays as it is
 unfoldable pub extended : Line → ℕ → Line
-extended l byte = cond (ltb (l .length) 18) (record { bytes = set (l .bytes) (l .length) byte; length = l .length + 1 }) l
+extended l byte = cond (ltb (l .length) 64) (record { bytes = set (l .bytes) (l .length) byte; length = l .length + 1 }) l
 
 -- a line with all bytes of a list more, one by one
 unfoldable pub fed : Line → List ℕ → Line
 fed l [] = l
 fed l (byte ∷ bytes) = fed (extended l byte) bytes
+
+-- 'a line, which ends with a line feed [10] or with the input': the lines of an input, after a line that has begun with some bytes; a last line feed begins no further line
+unfoldable pub linesFrom : List ℕ → List ℕ → List (List ℕ)
+linesFrom begun [] = cond (eqb (length begun) 0) [] (begun ∷ [])
+linesFrom begun (byte ∷ rest) = cond (eqb byte 10) (begun ∷ linesFrom [] rest) (linesFrom (begun ++ (byte ∷ [])) rest)

@@ -1,13 +1,13 @@
-// The lines of the program `terms`: a line of any length, byte by byte, to a command.
+// Lines of any length, byte by byte; and a line of the program `terms` to a command.
 use days::DayAnswer;
 ghost use mathlib.Core.Path.{_≡_};
 ghost use Prim.Native.Nat.{_+_, _≤_, _<_};
 ghost use lib.ListN.{getD};
 ghost use Rattle.lines.specs.Lines.{digitValue, twoDigits, twoValue, dateForm, dateAt, otherLine, moveCommand, idForm, idByteAt, idInLine, openForm, openCommand, lineCommand, emptyLine, extended};
 
-// A line: its first bytes and their number. The longest command has 17.
+// A line: its first bytes and their number. The longest command has 17, the longest line of a master file's text 63.
 pub struct Line {
-    pub bytes: [u8; 18],
+    pub bytes: [u8; 64],
     pub length: usize,
 }
 
@@ -29,7 +29,7 @@ pub fn empty_line() -> Line
     ensures { λ r. ⌜ r ≡ emptyLine ⌝ }
 {
     Line {
-        bytes: [0; 18],
+        bytes: [0; 64],
         length: 0,
     }
 }
@@ -39,7 +39,7 @@ pub fn extend(line: Line, byte: u8) -> Line
     ensures { λ r. ⌜ r ≡ extended line byte ⌝ }
 {
     let at = line.length;
-    if 18 <= at {
+    if 64 <= at {
         return line;
     }
     let mut bytes = line.bytes;
@@ -50,7 +50,8 @@ pub fn extend(line: Line, byte: u8) -> Line
     }
 }
 
-fn digit_value(byte: u8) -> u16
+// The value of a digit.
+pub fn digit_value(byte: u8) -> u16
     ensures { λ r. ⌜ (r ≡ digitValue byte) × (r ≤ 9) ⌝ }
 {
     if byte < 48 {
@@ -60,24 +61,24 @@ fn digit_value(byte: u8) -> u16
 }
 
 // Whether two digits stand at a place and the next.
-fn are_two_digits(bytes: [u8; 18], at: usize) -> bool
-    requires { ⌜ at + 2 ≤ 18 ⌝ }
+fn are_two_digits(bytes: [u8; 64], at: usize) -> bool
+    requires { ⌜ at + 2 ≤ 64 ⌝ }
     ensures { λ r. ⌜ r ≡ twoDigits (λ i. getD bytes i 0) at ⌝ }
 {
     product::is_digit(bytes[at]) & product::is_digit(bytes[at + 1])
 }
 
 // The number that they are.
-fn two_value(bytes: [u8; 18], at: usize) -> u16
-    requires { ⌜ at + 2 ≤ 18 ⌝ }
+fn two_value(bytes: [u8; 64], at: usize) -> u16
+    requires { ⌜ at + 2 ≤ 64 ⌝ }
     ensures { λ r. ⌜ (r ≡ twoValue (λ i. getD bytes i 0) at) × (r ≤ 99) ⌝ }
 {
     10 * digit_value(bytes[at]) + digit_value(bytes[at + 1])
 }
 
 // Whether the ten bytes from a place on have the form of a date.
-fn is_date_form(bytes: [u8; 18], at: usize) -> bool
-    requires { ⌜ at + 10 ≤ 18 ⌝ }
+fn is_date_form(bytes: [u8; 64], at: usize) -> bool
+    requires { ⌜ at + 10 ≤ 64 ⌝ }
     ensures { λ r. ⌜ r ≡ dateForm (λ i. getD bytes i 0) at ⌝ }
 {
     are_two_digits(bytes, at)
@@ -88,8 +89,8 @@ fn is_date_form(bytes: [u8; 18], at: usize) -> bool
 }
 
 // The date from a place on.
-fn date_at(bytes: [u8; 18], at: usize) -> DateRead
-    requires { ⌜ at + 10 ≤ 18 ⌝ }
+fn date_at(bytes: [u8; 64], at: usize) -> DateRead
+    requires { ⌜ at + 10 ≤ 64 ⌝ }
     ensures { λ r. ⌜ r ≡ dateAt (λ i. getD bytes i 0) at ⌝ }
 {
     if !is_date_form(bytes, at) {
@@ -108,6 +109,20 @@ fn date_at(bytes: [u8; 18], at: usize) -> DateRead
     }
 }
 
+// The date from a place of a line on.
+pub fn date_in(line: Line, at: usize) -> DateRead
+    ensures { λ r. ⌜ r ≡ dateAt (λ i. getD (line .bytes) i 0) at ⌝ }
+{
+    if 54 < at {
+        return DateRead {
+            there: false,
+            day: 0,
+        };
+    }
+    let bytes = line.bytes;
+    date_at(bytes, at)
+}
+
 // Another line.
 fn other_line() -> Command
     ensures { λ r. ⌜ r ≡ otherLine ⌝ }
@@ -120,7 +135,7 @@ fn other_line() -> Command
 }
 
 // A roll, a close or another line.
-fn move_command(bytes: [u8; 18], length: usize) -> Command
+fn move_command(bytes: [u8; 64], length: usize) -> Command
     ensures { λ r. ⌜ r ≡ moveCommand (λ i. getD bytes i 0) length ⌝ }
 {
     let letter = bytes[0];
@@ -142,7 +157,7 @@ fn move_command(bytes: [u8; 18], length: usize) -> Command
 }
 
 // Whether k characters of an id follow the letter and its space.
-fn is_id_form(bytes: [u8; 18], k: usize) -> bool
+fn is_id_form(bytes: [u8; 64], k: usize) -> bool
     requires { ⌜ k ≤ 4 ⌝ }
     ensures { λ r. ⌜ r ≡ idForm (λ i. getD bytes i 0) k ⌝ }
 {
@@ -157,7 +172,7 @@ fn is_id_form(bytes: [u8; 18], k: usize) -> bool
 }
 
 // Byte i of an id of k characters, with spaces after them.
-fn id_byte_at(bytes: [u8; 18], k: usize, i: usize) -> u8
+fn id_byte_at(bytes: [u8; 64], k: usize, i: usize) -> u8
     requires { ⌜ i < 4 ⌝ }
     ensures { λ r. ⌜ r ≡ idByteAt (λ i. getD bytes i 0) k i ⌝ }
 {
@@ -168,7 +183,7 @@ fn id_byte_at(bytes: [u8; 18], k: usize, i: usize) -> u8
 }
 
 // The id of k characters as a record has it.
-fn id_in_line(bytes: [u8; 18], k: usize) -> [u8; 4]
+fn id_in_line(bytes: [u8; 64], k: usize) -> [u8; 4]
     ensures { λ r. ⌜ r ≡ idInLine (λ i. getD bytes i 0) k ⌝ }
 {
     [
@@ -180,7 +195,7 @@ fn id_in_line(bytes: [u8; 18], k: usize) -> [u8; 4]
 }
 
 // Whether the line has the form of an open with an id of k characters, up to the date.
-fn is_open_form(bytes: [u8; 18], k: usize) -> bool
+fn is_open_form(bytes: [u8; 64], k: usize) -> bool
     ensures { λ r. ⌜ r ≡ openForm (λ i. getD bytes i 0) k ⌝ }
 {
     if k < 1 {
@@ -193,7 +208,7 @@ fn is_open_form(bytes: [u8; 18], k: usize) -> bool
 }
 
 // An open or another line.
-fn open_command(bytes: [u8; 18], length: usize) -> Command
+fn open_command(bytes: [u8; 64], length: usize) -> Command
     ensures { λ r. ⌜ r ≡ openCommand (λ i. getD bytes i 0) length ⌝ }
 {
     if length < 13 {

@@ -97,7 +97,7 @@ fn put_month(out: &mut [u8], at: usize, month: u16) -> usize
 }
 
 // The date of a day; zeros for a number that is no day.
-fn date_or_zeros(day: u16) -> Date
+pub fn date_or_zeros(day: u16) -> Date
     ensures { λ r. ⌜ r ≡ dateCall day .value ⌝ }
 {
     match days::date_of_day(day) {

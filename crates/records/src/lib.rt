@@ -68,7 +68,7 @@ pub fn field_at(bytes: &[u8], at: u16) -> u16
 }
 
 // Whether a record is as stated.
-fn record_right(r: &[u8]) -> bool
+pub fn record_right(r: &[u8]) -> bool
     ensures { λ x. ⌜ x ≡ recordRight (now (r .entry)) ⌝ }
 {
     product::fields_right(

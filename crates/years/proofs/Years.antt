@@ -62,7 +62,7 @@ module _ (f : List ℕ) (o : Ordered f) where
   pub block-year : (k : ℕ) → k < yearCount f → yearOfBlock (blockOf f k) ≡ yearOfBlock (blockOf f 0) + k
   block-year k h = eqb-true _ _ (and-snd (isCalendar (blockOf f k)) (yearInOrder f k) (first-blocks k h))
 
-  product-block : (k : ℕ) → yearCount f ≤ k → k < blockCount f → isProducts (blockOf f k) ≡ true
+  pub product-block : (k : ℕ) → yearCount f ≤ k → k < blockCount f → isProducts (blockOf f k) ≡ true
   unfolding inOrder
   product-block k h l = rw (le-ltb k (yearCount f) h) at (every-at (inOrder f) (blockCount f) k (o .each) l)
 
@@ -80,7 +80,7 @@ module _ (f : List ℕ) (o : Ordered f) where
     unfolding mapsFrom
     maps-long = listed-length 0 736 (upTo (46 * yearCount f) (mapByte at f))
 
-    map-in : (k j : ℕ) → k < yearCount f → j < 46 → getD maps (46 * k + j) 0 ≡ getD (blockOf f k) (at + j) 0
+    pub map-in : (k j : ℕ) → k < yearCount f → j < 46 → getD maps (46 * k + j) 0 ≡ getD (blockOf f k) (at + j) 0
     unfolding mapsFrom mapByte
     map-in k j h l =
         let a : (46 * k + j) / 46 ≡ k = omega arith in
@@ -136,7 +136,7 @@ module _ (f : List ℕ) (o : Ordered f) where
   slot-out : (k n : ℕ) → yearCount f ≤ k → k < 16 → n < 368 → cleanSlot (calendarBlocks f) (368 * k + n) ≡ true
   slot-out k n h g l = rw (bit-out 16 k n h g l, bit-out 62 k n h g l) (bits-zero _)
 
-  block-clean : (k : ℕ) → k < yearCount f → calendarsClean f ≡ true → blockClean (blockOf f k) ≡ true
+  pub block-clean : (k : ℕ) → k < yearCount f → calendarsClean f ≡ true → blockClean (blockOf f k) ≡ true
   unfolding calendarsClean
   block-clean k h e =
       rw (calendar-block k h) at (every-at (λ n. not (isCalendar (blockOf f n)) || blockClean (blockOf f n)) (blockCount f) k e (omega (arith, o .fewer)))

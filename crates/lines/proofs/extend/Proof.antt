@@ -7,7 +7,7 @@ use Rattle.lines.proofs.extend.Tie as tie
 
 returns : tie.Need-returns
 unfolding extended
-returns c = rw (le-ltb (c .before .args .line .length) 18 (c .if1 .taken)) refl
+returns c = rw (le-ltb (c .before .args .line .length) 64 (c .if1 .taken)) refl
 
 array-write-bytes : tie.Need-array-write-bytes
 array-write-bytes c = omega arith
@@ -17,7 +17,7 @@ add-t9 c = omega arith
 
 returns-2 : tie.Need-returns-2
 unfolding extended
-returns-2 c = rw (lt-ltb (c .before .before .args .line .length) 18 (c .before .if1 .left)) refl
+returns-2 c = rw (lt-ltb (c .before .before .args .line .length) 64 (c .before .if1 .left)) refl
 
 pub extend-spec : {M : Type 1} → statement M
 extend-spec =

@@ -1,0 +1,115 @@
+-- One line after the other in a lent buffer.
+-- Assumes nothing.
+use mathlib.Core.Path.{_≡_, refl, sym, ap, _∙_}
+use mathlib.Core.Bool.{Bool, true, false, _&&_, and-false}
+use mathlib.Core.List.{List, [], _++_, append-nil, append-assoc}
+use mathlib.Core.Logic.{_⊎_, inl, inr}
+use Prim.Native.Nat.{ℕ, zero, suc, _+_, _-_, _≤_, _<_}
+use native.Mathlib.Nat.{eq-or-lt-of-le}
+use native.Mathlib.Numerals.{add-one}
+use native.Mathlib.Omega.{arith}
+use lib.Dec.{leb, ltb}
+use lib.ListN.{length, take, drop}
+use lib.Seq.{drop-drop, paste, length-paste, take-paste, drop-paste}
+use borrow.Author.Tests.{lt-ltb, le-ltb, ltb-true, le-leb, lt-leb, leb-true}
+use Rattle.questions.proofs.Bools.{both, and-both, clash, lt-or-ge}
+use Rattle.calendar.specs.declared.Calendar.{Calendar}
+use Rattle.lines.specs.declared.Line.{Line}
+use Rattle.lines.specs.Lines.{emptyLine, fed}
+use Rattle.lines.proofs.Feeding.{fed-holds, fed-is}
+use Rattle.contents.specs.declared.Progress.{Progress}
+use Rattle.contents.specs.Contents.{LineWith, lineText, lineCount, linesText, another, LinesIn}
+use Rattle.contents.proofs.Lengths.{line-short}
+
+-- ---- whether there is another
+
+module _ (n count : ℕ) (out : List ℕ) (k : ℕ) where
+  pub no-more : count ≤ n → false ≡ another n count out k
+  unfolding another
+  no-more h = rw (le-ltb n count h) refl
+
+  pub too-short : length out < 64 → false ≡ another n count out k
+  unfolding another
+  too-short h = rw (lt-leb (k + 64) (length out) (omega arith)) (sym (and-false (ltb n count)))
+
+  pub room-is : n < count → 64 ≤ length out → leb k (length out - 64) ≡ another n count out k
+  unfolding another
+  room-is h g = rw (lt-ltb n count h) (go (lt-or-ge (length out) (k + 64)))
+    where
+      go : (length out < k + 64) ⊎ (k + 64 ≤ length out) → leb k (length out - 64) ≡ leb (k + 64) (length out)
+      go (inl l) = lt-leb k (length out - 64) (omega arith) ∙ sym (lt-leb (k + 64) (length out) l)
+      go (inr l) = le-leb k (length out - 64) (omega arith) ∙ sym (le-leb (k + 64) (length out) l)
+
+  pub has-more : {r : Bool} → r ≡ another n count out k → r ≡ true → (n < count) × (k + 64 ≤ length out)
+  unfolding another
+  has-more e t =
+      let b : (ltb n count ≡ true) × (leb (k + 64) (length out) ≡ true) = both (ltb n count) (leb (k + 64) (length out)) (sym e ∙ t) in
+      (ltb-true n count (b .0), leb-true (k + 64) (length out) (b .1))
+
+  more : n < count → k + 64 ≤ length out → another n count out k ≡ true
+  unfolding another
+  more h g = and-both (lt-ltb n count h) (le-leb (k + 64) (length out) g)
+
+-- ---- a line that was made
+
+module _ (cal : Calendar) (f : List ℕ) (n : ℕ) (l : Line) (made : LineWith emptyLine (lineText cal f n) l) where
+  e : l ≡ fed emptyLine (lineText cal f n)
+  e = made .is
+
+  line-room : length (l .bytes) ≡ 64
+  line-room = rw e (fed-holds (lineText cal f n) .room)
+
+  pub line-fits : l .length ≤ 64
+  line-fits =
+      let c : l .length ≡ length (lineText cal f n) = rw e (fed-is (lineText cal f n) (line-short cal f n) .0) in
+      omega (arith, c, line-short cal f n)
+
+  line-is : take (l .length) (l .bytes) ≡ lineText cal f n
+  line-is = rw e (fed-is (lineText cal f n) (line-short cal f n) .1)
+
+-- ---- line by line
+
+pub record Printing (cal : Calendar) (f : List ℕ) (from : ℕ) (before : List ℕ) (next n : ℕ) (out : List ℕ) : Type 0 where
+  pub is : linesText cal f next ≡ linesText cal f from ++ take n out
+  pub fits : n ≤ length out
+  pub unchanged : drop n out ≡ drop n before
+  pub long : length out ≡ length before
+  pub on : ((next ≡ from) × (n ≡ 0)) ⊎ (from < next)
+  pub within : from ≤ lineCount cal f → next ≤ lineCount cal f
+
+module _ (cal : Calendar) (f : List ℕ) (from : ℕ) (before : List ℕ) where
+  pub begins : Printing cal f from before from 0 before
+  begins = record { is = sym (append-nil (linesText cal f from)); fits = omega arith; unchanged = refl; long = refl; on = inl (refl, refl); within = λ h. h }
+
+  module _ (next n : ℕ) (out : List ℕ) (g : Printing cal f from before next n out) (count : ℕ) (q : count ≡ lineCount cal f) {b : Bool} (s : b ≡ another next count out n) where
+    pub goes : b ≡ true → (l : Line) → LineWith emptyLine (lineText cal f next) l → (r : ℕ) (after : List ℕ)
+        → r ≡ n + l .length → after ≡ paste out n (l .bytes) (l .length) → Printing cal f from before (next + 1) r after
+    unfolding linesText
+    goes t l e r after p a =
+        let m : (next < count) × (n + 64 ≤ length out) = has-more next count out n s t in
+        let k : length (l .bytes) ≡ 64 = line-room cal f next l e in
+        let w : l .length ≤ 64 = line-fits cal f next l e in
+        let written : take r after ≡ take n out ++ lineText cal f next = rw (p, a) (take-paste out n (l .bytes) (l .length) (g .fits) (omega (arith, k, w)) ∙ ap (λ (t : List ℕ). take n out ++ t) (line-is cal f next l e)) in
+        let len : length after ≡ length out = rw a (length-paste out n (l .bytes) (l .length) (omega (arith, w, m .1)) (omega (arith, k, w))) in
+        record {
+          is = rw (add-one next, written, g .is) (append-assoc (linesText cal f from) (take n out) (lineText cal f next));
+          fits = omega (arith, p, w, m .1, len);
+          unchanged = rw (p, a)
+              (drop-paste out n (l .bytes) (l .length) (g .fits) (omega (arith, k, w))
+              ∙ sym (drop-drop (l .length) n out) ∙ ap (drop (l .length)) (g .unchanged) ∙ drop-drop (l .length) n before);
+          long = len ∙ g .long;
+          on = inr (later (g .on));
+          within = λ h. omega (arith, m .0, q);
+        }
+      where
+        later : ((next ≡ from) × (n ≡ 0)) ⊎ (from < next) → from < next + 1
+        later (inl h) = omega (arith, h .0)
+        later (inr h) = omega arith
+
+    pub ends : b ≡ false → LinesIn cal f from before out (record { next = next; length = n })
+    ends t =
+        record { is = g .is; fits = g .fits; unchanged = g .unchanged; long = g .long; moves = λ h l. moved (g .on) h l; within = g .within }
+      where
+        moved : ((next ≡ from) × (n ≡ 0)) ⊎ (from < next) → 64 ≤ length before → from < lineCount cal f → from < next
+        moved (inl d) h l = clash (s ∙ more next count out n (omega (arith, q, d .0)) (omega (arith, d .1, g .long))) t
+        moved (inr d) h l = d

@@ -1,0 +1,100 @@
+-- The text of what a master file holds, line by line (02, note 7; README, The text of a master file).
+-- Assumes nothing.
+use Prim.Native.Nat.{ℕ, zero, suc, _+_, _-_, _/_, _%_, _≤_, _<_}
+use mathlib.Core.Path.{_≡_}
+use mathlib.Core.Bool.{Bool, _&&_, cond}
+use mathlib.Core.List.{List, [], _∷_, _++_}
+use lib.Dec.{eqb, leb, ltb}
+use lib.ListN.{length, getD, take, drop}
+use Rattle.questions.specs.Questions.{firstNo}
+use Rattle.calendar.specs.declared.Cover.{Cover}
+use Rattle.calendar.specs.declared.Calendar.{Calendar}
+use Rattle.calendar.specs.Trading.{coverStart, coverEnd, closedOn, inSecondMap}
+use Rattle.blocks.specs.Blocks.{blockOf, numberAt}
+use Rattle.records.specs.Records.{recordOf, threeBytes, fourBytes}
+use Rattle.ids.specs.Ids.{placeCount, isRecord}
+use Rattle.years.specs.Calendars.{calendarOf}
+use Rattle.master.specs.Load.{loadAsks}
+use Rattle.lines.specs.declared.Line.{Line}
+use Rattle.lines.specs.Lines.{fed}
+use Rattle.printing.specs.Text.{dayText, spaced, refusalText}
+use Rattle.contents.specs.declared.Progress.{Progress}
+
+-- of a line before and after: it has a text more
+pub record LineWith (before : Line) (text : List ℕ) (after : Line) : Type 0 where
+  pub is : after ≡ fed before text
+
+-- '`Y first years`', and a line feed, 10
+unfoldable pub coverText : Cover → List ℕ
+coverText c = (89 ∷ []) ++ (spaced (c .«first_year») ++ (spaced (c .years) ++ (10 ∷ [])))
+
+-- '`C date`', '`X date`'
+unfoldable pub markedText : ℕ → ℕ → List ℕ
+markedText letter d = (letter ∷ (32 ∷ [])) ++ (dayText d ++ (10 ∷ []))
+
+-- '1 to 4 of A–Z and 0–9, then spaces' (01, Master file): the characters of an id before its spaces, 32
+unfoldable pub idText : List ℕ → List ℕ
+idText [] = []
+idText (byte ∷ rest) = cond (eqb byte 32) [] (byte ∷ idText rest)
+
+-- '`P id group market kind size tick currency`', of a record's bytes
+unfoldable pub productText : List ℕ → List ℕ
+productText r =
+    (80 ∷ (32 ∷ []))
+    ++ (idText (fourBytes r 0)
+    ++ ((32 ∷ [])
+    ++ (fourBytes r 4
+    ++ ((32 ∷ [])
+    ++ (fourBytes r 8
+    ++ (spaced (getD r 12 0)
+    ++ (spaced (numberAt r 13)
+    ++ (spaced (numberAt r 15)
+    ++ ((32 ∷ []) ++ (threeBytes r 17 ++ (10 ∷ [])))))))))))
+
+-- the line of a day: 'X' [88], 'C' [67], or none
+unfoldable pub dayLine : Calendar → ℕ → List ℕ
+dayLine cal d = cond (inSecondMap cal d) (markedText 88 d) (cond (closedOn cal d) (markedText 67 d) [])
+
+-- the line of a place for a record, where it holds one
+unfoldable pub placeLine : List ℕ → ℕ → List ℕ
+placeLine f p = cond (isRecord f p) (productText (recordOf (blockOf f (p / 15)) (p % 15))) []
+
+-- how many days a cover has
+unfoldable pub coverDays : Cover → ℕ
+coverDays c = coverEnd c - coverStart c
+
+-- line n: the cover, then 'the closed days by date', then 'the products in the file's order'. A day that is not closed and a place without a record have none
+unfoldable pub lineText : Calendar → List ℕ → ℕ → List ℕ
+lineText cal f n =
+    cond (eqb n 0) (coverText (cal .cover))
+    (cond (leb n (coverDays (cal .cover))) (dayLine cal (coverStart (cal .cover) + (n - 1))) (placeLine f (n - 1 - coverDays (cal .cover))))
+
+-- how many of them there are
+unfoldable pub lineCount : Calendar → List ℕ → ℕ
+lineCount cal f = 1 + (coverDays (cal .cover) + placeCount f)
+
+-- the first n of them
+unfoldable pub linesText : Calendar → List ℕ → ℕ → List ℕ
+linesText cal f zero = []
+linesText cal f (suc n) = linesText cal f n ++ lineText cal f n
+
+-- '`decompose` reads a master file .. and prints its text, or `NO n`'
+unfoldable pub decomposeText : List ℕ → List ℕ
+decomposeText f =
+    cond (eqb (firstNo (loadAsks f)) 0) (linesText (calendarOf f) f (lineCount (calendarOf f) f)) (refusalText (firstNo (loadAsks f)))
+
+-- there is a line more, and room for it: none has 64 bytes (Lengths)
+unfoldable pub another : ℕ → ℕ → List ℕ → ℕ → Bool
+another n count out length′ = ltb n count && leb (length′ + 64) (length out)
+
+-- of a buffer before and after: the lines from one on stand at its start
+pub record LinesIn (cal : Calendar) (f : List ℕ) (from : ℕ) (before after : List ℕ) (r : Progress) : Type 0 where
+  -- the lines before and what was written are all lines up to the next
+  pub is : linesText cal f (r .next) ≡ linesText cal f from ++ take (r .length) after
+  -- it stands at the buffer's start, and nothing else is changed
+  pub fits : r .length ≤ length after
+  pub unchanged : drop (r .length) after ≡ drop (r .length) before
+  pub long : length after ≡ length before
+  -- with room for a line and a line to come it goes on, and not past the last
+  pub moves : 64 ≤ length before → from < lineCount cal f → from < r .next
+  pub within : from ≤ lineCount cal f → r .next ≤ lineCount cal f

@@ -1,0 +1,70 @@
+-- A number, digit by digit.
+-- Assumes nothing.
+use mathlib.Core.Path.{_≡_, refl, sym, ap, _∙_}
+use mathlib.Core.Bool.{Bool, true, false, _&&_, cond, and-false}
+use mathlib.Core.List.{List, [], _∷_}
+use Prim.Native.Nat.{ℕ, _+_, _*_, _≤_, _<_}
+use native.Mathlib.Numerals.{add-one}
+use native.Mathlib.Omega.{arith}
+use lib.Dec.{eqb, leb}
+use lib.ListN.{length, getD, drop}
+use lib.Seq.{drop-cons, drop-length}
+use borrow.Author.Tests.{le-leb, lt-leb, leb-true, eq-eqb, ne-eqb}
+use Rattle.questions.proofs.Bools.{both}
+use Rattle.product.specs.Fields.{digit}
+use Rattle.lines.specs.Lines.{digitValue}
+use Rattle.entries.specs.declared.NumberRead.{NumberRead}
+use Rattle.entries.specs.Entries.{noNumber, numberFrom, numberOf}
+
+module _ (word : List ℕ) (most : ℕ) where
+  pub number-none : length word ≡ 0 → noNumber ≡ numberOf word most
+  unfolding numberOf
+  number-none e = rw (eq-eqb (length word) 0 e) refl
+
+  pub number-some : (length word ≡ 0 → ⊥) → numberFrom most 0 word ≡ numberOf word most
+  unfolding numberOf
+  number-some e = rw (ne-eqb (length word) 0 e) refl
+
+  -- one byte more
+  module _ (value i : ℕ) (h : i < length word) where
+    pub no-digit : digit (getD word i 0) ≡ false → numberFrom most value (drop i word) ≡ noNumber
+    unfolding numberFrom
+    no-digit e = rw (drop-cons word i 0 h, e) refl
+
+    pub too-great : most < 10 * value + digitValue (getD word i 0) → numberFrom most value (drop i word) ≡ noNumber
+    unfolding numberFrom
+    too-great l = rw (drop-cons word i 0 h, lt-leb (10 * value + digitValue (getD word i 0)) most l, and-false (digit (getD word i 0))) refl
+
+    pub one-digit : digit (getD word i 0) ≡ true → 10 * value + digitValue (getD word i 0) ≤ most
+        → numberFrom most value (drop i word) ≡ numberFrom most (10 * value + digitValue (getD word i 0)) (drop (i + 1) word)
+    unfolding numberFrom
+    one-digit e l = rw (drop-cons word i 0 h, e, le-leb (10 * value + digitValue (getD word i 0)) most l, add-one i) refl
+
+  -- the word's end
+  pub number-whole : (value i : ℕ) → i ≤ length word → length word ≤ i → numberFrom most value (drop i word) ≡ record { there = true; value = value }
+  unfolding numberFrom
+  number-whole value i h l =
+      let e : i ≡ length word = omega arith in
+      rw (e, drop-length word) refl
+
+-- no number passes the most
+number-most : (most value : ℕ) (word : List ℕ) → value ≤ most → numberFrom most value word .value ≤ most
+unfolding numberFrom
+number-most most value [] h = h
+number-most most value (byte ∷ rest) h = go (digit byte && leb next most) refl (number-most most next rest)
+  where
+    next : ℕ
+    next = 10 * value + digitValue byte
+
+    go : (b : Bool) → (digit byte && leb next most) ≡ b → (next ≤ most → numberFrom most next rest .value ≤ most)
+        → cond b (numberFrom most next rest) noNumber .value ≤ most
+    go true e more = more (leb-true next most (both (digit byte) (leb next most) e .1))
+    go false e more = omega arith
+
+pub at-most : (word : List ℕ) (most : ℕ) (r : NumberRead) → r ≡ numberOf word most → r .value ≤ most
+unfolding numberOf
+at-most word most r e = rw e (go (eqb (length word) 0))
+  where
+    go : (b : Bool) → cond b noNumber (numberFrom most 0 word) .value ≤ most
+    go true = omega arith
+    go false = number-most most 0 word (omega arith)

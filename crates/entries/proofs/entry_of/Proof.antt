@@ -1,0 +1,76 @@
+use native.Mathlib.Omega.{arith}
+use mathlib.Core.Path.{_≡_, sym, _∙_}
+use lib.ListN.{length, length-map}
+use lib.Seq.{length-take-le}
+use Rattle.entries.proofs.Forms.{entry-long, begins-y, begins-p, begins-else}
+use Rattle.entries.proofs.entry_of.Statement.{statement}
+use Rattle.entries.proofs.entry_of.Tie as tie
+
+array-read-letter : tie.Need-array-read-letter
+array-read-letter c = omega arith
+
+other-entry-requires : tie.Need-other-entry-requires
+other-entry-requires c κs = tt
+
+returns : tie.Need-returns
+returns c = c .other-entry .ensures ∙ entry-long _ (c .before .if1 .taken)
+
+array-share-prefix-bytes : tie.Need-array-share-prefix-bytes
+array-share-prefix-bytes c =
+    let start = c .before .before .before in
+    let l : length (start .args .line .bytes) ≡ 64 = simp length-map at (start .good .0 .1 .1 .0 .1 .0 .1) in
+    omega (arith, l)
+
+slice-aggregate-cover-entry : tie.Need-slice-aggregate-cover-entry
+slice-aggregate-cover-entry c =
+    let start = c .before .before .before .before in
+    let l : length (start .args .line .bytes) ≡ 64 = simp length-map at (start .good .0 .1 .1 .0 .1 .0 .1) in
+    sym (length-take-le (start .args .line .length) (start .args .line .bytes) (omega (arith, l)))
+
+cover-entry-requires : tie.Need-cover-entry-requires
+cover-entry-requires c κs = tt
+
+returns-2 : tie.Need-returns-2
+returns-2 c = c .cover-entry .ensures ∙ begins-y _ (c .before .before .before .if1 .left) (c .before .before .if2 .taken)
+
+array-share-prefix-bytes-2 : tie.Need-array-share-prefix-bytes-2
+array-share-prefix-bytes-2 c =
+    let start = c .before .before .before .before in
+    let l : length (start .args .line .bytes) ≡ 64 = simp length-map at (start .good .0 .1 .1 .0 .1 .0 .1) in
+    omega (arith, l)
+
+slice-aggregate-product-entry : tie.Need-slice-aggregate-product-entry
+slice-aggregate-product-entry c =
+    let start = c .before .before .before .before .before in
+    let l : length (start .args .line .bytes) ≡ 64 = simp length-map at (start .good .0 .1 .1 .0 .1 .0 .1) in
+    sym (length-take-le (start .args .line .length) (start .args .line .bytes) (omega (arith, l)))
+
+product-entry-requires : tie.Need-product-entry-requires
+product-entry-requires c κs = tt
+
+returns-3 : tie.Need-returns-3
+returns-3 c = c .product-entry .ensures ∙ begins-p _ (c .before .before .before .before .if1 .left) (c .before .before .before .if2 .left) (c .before .before .if3 .taken)
+
+day-entry-requires : tie.Need-day-entry-requires
+day-entry-requires c κs = tt
+
+returns-4 : tie.Need-returns-4
+returns-4 c = c .day-entry .ensures ∙ begins-else _ (c .before .before .before .if1 .left) (c .before .before .if2 .left) (c .before .if3 .left)
+
+pub entry-of-spec : {M : Type 1} → statement M
+entry-of-spec =
+    tie.close
+    (tie.spec
+    array-read-letter
+    other-entry-requires
+    returns
+    array-share-prefix-bytes
+    slice-aggregate-cover-entry
+    cover-entry-requires
+    returns-2
+    array-share-prefix-bytes-2
+    slice-aggregate-product-entry
+    product-entry-requires
+    returns-3
+    day-entry-requires
+    returns-4)

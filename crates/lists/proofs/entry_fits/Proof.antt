@@ -1,0 +1,39 @@
+use mathlib.Core.Path.{refl}
+use borrow.Author.Tests.{eq-eqb, ne-eqb}
+use Rattle.lists.specs.Lists.{entryFits}
+use Rattle.lists.proofs.entry_fits.Statement.{statement}
+use Rattle.lists.proofs.entry_fits.Tie as tie
+
+returns : tie.Need-returns
+unfolding entryFits
+returns c = rw (eq-eqb _ 0 (c .if1 .taken)) refl
+
+returns-2 : tie.Need-returns-2
+unfolding entryFits
+returns-2 c = rw (ne-eqb _ 0 (c .before .if1 .left), eq-eqb _ 89 (c .if2 .taken)) refl
+
+returns-3 : tie.Need-returns-3
+unfolding entryFits
+returns-3 c = rw (ne-eqb _ 0 (c .before .before .if1 .left), ne-eqb _ 89 (c .before .if2 .left), eq-eqb _ 0 (c .if3 .taken)) refl
+
+returns-4 : tie.Need-returns-4
+unfolding entryFits
+returns-4 c = rw (ne-eqb _ 0 (c .before .before .before .if1 .left), ne-eqb _ 89 (c .before .before .if2 .left), ne-eqb _ 0 (c .before .if3 .left), eq-eqb _ 80 (c .if4 .taken)) refl
+
+in-cover-requires : tie.Need-in-cover-requires
+in-cover-requires c κs = tt
+
+returns-5 : tie.Need-returns-5
+unfolding entryFits
+returns-5 c = rw (ne-eqb _ 0 (c .before .before .before .before .if1 .left), ne-eqb _ 89 (c .before .before .before .if2 .left), ne-eqb _ 0 (c .before .before .if3 .left), ne-eqb _ 80 (c .before .if4 .left)) (c .in-cover .ensures)
+
+pub entry-fits-spec : {M : Type 1} → statement M
+entry-fits-spec =
+    tie.close
+    (tie.spec
+    returns
+    returns-2
+    returns-3
+    returns-4
+    in-cover-requires
+    returns-5)

@@ -1,0 +1,18 @@
+use mathlib.Core.Path.{refl}
+use Rattle.lists.specs.Lists.{nothingTaken}
+use Rattle.lists.proofs.nothing_taken.Statement.{statement}
+use Rattle.lists.proofs.nothing_taken.Tie as tie
+
+open-calendar-requires : tie.Need-open-calendar-requires
+open-calendar-requires c κs = tt
+
+returns : tie.Need-returns
+unfolding nothingTaken
+returns c = rw (c .open-calendar .ensures) refl
+
+pub nothing-taken-spec : {M : Type 1} → statement M
+nothing-taken-spec =
+    tie.close
+    (tie.spec
+    open-calendar-requires
+    returns)

@@ -1,0 +1,129 @@
+-- What a list says: the calendar and the records of a master file (02, note 7; README, The text of a master file).
+-- Assumes nothing.
+use Prim.Native.Nat.{ℕ, _+_}
+use mathlib.Core.Path.{_≡_}
+use mathlib.Core.Bool.{Bool, false, not, _&&_, _||_, cond}
+use mathlib.Core.List.{List, [], _∷_, _++_}
+use lib.Dec.{eqb, leb, ltb}
+use lib.ListN.{length, take, drop}
+use Rattle.calendar.specs.declared.Cover.{Cover}
+use Rattle.calendar.specs.declared.Calendar.{Calendar}
+use Rattle.calendar.specs.Trading.{openCalendar, calendarWith, inCover, closeDay}
+use Rattle.writing.specs.Writing.{writeCall, bufferAfter}
+use Rattle.lines.specs.declared.Line.{Line}
+use Rattle.lines.specs.Lines.{emptyLine, extended, linesFrom}
+use Rattle.entries.specs.declared.Entry.{Entry}
+use Rattle.entries.specs.Entries.{entryOf, lineEntry}
+use Rattle.lists.specs.declared.Taken.{Taken}
+use Rattle.lists.specs.declared.Composed.{Composed}
+
+-- what the lines so far say: a calendar and records, 32 bytes each; how many lines there are; and the number of the first, from 1, that is none of those of a list, 0 where each is one
+pub record Content : Type 0 where
+  pub calendar : Calendar
+  pub records : List ℕ
+  pub lines : ℕ
+  pub bad : ℕ
+
+-- before the first line there is no year
+unfoldable pub noContent : Content
+noContent = record { calendar = openCalendar (record { «first_year» = 0; years = 0 }); records = []; lines = 0; bad = 0 }
+
+-- '`X date`: a closed day on which payments and deliveries run': closed, and with its bit in the second map as a closure sets it in the first
+unfoldable pub closeExchangeDay : Calendar → ℕ → Calendar
+closeExchangeDay cal d =
+    record {
+      cover = cal .cover;
+      closed = closeDay cal d .closed;
+      exchange = closeDay (calendarWith (cal .cover) (cal .exchange)) d .closed;
+    }
+
+-- '`Y` [89] is the first line, and only that'; 'the day of a `C` or `X` is in the cover'; the other entry is P, 80
+unfoldable pub entryFits : ℕ → Cover → Entry → Bool
+entryFits lines cover e =
+    cond (eqb (e .letter) 0) false
+    (cond (eqb (e .letter) 89) (eqb lines 0) (not (eqb lines 0) && (eqb (e .letter) 80 || inCover cover (e .day))))
+
+-- the calendar after an entry: Y, 89, C, 67, X, 88; a product leaves it as it is
+unfoldable pub calendarAfter : Calendar → Entry → Calendar
+calendarAfter cal e =
+    cond (eqb (e .letter) 89) (openCalendar (e .cover))
+    (cond (eqb (e .letter) 67) (closeDay cal (e .day))
+    (cond (eqb (e .letter) 88) (closeExchangeDay cal (e .day)) cal))
+
+-- one record more; where there is no room for it, it is left out
+unfoldable pub withRecord : ℕ → List ℕ → List ℕ → List ℕ
+withRecord room records one = cond (leb (length records + 32) room) (records ++ one) records
+
+-- the records after an entry, in the order of the lines; only a product, 80, has one
+unfoldable pub recordsAfter : ℕ → List ℕ → Entry → List ℕ
+recordsAfter room records e = cond (eqb (e .letter) 80) (withRecord room records (e .«record»)) records
+
+-- the number of the next line, at most 999,999,999
+unfoldable pub nextLine : ℕ → ℕ
+nextLine n = cond (ltb n 999999999) (n + 1) n
+
+-- what is said after one line more; after a line that is none of a list's, nothing more is taken
+unfoldable pub lineTaken : ℕ → Content → Entry → Content
+lineTaken room c e =
+    cond (eqb (c .bad) 0)
+    (cond (entryFits (c .lines) (c .calendar .cover) e)
+    (record { calendar = calendarAfter (c .calendar) e; records = recordsAfter room (c .records) e; lines = nextLine (c .lines); bad = 0 })
+    (record { calendar = c .calendar; records = c .records; lines = nextLine (c .lines); bad = nextLine (c .lines) }))
+    c
+
+-- the same of some lines, one after the other
+unfoldable pub linesTaken : ℕ → Content → List (List ℕ) → Content
+linesTaken room c [] = c
+linesTaken room c (line ∷ lines) = linesTaken room (lineTaken room c (entryOf line)) lines
+
+-- what a list says, with room for so many bytes of records
+unfoldable pub contentOf : ℕ → List ℕ → Content
+contentOf room input = linesTaken room noContent (linesFrom [] input)
+
+-- what is said after the rest of a list, with a line begun
+unfoldable pub restTaken : ℕ → Content → Line → List ℕ → Content
+restTaken room c l [] = cond (eqb (l .length) 0) c (lineTaken room c (lineEntry l))
+restTaken room c l (byte ∷ rest) =
+    cond (eqb byte 10) (restTaken room (lineTaken room c (lineEntry l)) emptyLine rest) (restTaken room c (extended l byte) rest)
+
+-- what the code holds: the records stand at the start of a lent buffer
+abbrev pub contentIn : Taken → List ℕ → Content
+contentIn t buffer =
+    record { calendar = t .calendar; records = take (t .size) buffer; lines = t .lines; bad = t .bad }
+
+-- before the first line
+unfoldable pub nothingTaken : Taken
+nothingTaken = record { calendar = openCalendar (record { «first_year» = 0; years = 0 }); size = 0; lines = 0; bad = 0 }
+
+-- of a buffer before and after: the records are so many bytes at its start, and after them nothing is changed
+pub record RecordsIn (before after : List ℕ) (size : ℕ) (records : List ℕ) : Type 0 where
+  pub is : take size after ≡ records
+  pub long : length after ≡ length before
+  pub unchanged : drop size after ≡ drop size before
+
+-- of a state and a buffer before and after one line more
+pub record LineIn (t : Taken) (l : Line) (before after : List ℕ) (r : Taken) : Type 0 where
+  pub is : contentIn r after ≡ lineTaken (length before) (contentIn t before) (lineEntry l)
+  pub long : length after ≡ length before
+  pub unchanged : drop (r .size) after ≡ drop (r .size) before
+
+-- of a state, a line begun and a buffer before and after a part of the list: whatever the rest of the list is, the whole says what the rest says after the part
+pub record PartIn (t : Taken) (l : Line) (part before after : List ℕ) (r : Taken) (next : Line) : Type 0 where
+  pub is : (rest : List ℕ) → restTaken (length before) (contentIn t before) l (part ++ rest) ≡ restTaken (length before) (contentIn r after) next rest
+  pub long : length after ≡ length before
+
+-- of the end of the list
+pub record EndIn (t : Taken) (l : Line) (before after : List ℕ) (r : Taken) : Type 0 where
+  pub is : contentIn r after ≡ restTaken (length before) (contentIn t before) l []
+  pub long : length after ≡ length before
+
+-- '`compose` writes the file to standard output', or 'nothing there' and `BAD k` or `NO n` (README, The text of a master file): the number of the first line that is none of a list's, or the refusal, or the file's length
+unfoldable pub composed : Content → ℕ → Composed
+composed c room =
+    cond (eqb (c .bad) 0)
+    (record { bad = 0; refusal = writeCall (c .calendar) (c .records) room .refusal; length = writeCall (c .calendar) (c .records) room .value })
+    (record { bad = c .bad; refusal = 0; length = 0 })
+
+-- the file in a lent buffer
+unfoldable pub composedFile : Content → List ℕ → List ℕ
+composedFile c before = cond (eqb (c .bad) 0) (bufferAfter (c .calendar) (c .records) before) before

@@ -1,0 +1,44 @@
+-- Writing a master file into a lent buffer, and the bytes of a product's record (02, note 7).
+-- Assumes nothing.
+use Prim.Native.Nat.{ℕ}
+use mathlib.Core.Bool.{cond}
+use mathlib.Core.List.{List, [], _∷_, _++_}
+use lib.Dec.{eqb}
+use lib.ListN.{length, drop, replicate}
+use Rattle.questions.specs.Questions.{firstNo, Answer, answer}
+use Rattle.calendar.specs.declared.Calendar.{Calendar}
+use Rattle.product.specs.Fields.{kindNumber}
+use Rattle.product.specs.declared.Product.{Product}
+use Rattle.records.specs.Records.{threeBytes, fourBytes}
+use Rattle.drafts.specs.Drafts.{highByte, lowByte, fileOf, writeAsks}
+use Rattle.writing.specs.declared.WrittenFile.{WrittenFile}
+
+-- 'Write a file into a lent buffer from a calendar and a list of records .. and return its length'; with a refusal 'other calls return zero values' (01, Questions)
+unfoldable pub writeCall : Calendar → List ℕ → ℕ → Answer ℕ
+writeCall cal records room = answer (writeAsks cal records room) 0 (length (fileOf cal records))
+
+-- the number and the value that an answer of write stands for
+abbrev pub writeAnswer : WrittenFile → Answer ℕ
+writeAnswer w = record { refusal = w .refusal; value = w .length }
+
+-- the buffer afterwards: the file, and 'Bytes after the file's end in the buffer remain'; 'No refusal writes anything'
+unfoldable pub bufferAfter : Calendar → List ℕ → List ℕ → List ℕ
+bufferAfter cal records before =
+    cond (eqb (firstNo (writeAsks cal records (length before))) 0)
+    (fileOf cal records ++ drop (length (fileOf cal records)) before)
+    before
+
+-- 'Record bytes: 0–3 product id .. 4–7 group .. 8–11 cash market .. 12 kind .. 13–14 contract size .. 15–16 tick .. 17–19 EUR, CHF, USD, GBP or GBX; 20–31 zero', of these fields
+unfoldable pub fieldBytes : List ℕ → List ℕ → List ℕ → ℕ → ℕ → ℕ → List ℕ → List ℕ
+fieldBytes id group market kind size tick currency =
+    fourBytes id 0
+    ++ fourBytes group 0
+    ++ fourBytes market 0
+    ++ (kind ∷ highByte size ∷ lowByte size ∷ highByte tick ∷ lowByte tick ∷ [])
+    ++ threeBytes currency 0
+    ++ replicate 12 0
+
+-- the record of a product
+unfoldable pub recordBytes : Product → List ℕ
+recordBytes p =
+    fieldBytes (p .id) (p .group) (p .market) (kindNumber (p .kind)) (p .size) (p .tick) (p .currency)

@@ -1,0 +1,15 @@
+// The pieces of a line.
+use libc::STDOUT_FILENO;
+
+pub(crate) fn start_line(letter: u8) {
+    io::write_all(STDOUT_FILENO, &[letter]);
+}
+
+pub(crate) fn put(n: u64) {
+    io::write_all(STDOUT_FILENO, b" ");
+    io::print_decimal(STDOUT_FILENO, n);
+}
+
+pub(crate) fn end_line() {
+    io::write_all(STDOUT_FILENO, b"\n");
+}

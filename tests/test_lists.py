@@ -1,0 +1,111 @@
+"""Tests of the second program's texts, by answers written by hand, and that the
+comparison with compose and decompose can fail: python3 tests/test_lists.py"""
+
+import os
+import sys
+import tempfile
+import unittest
+
+TESTS = os.path.dirname(os.path.abspath(__file__))
+sys.path.insert(0, TESTS)
+
+import cases  # noqa: E402
+import compare_lists  # noqa: E402
+import texts  # noqa: E402
+from second import lists, master  # noqa: E402
+
+SECOND = os.path.join(TESTS, 'second', 'lists.py')
+
+# Stand-ins for compose and decompose, as shell scripts; {} is the second program.
+RIGHT = 'exec {}'
+WRONG_COMPOSE = {
+    'a byte more': '{}; echo',
+    'nothing': 'exit 0',
+    'a status': '{}; exit 3',
+    'another number': '{} 2>&1 >/dev/null | sed s/NO/BAD/ >&2',
+    'the answer on standard output': '{} 2>&1',
+}
+WRONG_DECOMPOSE = {
+    'a line less': '{} | head -n -1',
+    'another day': '{} | sed s/2008-03-21/2008-03-20/',
+    'C for X': '{} | sed s/^X/C/',
+    'the answer on standard error': '{} >&2',
+}
+
+
+class Texts(unittest.TestCase):
+
+    def test_faults(self):
+        for name, data, said in texts.faults():
+            with self.subTest(name):
+                self.assertEqual((b'', said), lists.compose(data))
+
+    def test_other_forms(self):
+        for name, data, printed in texts.other_forms():
+            with self.subTest(name):
+                file, said = lists.compose(data)
+                self.assertEqual((printed, b''), (lists.decompose(file), said))
+
+    def test_example(self):
+        self.assertEqual((cases.example(), b''), lists.compose(texts.example()))
+        self.assertEqual(texts.example(), lists.decompose(cases.example()))
+
+    # 01's example: "With 2008–2010, only 21 March 2008 closed, and AXA [..]".
+    def test_bytes(self):
+        file, _ = lists.compose(texts.text(texts.COVER, texts.WEEK[4], texts.AXA))
+        self.assertEqual(2048, len(file))
+        self.assertEqual(bytes([1, 1, 0x07, 0xd8, 0, 0]), file[:6])
+        self.assertEqual(bytes([2, 1, 0, 1, 0, 3]), file[1536:1542])
+        self.assertEqual(b'AXA FR11XPAR\x01\x00\x64\x00\x64EUR' + bytes(12), file[1552:1584])
+        self.assertEqual([16 + 80 // 8], [k for k in range(16, 108) if file[k]])
+        self.assertEqual(0, master.file_refusal(file))
+
+    # 02, note 7: the files with most records.
+    def test_most(self):
+        for cover, count in ((b'Y 2008 1', 1905), (b'Y 2000 16', 1680)):
+            file, said = lists.compose(texts.text(cover, *texts.many(count)))
+            self.assertEqual((65536, b''), (len(file), said))
+
+    # The made texts have faults and have none.
+    def test_made(self):
+        answers = {lists.compose(data)[1][:3] for data in texts.made(1, 60)}
+        self.assertLessEqual({b'', b'BAD', b'NO '}, answers)
+
+
+class Compare(unittest.TestCase):
+
+    # The programs in a folder, as scripts.
+    def programs(self, compose=RIGHT, decompose=RIGHT):
+        folder = tempfile.TemporaryDirectory()
+        self.addCleanup(folder.cleanup)
+        for name, script in (('compose', compose), ('decompose', decompose)):
+            path = os.path.join(folder.name, name)
+            with open(path, 'w') as out:
+                out.write('#!/bin/sh\n' + script.format(f'{sys.executable} -S -E {SECOND} {name}') + '\n')
+            os.chmod(path, 0o755)
+        os.chdir(folder.name)
+        return compare_lists.Programs(folder.name)
+
+    # A refused text, and a file with closed days of both kinds that is given back.
+    def run_both(self, programs):
+        programs.text('no product', texts.text(texts.COVER))
+        return programs.file('X and C', lists.compose(
+            texts.text(texts.COVER, texts.WEEK[4], b'X 2008-03-24', texts.AXA))[0])
+
+    def test_right(self):
+        self.assertEqual(1, self.run_both(self.programs()))
+
+    def test_wrong(self):
+        for way, scripts in (('compose', WRONG_COMPOSE), ('decompose', WRONG_DECOMPOSE)):
+            for name, script in scripts.items():
+                with self.subTest(f'{way}: {name}'), self.assertRaises(compare_lists.Difference):
+                    self.run_both(self.programs(**{way: script}))
+
+    # Blocks that are not full are not given back, and not asked for.
+    def test_full(self):
+        self.assertTrue(compare_lists.is_full(cases.example()))
+        self.assertFalse(compare_lists.is_full(cases.six()))
+
+
+if __name__ == '__main__':
+    unittest.main()

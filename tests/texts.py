@@ -1,0 +1,171 @@
+"""Texts of master files for the program compose: some with a fault each, with the
+answer written by hand, and some that are made from a seed."""
+
+import os
+
+import cases
+from runs.case import Chance
+from second import dates, lists
+
+COUNT = 300
+COVER = b'Y 2008 3'
+AXA = b'P AXA FR11 XPAR 1 100 100 EUR'
+WEEK = [b'C 2008-03-%d' % day for day in range(17, 22)]
+
+
+# Lines as a text.
+def text(*lines):
+    return b''.join(line + b'\n' for line in lines)
+
+
+# A product line with another word at a place.
+def changed(place, word):
+    words = AXA.split(b' ')
+    words[place] = word
+    return b' '.join(words)
+
+
+# So many product lines with rising ids.
+def many(count):
+    return [b'P %s FR11 XPAR 1 %d 100 EUR' % (cases.base_36(800 * k), 1 + k) for k in range(count)]
+
+
+# ---- One fault each: name, text, what is said on standard error ----
+
+def cover_faults():
+    yield 'no line', b'', b'NO 4\n'
+    yield 'no product', text(COVER), b'NO 4\n'
+    for line, said in ((b'Y 1999 3', b'NO 3'), (b'Y 2090 11', b'NO 3'), (b'Y 2090 17', b'NO 3'),
+                       (b'Y 2000 17', b'NO 4'), (b'Y 2008 0', b'NO 4'), (b'Y 1999 0', b'NO 4'),
+                       (b'Y 2100 1', b'NO 3'), (b'Y 65535 65535', b'NO 3'), (b'Y 0 1', b'NO 3')):
+        yield line.decode(), text(line, AXA), said + b'\n'
+    for line in (b'Y 65536 1', b'Y 2008 65536', b'Y 2008', b'Y 2008 3 1', b'Y  2008 3', b'Y 2008  3', b' Y 2008 3',
+                 b'Y 2008 3 ', b'Y 2008 3\r', b'y 2008 3', b'YY 2008 3', b'Y2008 3', b'Y 2008 x', b'Y -1 3',
+                 b'Y 2008 3.0', b'Y 99999999999999999999999999 3', b'Y', b'', b'Z 2008 3'):
+        yield repr(line), text(line, AXA), b'BAD 1\n'
+    yield 'no cover', text(AXA), b'BAD 1\n'
+    yield 'a day first', text(WEEK[0], COVER, AXA), b'BAD 1\n'
+    yield 'two covers', text(COVER, COVER, AXA), b'BAD 2\n'
+    yield 'a cover at the end', text(COVER, AXA, b'Y 2009 1'), b'BAD 3\n'
+
+
+def day_faults():
+    for line in (b'C 2008-02-30', b'C 2008-3-21', b'C 2007-12-31', b'X 2011-01-01', b'X 1999-12-31', b'C 2100-01-01',
+                 b'C 2008-03-21 ', b'C  2008-03-21', b'C 2008/03/21', b'C', b'C 2008-03-21 2008-03-24', b'c 2008-03-21',
+                 b'R 2008-03-21', b'X 20080321', b'D 2008-03-21', b'\xff 2008-03-21', b'', b' '):
+        yield repr(line), text(COVER, AXA, line), b'BAD 3\n'
+    for line in (b'C 2008-03-22', b'X 2008-03-23'):
+        yield line.decode(), text(COVER, line, AXA), b'NO 5\n'
+    yield 'a week', text(COVER, *WEEK, AXA), b'NO 6\n'
+    yield 'a week with X', text(COVER, *WEEK[:4], b'X 2008-03-21', AXA), b'NO 6\n'
+
+
+def product_faults():
+    for place, words in ((1, (b'axa', b'A-A', b'A\tA', b'\xc3\x84')), (2, (b'FR01', b'fr11', b'1R11', b'FRX1')),
+                         (3, (b'XP1R', b'xpar')), (4, (b'6', b'255', b'0')), (5, (b'0', b'00000')),
+                         (6, (b'2', b'0', b'65535')), (7, (b'JPY', b'eur'))):
+        for word in words:
+            yield f'{place} {word!r}', text(COVER, changed(place, word)), b'NO 7\n'
+    for place, words in ((0, (b'p', b'PP', b'')), (1, (b'', b'AXAXA')), (2, (b'FR1', b'FR111', b'')),
+                         (3, (b'XPA', b'XPARI', b'')), (4, (b'256', b'', b'x', b'-1', b'1.5', b'+1')),
+                         (5, (b'65536', b'', b'1e3', b'4294967396', b'18446744073709551716')),
+                         (6, (b'65536', b'', b'1,0')), (7, (b'EU', b'EURO', b'', b'EUR '))):
+        for word in words:
+            yield f'{place} {word!r}', text(COVER, AXA, changed(place, word)), b'BAD 3\n'
+    yield 'a word less', text(COVER, AXA[:-4]), b'BAD 2\n'
+    yield 'a word more', text(COVER, AXA + b' EUR'), b'BAD 2\n'
+    yield '64 characters', text(COVER, changed(4, b'1'.rjust(36, b'0'))), b'BAD 2\n'
+    yield 'a long line', text(COVER, changed(4, b'1'.rjust(100_000, b'0'))), b'BAD 2\n'
+    yield 'an id twice', text(COVER, AXA, AXA), b'NO 8\n'
+    yield 'ids fall', text(COVER, AXA, changed(1, b'AXB'), changed(1, b'AX')), b'NO 8\n'
+
+
+def order_faults():
+    yield '3 before 7', text(b'Y 1999 1', changed(7, b'JPY')), b'NO 3\n'
+    yield '4 before 7', text(b'Y 2000 17', changed(7, b'JPY')), b'NO 4\n'
+    yield '5 before 6', text(COVER, *WEEK, b'C 2008-04-05', AXA), b'NO 5\n'
+    yield '6 before 7', text(COVER, *WEEK, changed(7, b'JPY')), b'NO 6\n'
+    yield '7 before 8', text(COVER, AXA, AXA, changed(7, b'JPY')), b'NO 7\n'
+    yield '8 before 25', text(b'Y 2008 1', *many(1906), AXA), b'NO 8\n'
+    yield 'a bad line before all', text(b'Y 1999 1', AXA, AXA, b'BAD'), b'BAD 4\n'
+    yield 'the first of two bad lines', text(COVER, b'?', AXA, b'?'), b'BAD 2\n'
+    yield '1,906 products', text(b'Y 2008 1', *many(1906)), b'NO 25\n'
+    yield '16 years and 1,681 products', text(b'Y 2000 16', *many(1681)), b'NO 25\n'
+    yield 'product 2,048 of 2,049', text(b'Y 2008 1', *many(2047), changed(1, b'?'), AXA), b'NO 7\n'
+    yield 'product 2,049', text(b'Y 2008 1', *many(2048), changed(1, b'?')), b'NO 25\n'
+    yield 'a bad line after 2,049 products', text(b'Y 2008 1', *many(2049), b'?'), b'BAD 2051\n'
+
+
+def faults():
+    yield from cover_faults()
+    yield from day_faults()
+    yield from product_faults()
+    yield from order_faults()
+
+
+# ---- Accepted texts that are not as decompose prints them: name, text, the text printed ----
+
+def other_forms():
+    plain = text(COVER, WEEK[4], AXA)
+    yield 'no line feed at the end', plain[:-1], plain
+    yield 'zeros before numbers', text(b'Y 02008 0003', WEEK[4], changed(5, b'0000100')), plain
+    yield '63 characters', text(COVER, WEEK[4], changed(4, b'1'.rjust(35, b'0'))), plain
+    yield 'a day twice', text(COVER, WEEK[4], AXA, WEEK[4]), plain
+    both = text(COVER, b'X 2008-03-21', AXA)
+    yield 'C and then X', text(COVER, WEEK[4], b'X 2008-03-21', AXA), both
+    yield 'X and then C', text(COVER, b'X 2008-03-21', WEEK[4], AXA), both
+    yield 'days in any order', text(COVER, AXA, WEEK[4], b'X 2010-12-31', WEEK[0], changed(1, b'AXB')), text(
+        COVER, WEEK[0], WEEK[4], b'X 2010-12-31', AXA, changed(1, b'AXB'))
+
+
+# ---- Texts from a seed ----
+
+# A text of a few years, days and products, with no fault but by chance.
+def random_text(chance):
+    first, years = chance.randint(2000, 2095), chance.randint(1, 5)
+    start, end = dates.day_of(first, 1, 1), dates.day_of(first + years - 1, 12, 31)
+    days = [chance.randint(start, end) for _ in range(chance.below(12))]
+    closed = [lists.day_line(chance.one_of((b'C', b'X')), day)[:-1] for day in days
+              if dates.is_weekday(day) or not chance.below(40)]
+    products = chance.sample(many(300), chance.randint(1, 40))
+    return [b'Y %d %d' % (first, years), *closed, *(products if not chance.below(20) else sorted(products))]
+
+
+# A line with one byte taken away, put in or replaced.
+def with_slip(chance, line):
+    at, byte = chance.below(len(line) + 1), bytes([chance.one_of(b' 0129AXYPC-.\n\r\0\xff')])
+    return chance.one_of((line[:at] + line[at + 1:], line[:at] + byte + line[at:], line[:at] + byte + line[at + 1:]))
+
+
+# Lines with one change: a slip, a line left out, twice, moved or put in.
+def with_change(chance, lines):
+    lines, at = list(lines), chance.below(len(lines))
+    change = chance.below(5)
+    if change == 0:
+        lines[at] = with_slip(chance, lines[at])
+    elif change == 1:
+        del lines[at]
+    elif change == 2:
+        lines.insert(chance.below(len(lines) + 1), lines[at])
+    elif change == 3:
+        lines.insert(chance.below(len(lines)), lines.pop(at))
+    else:
+        lines.insert(at, chance.one_of((b'', b'#', b'C 2010-06-01', b'X 2010-06-01', COVER, AXA)))
+    return lines or [COVER]
+
+
+# The texts of a seed.
+def made(seed, count):
+    for number in range(count):
+        chance = Chance(f'{seed} {number}')
+        lines = random_text(chance)
+        for _ in range(chance.one_of((0, 0, 0, 1, 1, 2))):
+            lines = with_change(chance, lines)
+        yield text(*lines)[:None if chance.below(4) else -1]
+
+
+# The text of the example, as it is stored.
+def example():
+    path = os.path.join(os.path.dirname(os.path.abspath(__file__)), '..', 'examples', 'master.txt')
+    with open(path, 'rb') as file:
+        return file.read()
