@@ -10,6 +10,7 @@ import histories
 import mornings
 from second import dates, generated, intake, listing, master, product, trading, writing
 from second.trading import Calendar
+import verdicts
 import writings
 
 NO_DAY = 36525
@@ -471,6 +472,7 @@ PROGRAMS = {
     'tables': histories.lines,
     'morning': mornings.lines,
     'writings': written,
+    'verdicts': verdicts.expected,
 }
 
 

@@ -83,7 +83,7 @@ unfoldable pub decomposeText : List ℕ → List ℕ
 decomposeText f =
     cond (eqb (firstNo (loadAsks f)) 0) (linesText (calendarOf f) f (lineCount (calendarOf f) f)) (refusalText (firstNo (loadAsks f)))
 
--- there is a line more, and room for it: none has 64 bytes (Lengths)
+-- there is a line more, and room for it: none has 64 bytes
 unfoldable pub another : ℕ → ℕ → List ℕ → ℕ → Bool
 another n count out length′ = ltb n count && leb (length′ + 64) (length out)
 

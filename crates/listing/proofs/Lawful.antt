@@ -36,12 +36,12 @@ risen f h j k l = let q : j + (k - j) ≡ k = omega arith in rw q at (go (k - j)
     go (suc n) = rw (add-suc j n) (omega (arith, go n, h (j + n)))
 
 -- a search finds nothing, or a number that passes; none that passes is before it
-record Found (f : ℕ → Bool) (n d k : ℕ) : Type 0 where
-  passes : f k ≡ true
-  from : d ≤ k
-  below : k < d + n
+pub record Found (f : ℕ → Bool) (n d k : ℕ) : Type 0 where
+  pub passes : f k ≡ true
+  pub from : d ≤ k
+  pub below : k < d + n
 
-first-found : (f : ℕ → Bool) (none n d : ℕ) → (firstFrom f none n d ≡ none) ⊎ Found f n d (firstFrom f none n d)
+pub first-found : (f : ℕ → Bool) (none n d : ℕ) → (firstFrom f none n d ≡ none) ⊎ Found f n d (firstFrom f none n d)
 unfolding firstFrom
 first-found f none zero d = inl refl
 first-found f none (suc n) d = go (f d) refl (first-found f none n (suc d))
@@ -52,7 +52,7 @@ first-found f none (suc n) d = go (f d) refl (first-found f none n (suc d))
     go false e (inl q) = inl q
     go false e (inr w) = inr (record { passes = w .passes; from = omega (arith, w .from); below = omega (arith, w .below) })
 
-first-least : (f : ℕ → Bool) (none n d k : ℕ) → d ≤ k → k < d + n → f k ≡ true → firstFrom f none n d ≤ k
+pub first-least : (f : ℕ → Bool) (none n d k : ℕ) → d ≤ k → k < d + n → f k ≡ true → firstFrom f none n d ≤ k
 unfolding firstFrom
 first-least f none zero d k a b t = absurd (omega arith)
 first-least f none (suc n) d k a b t = go (f d) refl (lt-or-ge d k) (λ h. first-least f none n (suc d) k h (omega arith) t)

@@ -15,13 +15,13 @@ use Rattle.places.specs.Numbering.{isListed, numberOf, missing, withNumb
 
 module _ (a : List Maturity) (n i : ℕ) (fits : n ≤ length a) where
   -- the maturity at i comes next
-  part-next : i < n → drop i (take n a) ≡ getD a i unused ∷ drop (i + 1) (take n a)
+  pub part-next : i < n → drop i (take n a) ≡ getD a i unused ∷ drop (i + 1) (take n a)
   part-next h =
       let l : i < length (take n a) = rw (length-take-le n a fits) h in
       rw (drop-cons (take n a) i unused l, getD-take n a i unused h, add-one)
 
   -- none is left
-  part-done : n ≤ i → drop i (take n a) ≡ []
+  pub part-done : n ≤ i → drop i (take n a) ≡ []
   part-done h =
       let l : length (take n a) ≤ i = rw (length-take-le n a fits) h in
       drop-of-length-le (take n a) l

@@ -20,7 +20,7 @@ use Rattle.listing.specs.declared.Maturity.{Maturity}
 use Rattle.listing.specs.Rules.{Rule, front, nextOf, taken, freshKeys, complete, maturity, unused, places15}
 use Rattle.listing.specs.Months.{placesOfKind, coverRule, ruleOf, freshOf, allInCover}
 use Rattle.listing.proofs.Fresh.{places-most, fresh-listed}
-use Rattle.places.specs.Numbering.{isListed, numberOf, missing, withNumber, renumbered, placeRight}
+use Rattle.places.specs.Numbering.{isListed, numberOf, missing, withNumber, unnumbered, renumbered, placeRight}
 use Rattle.places.proofs.Unique.{same-maturity}
 use Rattle.table.specs.declared.Table.{Table}
 use Rattle.table.specs.declared.Outcome.{Outcome}
@@ -179,6 +179,9 @@ module _ (t : Table) (s : sound t ≡ true) (len : length (t .maturities) ≡ 15
       sym
       (List·getD-map blank (listedIn t) i unused ∙ ap blank q ∙
       same-maturity (blank (getD (t .maturities) i unused)) (getD fresh i unused) (p .key ∙ ap (λ (m : Maturity). m .key) (in-places i l)) (p .day ∙ ap (λ (m : Maturity). m .day) (in-places i l)) (p .back ∙ ap (λ (m : Maturity). m .back) (in-places i l)) (sym (fresh-number i))))
+
+  pub listed-fresh : freshOf (t .calendar) (t .product .kind) (t .product .group) (t .date) ≡ unnumbered (listedIn t)
+  listed-fresh = blank-is
 
   in-old : (i : ℕ) → i < n → getD (places15 (listedIn t)) i unused ≡ getD (t .maturities) i unused
   unfolding places15

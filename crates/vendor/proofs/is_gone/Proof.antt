@@ -1,0 +1,70 @@
+use Rattle.vendor.specs.Passes.{entryCount}
+use Rattle.vendor.proofs.Entries.{times-next, not-gone, gone}
+use Rattle.vendor.specs.Vendor.{entriesOf, times, dayIn}
+use mathlib.Core.Path.{_≡_, refl, _∙_, sym}
+use Prim.Native.Nat.{_+_, _-_, _*_, _≤_}
+use native.Mathlib.Omega.{arith}
+use lib.ListN.{length, getD, take, drop}
+use Rattle.vendor.proofs.is_gone.Statement.{statement}
+use Rattle.vendor.proofs.is_gone.Tie as tie
+
+abbrev Inv-loop : tie.InvT-loop
+Inv-loop list from key n j₀ j = (n ≡ entryCount list) × (2 * n ≤ 18446744073709551616) × (times (drop j (entriesOf list)) key ≡ times (drop from (entriesOf list)) key)
+
+abbrev μ-loop : tie.MeasureT-loop
+μ-loop list from key n j₀ j = n - j
+
+entry-count-requires : tie.Need-entry-count-requires Inv-loop μ-loop
+entry-count-requires c κs = tt
+
+loop-holds : tie.Need-loop-holds Inv-loop μ-loop
+loop-holds c = (c .entry-count .ensures .0, c .entry-count .ensures .1, refl)
+
+mul-number-at : tie.Need-mul-number-at Inv-loop μ-loop
+mul-number-at c = omega (arith, c .before .loop .inv .1)
+
+number-at-requires : tie.Need-number-at-requires Inv-loop μ-loop
+number-at-requires c κs = tt
+
+returns : tie.Need-returns Inv-loop μ-loop
+returns c =
+    let at-loop = c .before .before .before in
+    let start = at-loop .before .before .before in
+    let v = at-loop .loop .inv in
+    let e = sym (c .before .number-at .ensures) ∙ c .if1 .taken in
+    not-gone (start .args .list .now) (at-loop .loop .j) (start .args .key) _ (v .2) (omega (arith, v .0, c .before .before .loop-test .taken)) e
+
+add-j : tie.Need-add-j Inv-loop μ-loop
+add-j c = omega arith
+
+loop-less : tie.Need-loop-less Inv-loop μ-loop
+loop-less c = omega arith
+
+loop-again : tie.Need-loop-again Inv-loop μ-loop
+loop-again c =
+    let at-loop = c .before .before .before in
+    let start = at-loop .before .before .before in
+    let v = at-loop .loop .inv in
+    (v .0, v .1, times-next (start .args .list .now) (at-loop .loop .j) (start .args .key) (omega (arith, v .0, c .before .before .loop-test .taken)) (λ q. c .if1 .left (c .before .number-at .ensures ∙ q)) ∙ v .2)
+
+returns-2 : tie.Need-returns-2 Inv-loop μ-loop
+returns-2 c =
+    let start = c .before .before .before .before in
+    let v = c .before .loop .inv in
+    gone (start .args .list .now) (c .before .loop .j) (start .args .key) _ (v .2) (omega (arith, v .0, c .loop-test .left))
+
+pub is-gone-spec : {M : Type 1} → statement M
+is-gone-spec =
+    tie.close
+    (tie.spec
+    Inv-loop
+    μ-loop
+    entry-count-requires
+    loop-holds
+    mul-number-at
+    number-at-requires
+    returns
+    add-j
+    loop-less
+    loop-again
+    returns-2)
