@@ -1,6 +1,7 @@
 """Day numbers, dates and month numbers (01, "Days and months")."""
 
 from bisect import bisect_right
+from functools import lru_cache
 
 FIRST_YEAR = 2000
 LAST_YEAR = 2099
@@ -93,7 +94,9 @@ def month_of(day):
     return bisect_right(FIRST_DAYS, day) - 1
 
 
-# 01, Days and months: "Date to day and day to date undo each other."
+# 01, Days and months: "Date to day and day to date undo each other." Dates are kept,
+# as every test of a day asks for its year.
+@lru_cache(maxsize=DAYS)
 def date_of(day):
     month = month_of(day)
     year, month_of_year = year_and_month(month)

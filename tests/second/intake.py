@@ -8,6 +8,7 @@ python3 tests/second/intake.py NUMBER < master.bin
 
 import sys
 from dataclasses import dataclass, replace
+from functools import lru_cache
 
 if __name__ == '__main__':
     import os
@@ -107,6 +108,8 @@ class Carried(State):
 
 
 # The days of a calendar block's year as a text; none where it is no year of 2000-2099.
+# Texts are kept, as files that differ in other blocks are taken one after the other.
+@lru_cache(maxsize=256)
 def days_of(block):
     year = master.number_of(block)
     if not dates.FIRST_YEAR <= year <= dates.LAST_YEAR:

@@ -4,14 +4,14 @@ use product::Kind;
 use product::KindAnswer;
 use product::Product;
 use product::Text;
+use years::FileCalendar;
 ghost use mathlib.Core.Path.{_≡_};
 ghost use mathlib.Core.Bool.{true};
 ghost use Prim.Native.Nat.{_+_, _*_, _≤_, _<_};
-ghost use Rattle.questions.specs.Questions.{firstNo};
 ghost use Rattle.blocks.specs.Blocks.{blockCount};
-ghost use Rattle.years.specs.Calendars.{orderRight, calendarOf, calendarsClean};
+ghost use Rattle.years.specs.Calendars.{orderRight, calendarOf, calendarAnswer, calendarsClean};
 ghost use Rattle.master.specs.Products.{sameId, kindOr, productFrom, productAt};
-ghost use Rattle.master.specs.Load.{loadAsks, loadCall, loadAnswer, hasId, placeFrom, placeOf, foundAt, findCall, findAnswer};
+ghost use Rattle.master.specs.Load.{refusedFile, judgeCall, loadCall, loadAnswer, hasId, placeFrom, placeOf, foundAt, findCall, findAnswer};
 
 // The counts of years and of records.
 pub struct Counts {
@@ -49,46 +49,59 @@ fn calendars_clean(file: &[u8], cal: Calendar) -> bool
     requires { ⌜ (orderRight (now file) ≡ true) × (cal ≡ calendarOf (now file)) ⌝ }
     ensures { λ r. ⌜ r ≡ calendarsClean (now (file .entry)) ⌝ }
 {
-    calendar_questions::is_clean(cal) & years::tails_zero(file, years::year_count(file))
+    calendar_questions::is_clean(cal) & years::tails_zero(file, cal.cover.years as usize)
 }
 
-// The number of the first of questions 1 to 8 answered no, 0 where there is none.
-fn first_refusal(file: &[u8]) -> u8
-    ensures { λ r. ⌜ r ≡ firstNo (loadAsks (now (file .entry))) ⌝ }
+// The refusal of a file, and no calendar.
+fn refused_file(number: u8) -> FileCalendar
+    ensures { λ r. ⌜ r ≡ refusedFile number ⌝ }
+{
+    let calendar = calendar::zero_calendar();
+    FileCalendar {
+        refusal: number,
+        calendar,
+    }
+}
+
+// Questions 1 to 8, and the file's calendar, which is made once, for 5 and 6 and for what follows.
+pub fn judge(file: &[u8]) -> FileCalendar
+    ensures { λ r. ⌜ calendarAnswer r ≡ judgeCall (now (file .entry)) ⌝ }
 {
     if !blocks::length_right(file) {
-        return 1;
+        return refused_file(1);
     }
     if !blocks::checks_right(file) {
-        return 2;
+        return refused_file(2);
     }
     if !blocks::headers_right(file) {
-        return 3;
+        return refused_file(3);
     }
-    if !years::order_right(file) {
-        return 4;
+    let ordered = years::ordered_calendar(file);
+    if ordered.refusal != 0 {
+        return refused_file(4);
     }
-    let cal = years::calendar_of(file);
+    let cal = ordered.calendar;
     if !calendars_clean(file, cal) {
-        return 5;
+        return refused_file(5);
     }
     if !calendar_questions::every_week_trades(cal) {
-        return 6;
+        return refused_file(6);
     }
     if !records::products_right(file) {
-        return 7;
+        return refused_file(7);
     }
     if !ids::ids_rise(file) {
-        return 8;
+        return refused_file(8);
     }
-    0
+    ordered
 }
 
 // Questions 1 to 8, and the counts of years and of records.
 pub fn load(file: &[u8]) -> Loaded
     ensures { λ r. ⌜ loadAnswer r ≡ loadCall (now (file .entry)) ⌝ }
 {
-    let refusal = first_refusal(file);
+    let judged = judge(file);
+    let refusal = judged.refusal;
     if refusal != 0 {
         return Loaded {
             refusal,
@@ -101,7 +114,7 @@ pub fn load(file: &[u8]) -> Loaded
     Loaded {
         refusal: 0,
         counts: Counts {
-            years: years::year_count(file) as u16,
+            years: judged.calendar.cover.years,
             records: ids::record_count(file) as u16,
         },
     }

@@ -14,12 +14,10 @@ use Rattle.calendar.specs.Trading.{inCover}
 use Rattle.listing.specs.Months.{listingOf, allInCover, weekIntoCover}
 use Rattle.years.specs.Calendars.{calendarOf}
 use Rattle.master.specs.Products.{productAt}
-use Rattle.master.specs.Load.{loadAsks, loadCall, loadAnswer, found, placeFrom, placeOf, findAsks, findCall, findAnswer, productOf}
+use Rattle.master.specs.Load.{loadAsks, found, placeFrom, placeOf, findAsks, findCall, findAnswer, productOf}
 use Rattle.master.specs.declared.Found.{Found}
 use Rattle.master.specs.declared.Found.the-variants.{At, Nothing}
 use Rattle.master.specs.declared.Place.{Place}
-use Rattle.master.specs.declared.Loaded.{Loaded}
-use Rattle.master.specs.declared.Counts.{Counts}
 use Rattle.opening.specs.Opening.{openAsks, refusedOpening, openingOf}
 
 -- of two lists of questions, one after the other
@@ -43,11 +41,6 @@ append-yes (ask k false ∷ qs) rs p e = absurd (omega (arith, ltb-true 0 k (and
 load-numbers : (f : List ℕ) → numbers (loadAsks f) ≡ true
 unfolding loadAsks
 load-numbers f = refl
-
--- load's refusal is that of its questions
-pub load-is : (f : List ℕ) (l : Loaded) → loadAnswer l ≡ loadCall f → l .refusal ≡ firstNo (loadAsks f)
-unfolding loadCall answer
-load-is f l e = ap (λ (a : Answer Counts). a .refusal) e
 
 -- an id is there, and where it is
 find-refusal : (f id : List ℕ) (r : Found) → findAnswer r ≡ findCall f id → findAnswer r .refusal ≡ firstNo (findAsks f id)

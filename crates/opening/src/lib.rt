@@ -56,15 +56,15 @@ fn refused_opening(number: u8) -> Opening
 pub fn opening_of(file: &[u8], id: [u8; 4], date: u16) -> Opening
     ensures { λ r. ⌜ r ≡ openingOf (now (file .entry)) id date ⌝ }
 {
-    let loaded = master::load(file);
-    let refusal = loaded.refusal;
+    let judged = master::judge(file);
+    let refusal = judged.refusal;
     if refusal != 0 {
         return refused_opening(refusal);
     }
     let Found::At(block, record) = master::find(file, id) else {
         return refused_opening(9);
     };
-    let calendar = years::calendar_of(file);
+    let calendar = judged.calendar;
     if !calendar::in_cover(calendar.cover, date) {
         return refused_opening(11);
     }

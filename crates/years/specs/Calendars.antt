@@ -5,11 +5,13 @@ use mathlib.Core.Bool.{Bool, not, _&&_, _||_, cond}
 use mathlib.Core.List.{List, [], _∷_}
 use lib.ListN.{getD}
 use lib.Dec.{eqb, leb, ltb}
+use Rattle.questions.specs.Questions.{ask, Answer, answer}
 use Rattle.questions.specs.Search.{every}
 use Rattle.calendar.specs.Bits.{byteBit}
-use Rattle.calendar.specs.Trading.{mayClose, bitsClean, everyWeek}
+use Rattle.calendar.specs.Trading.{mayClose, bitsClean, everyWeek, zeroCalendar}
 use Rattle.calendar.specs.declared.Calendar.{Calendar}
 use Rattle.blocks.specs.Blocks.{blockCount, countOf, blockOf, zeros, isCalendar, isProducts, yearOfBlock}
+use Rattle.years.specs.declared.FileCalendar.{FileCalendar}
 
 -- 'the counts of years ..': a calendar block for each year
 unfoldable pub yearCount : List ℕ → ℕ
@@ -82,6 +84,14 @@ noCalendar =
 -- 'the file's calendar'; a file that has not 1 to 16 calendar blocks has no year
 unfoldable pub calendarOf : List ℕ → Calendar
 calendarOf f = cond (leb 1 (yearCount f) && leb (yearCount f) 16) (calendarBlocks f) noCalendar
+
+-- the number and the value that an answer with the file's calendar stands for
+abbrev pub calendarAnswer : FileCalendar → Answer Calendar
+calendarAnswer r = record { refusal = r .refusal; value = r .calendar }
+
+-- question 4 and, where it is answered yes, the file's calendar
+unfoldable pub orderCall : List ℕ → Answer Calendar
+orderCall f = answer (ask 4 (orderRight f) ∷ []) zeroCalendar (calendarOf f)
 
 -- 6 'Does every run of seven days in the cover hold a trading day?'
 unfoldable pub weeksRight : List ℕ → Bool

@@ -1,4 +1,4 @@
-// The calendar blocks of a master file: questions 4 and 6, and the calendar that they make.
+// The calendar blocks of a master file: question 4, and the calendar that they make.
 use calendar::Calendar;
 use calendar::Cover;
 ghost use mathlib.Core.Path.{_≡_};
@@ -6,7 +6,13 @@ ghost use Prim.Native.Nat.{_≤_, _<_};
 ghost use Rattle.questions.specs.Search.{every};
 ghost use Rattle.calendar.specs.Trading.{mayClose, bitsClean};
 ghost use Rattle.blocks.specs.Blocks.{blockCount, blockOf, numberAt, zeros};
-ghost use Rattle.years.specs.Calendars.{yearCount, inOrder, orderRight, mapBit, dayClean, blockClean, mapsFrom, calendarBlocks, calendarOf, weeksRight};
+ghost use Rattle.years.specs.Calendars.{yearCount, inOrder, orderRight, mapBit, dayClean, blockClean, mapsFrom, calendarBlocks, calendarOf, calendarAnswer, orderCall};
+
+// A refusal, or 0 and the file's calendar.
+pub struct FileCalendar {
+    pub refusal: u8,
+    pub calendar: Calendar,
+}
 
 // How many calendar blocks the file has.
 pub fn year_count(file: &[u8]) -> usize
@@ -54,11 +60,11 @@ fn all_in_order(file: &[u8], years: usize) -> bool
     true
 }
 
-// Question 4.
-pub fn order_right(file: &[u8]) -> bool
+// Question 4, of a file with its years counted.
+fn order_right(file: &[u8], years: usize) -> bool
+    requires { ⌜ years ≡ yearCount (now file) ⌝ }
     ensures { λ r. ⌜ r ≡ orderRight (now (file .entry)) ⌝ }
 {
-    let years = year_count(file);
     if years < 1 {
         return false;
     }
@@ -164,6 +170,25 @@ pub fn calendar_of(file: &[u8]) -> Calendar
     }
 }
 
+// Question 4 and, where it is answered yes, the file's calendar: its years are counted once for both.
+pub fn ordered_calendar(file: &[u8]) -> FileCalendar
+    ensures { λ r. ⌜ calendarAnswer r ≡ orderCall (now (file .entry)) ⌝ }
+{
+    let years = year_count(file);
+    if !order_right(file, years) {
+        let calendar = calendar::zero_calendar();
+        return FileCalendar {
+            refusal: 4,
+            calendar,
+        };
+    }
+    let calendar = calendar_blocks(file, years);
+    FileCalendar {
+        refusal: 0,
+        calendar,
+    }
+}
+
 // Whether bytes 108 to 509 of the first blocks are zero.
 pub fn tails_zero(file: &[u8], years: usize) -> bool
     ensures { λ r. ⌜ r ≡ every years (λ k. zeros (blockOf (now (file .entry)) k) 108 402) ⌝ }
@@ -176,11 +201,4 @@ pub fn tails_zero(file: &[u8], years: usize) -> bool
         k += 1;
     }
     true
-}
-
-// Question 6.
-pub fn weeks_right(file: &[u8]) -> bool
-    ensures { λ r. ⌜ r ≡ weeksRight (now (file .entry)) ⌝ }
-{
-    calendar_questions::every_week_trades(calendar_of(file))
 }

@@ -5,22 +5,19 @@ use borrow.Author.Needs.{needs}
 use Rattle.years.proofs.order_right.Statement.{statement}
 use Rattle.years.proofs.order_right.Tie as tie
 
-year-count-requires : tie.Need-year-count-requires
-year-count-requires c κs = tt
-
 returns : tie.Need-returns
 unfolding orderRight
-returns c = simp (← c .before .year-count .ensures .0, lt-leb _ _ (c .if1 .taken))
+returns c = simp (← c .before .before .pre, lt-leb _ _ (c .if1 .taken))
 
 returns-2 : tie.Need-returns-2
 unfolding orderRight
-returns-2 c = simp (← c .before .before .year-count .ensures .0, le-leb _ _ (c .before .if1 .left), lt-leb _ _ (c .if2 .taken))
+returns-2 c = simp (← c .before .before .before .pre, le-leb _ _ (c .before .if1 .left), lt-leb _ _ (c .if2 .taken))
 
 returns-3 : tie.Need-returns-3
 unfolding orderRight
 returns-3 c =
     let d = c .before .before in
-    simp (← d .before .year-count .ensures .0, le-leb _ _ (d .if1 .left), le-leb _ _ (c .before .if2 .left), le-ltb _ _ (c .if3 .taken))
+    simp (← d .before .before .pre, le-leb _ _ (d .if1 .left), le-leb _ _ (c .before .if2 .left), le-ltb _ _ (c .if3 .taken))
 
 all-in-order-requires : tie.Need-all-in-order-requires
 all-in-order-requires c κs = search needs
@@ -29,9 +26,9 @@ returns-4 : tie.Need-returns-4
 unfolding orderRight
 returns-4 c =
     let d = c .before .before .before in
-    simp (← d .before .year-count .ensures .0, le-leb _ _ (d .if1 .left), le-leb _ _ (c .before .before .if2 .left), lt-ltb _ _ (c .before .if3 .left)) (c .all-in-order .ensures)
+    simp (← d .before .before .pre, le-leb _ _ (d .if1 .left), le-leb _ _ (c .before .before .if2 .left), lt-ltb _ _ (c .before .if3 .left)) (c .all-in-order .ensures)
 
 pub order-right-spec : {M : Type 1} → statement M
 order-right-spec =
     tie.close
-    (tie.spec year-count-requires returns returns-2 returns-3 all-in-order-requires returns-4)
+    (tie.spec returns returns-2 returns-3 all-in-order-requires returns-4)
