@@ -1,4 +1,4 @@
--- The cover, the closed days, the trading days and the exchange days (01, Days and months; questions 5, 6, 11, 14, 15, 17; 02, note 4).
+-- The cover, the closed days, the trading days and the exchange days (01, Days and months; questions 5, 6, 11, 14, 15, 17 and 26; 02, notes 4, 5, 9 and 14).
 -- Assumes nothing.
 use Prim.Native.Nat.{ℕ, zero, suc, _+_, _-_, _*_, _/_, _%_}
 use mathlib.Core.Bool.{Bool, not, _&&_, _||_, cond}
@@ -68,7 +68,7 @@ exchangeDay cal d = tradingDay cal d || inSecondMap cal d
 unfoldable pub nextDay : (ℕ → Bool) → ℕ → ℕ → ℕ
 nextDay test e d = firstFrom test 36525 (e - suc d) (suc d)
 
--- the n-th such day after d; 36,525 where there is none
+-- the n-th such day after d, d itself for n = 0; 36,525 where there is none before an e of at most 36,525
 unfoldable pub nthDay : (ℕ → Bool) → ℕ → ℕ → ℕ → ℕ
 nthDay test e zero d = d
 nthDay test e (suc n) d = nextDay test e (nthDay test e n d)
@@ -77,7 +77,7 @@ nthDay test e (suc n) d = nextDay test e (nthDay test e n d)
 abbrev pub nthTradingDay : Calendar → ℕ → ℕ → ℕ
 nthTradingDay cal n d = nthDay (tradingDay cal) (coverEnd (cal .cover)) n d
 
--- the same with exchange days; 36,525 where the cover has none
+-- 'the first exchange day after it' (02, note 5): the first exchange day of the cover after d; 36,525 where none is left
 unfoldable pub nextExchangeDay : Calendar → ℕ → ℕ
 nextExchangeDay cal d = nextDay (exchangeDay cal) (coverEnd (cal .cover)) d
 

@@ -38,7 +38,7 @@ keyOf kind d = cond (isWeekly kind) d (monthOf d)
 unfoldable pub anchorOf : Kind → List ℕ → ℕ → ℕ
 anchorOf kind group key = cond (isWeekly kind) key (monthAnchor group key)
 
--- 'The last trading day is the anchor if it is a trading day, else the latest trading day before it'
+-- 'The last trading day is the anchor if it is a trading day, else the latest trading day before it'; 0 where there is none
 unfoldable pub lastDay : Calendar → ℕ → ℕ
 lastDay cal anchor = cond (tradingDay cal anchor) anchor (latest (tradingDay cal) (anchor - 1))
 

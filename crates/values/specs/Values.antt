@@ -37,7 +37,7 @@ lastDayAsks t key = ask 10 (sound t) ∷ ask 18 (isListed (listedIn t) key) ∷ 
 unfoldable pub lastDayCall : Table → ℕ → Answer LastDay
 lastDayCall t key = answer (lastDayAsks t key) (record { day = 0; back = 0 }) (workedOut (t .calendar) (t .product .kind) (t .product .group) key)
 
--- 'Due day: the n-th trading day after a given trading day'; 'Due days count trading days and these days' (02, note 4); 'Due now counts from any day in the cover: the first counted day is the first exchange day after it' (02, note 5)
+-- the n-th exchange day after a day of any kind; 36,525 where too few are left in the cover: 'Due day: the n-th trading day after ..', as changed by 'Due days count trading days and these days' (02, note 4) and 'Due now counts from any day ..: the first counted day is the first exchange day after it' (02, note 5); that the day is 'in the cover' is 11
 unfoldable pub dueDay : Table → ℕ → ℕ
 dueDay t day = nthExchangeDay (t .calendar) (settlementDays (t .product .kind) (t .product .group)) day
 
@@ -49,7 +49,7 @@ dueAsks t day =
     ∷ ask 17 (inCover (t .calendar .cover) (dueDay t day))
     ∷ []
 
--- 'Due: 10, 11, 14, 17' (01, Questions), what due asked before note 5, with the exchange days of note 4; only the theorem on days 'that were answered before' (02, note 5) needs it
+-- 'Due: 10, 11, 14, 17' (01, Questions), what due asked before note 5, with the exchange days of note 4; only the theorems that compare due with what it answered before need it, as 'Days that were answered before keep their due day' (02, note 5); the due day was `dueDay` then too
 unfoldable pub dueAsksBefore : Table → ℕ → List Ask
 dueAsksBefore t day =
     ask 10 (sound t)
