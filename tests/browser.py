@@ -1,0 +1,95 @@
+"""Debian's chromium without a window, spoken to over two pipes: pages are opened, measured and printed."""
+import base64
+import json
+import os
+import select
+import shutil
+import subprocess
+import tempfile
+
+NAMES = ('chromium', 'chromium-browser')
+PATIENCE = 300
+QUIET = ['--headless', '--disable-gpu', '--hide-scrollbars', '--no-first-run', '--disable-dev-shm-usage',
+         '--disable-background-networking', '--host-resolver-rules=MAP * ~NOTFOUND']
+
+
+def installed():
+    """The browser's file, or None."""
+    return next((shutil.which(name) for name in NAMES if shutil.which(name)), None)
+
+
+class Browser:
+    """A browser with one page; `with Browser() as browser:` ends it."""
+
+    def __enter__(self):
+        self.folder = tempfile.TemporaryDirectory()
+        read_by_browser, self.to_browser = os.pipe()
+        self.from_browser, written_by_browser = os.pipe()
+        self.process = subprocess.Popen(
+            ['sh', '-c', f'exec "$0" "$@" 3<&{read_by_browser} 4>&{written_by_browser}', installed(), *QUIET,
+             *(['--no-sandbox'] if os.geteuid() == 0 else []), '--remote-debugging-pipe', f'--user-data-dir={self.folder.name}'],
+            pass_fds=(read_by_browser, written_by_browser), stdout=subprocess.DEVNULL, stderr=subprocess.DEVNULL)
+        os.close(read_by_browser)
+        os.close(written_by_browser)
+        self.held, self.events, self.number = b'', [], 0
+        target = self.call('Target.createTarget', {'url': 'about:blank'}, session=None)['targetId']
+        self.session = self.call('Target.attachToTarget', {'targetId': target, 'flatten': True}, session=None)['sessionId']
+        self.call('Page.enable')
+        return self
+
+    def __exit__(self, *failure):
+        os.close(self.to_browser)
+        os.close(self.from_browser)
+        self.process.terminate()
+        self.process.wait()
+        self.folder.cleanup()
+
+    def message(self):
+        """The next message of the browser."""
+        while b'\0' not in self.held:
+            if not select.select([self.from_browser], [], [], PATIENCE)[0]:
+                raise RuntimeError(f'the browser has said nothing for {PATIENCE} seconds')
+            part = os.read(self.from_browser, 1 << 20)
+            if not part:
+                raise RuntimeError('the browser has ended')
+            self.held += part
+        text, _, self.held = self.held.partition(b'\0')
+        return json.loads(text)
+
+    def call(self, method, parameters=None, session=''):
+        """Asks the browser for something, and waits for its answer."""
+        self.number += 1
+        request = {'id': self.number, 'method': method, 'params': parameters or {}}
+        if session is not None:
+            request['sessionId'] = self.session
+        os.write(self.to_browser, json.dumps(request).encode() + b'\0')
+        while True:
+            answer = self.message()
+            if answer.get('id') == self.number:
+                if 'error' in answer:
+                    raise RuntimeError(f'{method}: {answer["error"]["message"]}')
+                return answer['result']
+            self.events.append(answer.get('method'))
+
+    def width(self, pixels, medium='screen'):
+        """The width of the page, on the screen or as it is laid out for print."""
+        self.call('Emulation.setDeviceMetricsOverride', {'width': pixels, 'height': 900, 'deviceScaleFactor': 1, 'mobile': False})
+        self.call('Emulation.setEmulatedMedia', {'media': medium})
+
+    def open(self, path):
+        """Opens a file and waits until it is there."""
+        self.events.clear()
+        self.call('Page.navigate', {'url': path.resolve().as_uri()})
+        while 'Page.loadEventFired' not in self.events:
+            self.events.append(self.message().get('method'))
+
+    def evaluate(self, text):
+        """The value of a text of JavaScript on the page."""
+        answer = self.call('Runtime.evaluate', {'expression': text, 'returnByValue': True})
+        if 'exceptionDetails' in answer:
+            raise RuntimeError(answer['exceptionDetails'].get('text', 'the page could not be measured'))
+        return answer['result'].get('value')
+
+    def printed(self):
+        """The page as a PDF on paper of the size that its style sheet says."""
+        return base64.b64decode(self.call('Page.printToPDF', {'preferCSSPageSize': True})['data'])
