@@ -12,7 +12,7 @@ import sys
 from dataclasses import replace
 
 from second import dates, master
-from second.product import Product
+from second.product import SHARE, Product
 from second.trading import BYTES_PER_YEAR, Calendar
 
 DATA = os.path.join(os.path.dirname(os.path.abspath(__file__)), 'data')
@@ -26,7 +26,7 @@ IDS = (b'AXA ', b'ALV ', b'A   ', b'AALF', b'ADS ', b'ADSG', b'ZURN', b'ZZZZ', b
 
 # A product with this id, the other fields as in document 01's example.
 def item(code, **fields):
-    return replace(Product(code.ljust(4), b'FR11', b'XPAR', 1, 100, 100, b'EUR'), **fields)
+    return replace(Product(code.ljust(4), b'FR11', b'XPAR', 1, 100 * SHARE, 100, b'EUR'), **fields)
 
 
 # The day numbers of the Mondays to Fridays from one date to another.
@@ -37,7 +37,7 @@ def weekdays(first, last):
 
 GOOD_FRIDAY = weekdays((2008, 3, 21), (2008, 3, 21))
 SIX_PRODUCTS = [item(b'A'), item(b'AXA'), item(b'B', group=b'IT01', kind=0),
-                item(b'B1'), item(b'Z'), item(b'ZZZZ', group=b'DE11', kind=3, size=65535)]
+                item(b'B1'), item(b'Z'), item(b'ZZZZ', group=b'DE11', kind=3, size=65535 * SHARE)]
 SMALL_PRODUCTS = [item(b'A'), item(b'AXA'), item(b'B')]
 
 
@@ -66,7 +66,7 @@ def base_36(number):
 def many_products(count):
     codes = [base_36(881 * k) for k in range(count - 1)] + [b'ZZZZ']
     currencies = (b'EUR', b'CHF', b'USD', b'GBP', b'GBX')
-    return [item(code, group=b'FR%d%d' % (k % 4 > 0, k % 10), kind=k % 4, size=1 + 34 * k,
+    return [item(code, group=b'FR%d%d' % (k % 4 > 0, k % 10), kind=k % 4, size=(1 + 34 * k) * SHARE,
                  tick=(1, 5, 10, 100)[k % 4], currency=currencies[k % 5])
             for k, code in enumerate(codes)]
 
@@ -140,9 +140,9 @@ def with_check(number, *damages):
     products = many_products(15)
     products[14] = replace(products[14], size=0)
     check = master.check_of(small(products=products)[master.BLOCK:])
-    size = next(size for size in range(1, 65536)
-                if (check + 478 * (size // 256) + 479 * (size % 256)) % 65521 == number)
-    products[14] = replace(products[14], size=size)
+    shares = next(shares for shares in range(1, 65536)
+                  if (check + 478 * (shares // 256) + 479 * (shares % 256)) % 65521 == number)
+    products[14] = replace(products[14], size=shares * SHARE)
     return small(*damages, products=products)
 
 
@@ -302,12 +302,12 @@ OUTSIDE = (
     ('group', 4, (b'@R11', b'[R11', b'F@11', b'F[11', b'FR/1', b'FR01', b'FR21', b'FR1/', b'FR1:')),
     ('market', 8, (b'@PAR', b'[PAR', b'X@AR', b'X[AR', b'XP@R', b'XP[R', b'XPA@', b'XPA[')),
     ('kind', 12, (b'\0', b'\4', b'\xff')),
-    ('size', 13, (b'\0\0',)),
+    ('size', 13, (b'\0\0',)), ('size', 20, (b'\x27\x10', b'\xff\xff')),
     ('tick', 15, (b'\0\0', b'\0\2', b'\0\4', b'\0\6', b'\0\x09', b'\0\x0b', b'\0\x32', b'\0\x63',
                   b'\0\x65', b'\x64\0', b'\1\x64')),
     ('currency', 17, (b'EUQ', b'EUS', b'CHE', b'CHG', b'USC', b'USE', b'GBO', b'GBQ', b'GBW',
                       b'GBY', b'FUR', b'EVR')),
-    ('byte', 20, (b'\1',)), ('byte', 26, (b'\1',)), ('byte', 31, (b'\1',)),
+    ('byte', 22, (b'\1',)), ('byte', 26, (b'\1',)), ('byte', 31, (b'\1',)),
 )
 
 # Records with values at the ends of the ranges.
@@ -315,7 +315,7 @@ INSIDE = [
     item(b'0', kind=0, group=b'AA00'), item(b'0000', kind=0, group=b'ZZ09'),
     item(b'9', kind=1, group=b'AA10'), item(b'A', kind=2, group=b'ZZ19'),
     item(b'A0', kind=3, market=b'AAAA'), item(b'A9', market=b'ZZZZ'),
-    item(b'AXA', size=1), item(b'AZ9Z', size=256), item(b'B', size=65535),
+    item(b'AXA', size=SHARE), item(b'AZ9Z', size=256 * SHARE), item(b'B', size=65535 * SHARE),
     item(b'B1', tick=1, currency=b'CHF'), item(b'B9', tick=5, currency=b'USD'),
     item(b'Z', tick=10, currency=b'GBP'), item(b'ZZZZ', tick=100, currency=b'GBX'),
 ]
@@ -428,7 +428,7 @@ def many_fault_cases():
 # admits 4." Kind 6 and the digits 1 and 2 of kind 4 are refused.
 def kind_4_cases():
     futures = [item(b'A', group=b'FR01', kind=4), item(b'AXA', group=b'IT01', kind=4),
-               item(b'B', group=b'AA00', kind=4), item(b'B1', group=b'ZZ09', kind=4, size=65535)]
+               item(b'B', group=b'AA00', kind=4), item(b'B1', group=b'ZZ09', kind=4, size=65535 * SHARE)]
     yield 'ok-kind-4', small(products=futures)
     yield 'ok-kind-4-among-others', master.build(
         Calendar(2008, 3, GOOD_FRIDAY), [*SMALL_PRODUCTS, *(replace(one, id=b'Z%c  ' % one.id[0])
@@ -451,7 +451,7 @@ def kind_4_cases():
 # digits 0 and 2 of kind 5 are refused, and kinds 6, 7 and 13.
 def kind_5_cases():
     options = [item(b'A', kind=5), item(b'AXA', group=b'IT11', kind=5, tick=1),
-               item(b'B', group=b'AA10', kind=5), item(b'B1', group=b'ZZ19', kind=5, size=65535)]
+               item(b'B', group=b'AA10', kind=5), item(b'B1', group=b'ZZ19', kind=5, size=65535 * SHARE)]
     yield 'ok-kind-5', small(products=options)
     yield 'ok-all-kinds', master.build(
         Calendar(2008, 3, GOOD_FRIDAY),
@@ -560,13 +560,36 @@ def one_block_cases():
     yield 'q2-last-and-3-first', six(('bytes', 0, 2, master.two_bytes(1999)), ('check', 5, 1))
 
 
+# ---- Sizes in ten-thousandths of a share (02, note 11) ----
+
+# Damage: the shares of bytes 13–14 and the ten-thousandths of bytes 20–21 of the second
+# of three records.
+def size_bytes(shares, part):
+    return (('bytes', 1, 48 + 13, master.two_bytes(shares)), ('bytes', 1, 48 + 20, master.two_bytes(part)))
+
+
+# "record bytes 20–21 hold 0 to 9,999 [..] and question 7 says so; [..] a file's [size] not
+# below one share". 10,000 ten-thousandths are no share of their own.
+def size_cases():
+    for shares, part in ((100, 1), (100, 256), (100, 9999), (1, 0), (1, 1), (33, 3333), (65535, 9999)):
+        yield f'ok-size-{shares}-and-{part}', small(*size_bytes(shares, part))
+    for shares, part in ((65535, 10000), (0, 1), (0, 5000), (0, 9999), (0, 10000), (0, 65535)):
+        yield f'q7-size-{shares}-and-{part}', small(*size_bytes(shares, part))
+    yield 'ok-ten-thousandths-in-all-products', six(*(('bytes', block, at, b'\x0d\x05')
+                                                      for _, block in PRODUCTS for at in (36, 68)))
+    yield 'q7-ten-thousandths-in-last-products', six(('bytes', 5, 68, b'\x27\x10'))
+    yield 'q7-ten-thousandths-of-unused-record', six(('bytes', 3, 100, b'\0\1'))
+    yield 'q7-ten-thousandths-and-8', small(('bytes', 1, 48, b'A   '), ('bytes', 1, 100, b'\xff\xff'))
+    yield 'q6-and-ten-thousandths', small(('bytes', 1, 36, b'\xff\xff'), closed=weekdays((2008, 4, 7), (2008, 4, 11)))
+
+
 # ---- All cases ----
 
 # Every case in turn: (name, file).
 def cases():
     for part in (accepted, length_cases, check_cases, header_cases, order_cases, clean_cases,
                  week_cases, field_cases, record_cases, id_cases, pair_cases, many_fault_cases,
-                 kind_4_cases, second_map_cases, kind_5_cases, one_block_cases):
+                 kind_4_cases, second_map_cases, kind_5_cases, one_block_cases, size_cases):
         yield from part()
 
 

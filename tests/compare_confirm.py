@@ -15,14 +15,14 @@ import tempfile
 
 from runs import lines
 from second import confirm, dates, master, table, terms, trading, vendor
-from second.product import Product
+from second.product import SHARE, Product
 from second.trading import Calendar
 
 COUNT = 400
 SECONDS = 20
 
 # A product of every kind; an Italian option among them.
-PRODUCTS = [Product(code, group, b'XPAR', kind, 100, 100, b'EUR') for code, group, kind in (
+PRODUCTS = [Product(code, group, b'XPAR', kind, 100 * SHARE, 100, b'EUR') for code, group, kind in (
     (b'A0  ', b'FR01', 0), (b'A1  ', b'FR11', 1), (b'A1IT', b'IT11', 1), (b'A2  ', b'FR11', 2),
     (b'A3  ', b'DE11', 3), (b'A4  ', b'FR01', 4), (b'A5  ', b'FR11', 5))]
 

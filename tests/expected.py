@@ -219,7 +219,7 @@ TICKS = (0, 1, 5, 10, 100)
 
 
 # A product with these fields, the others as in document 01's example.
-def product_with(group=b'FR11', size=100, tick=100):
+def product_with(group=b'FR11', size=100 * product.SHARE, tick=100):
     return product.Product(b'AXA ', group, b'XPAR', 1, size, tick, b'EUR')
 
 
@@ -242,18 +242,23 @@ def price_lines():
             yield f'P {price} {tick} {product.price_in_range(price):d} {multiple:d}'
 
 
-# Cash, 0 where 19, 22 or the size's range says no.
+# 02, note 11: cash of sizes in ten-thousandths of a share, below a share, whole and not:
+# 1 for a negative sign, the amount and the rest; zeros where 19, 22 or the size's range
+# says no.
 def cash_lines():
     for contracts in (0, 1, 3, 100000, 100001):
-        for size in (0, 1, 100, 65535):
+        for size in (0, 1, 9999, 10000, 333333, 1000000, 655350000, 655359999, 655360000):
             for agreed in (0, 1, 123400, 999999999, 1000000000):
                 for final in (0, 125000, 999999999, 1000000000):
-                    admitted = (product.price_in_range(agreed) and size > 0
-                                and product.final_and_contracts_in_range(final, contracts))
-                    amount = 0
-                    if admitted:
-                        amount = product.cash_amount(product_with(size=size), contracts, final, agreed)
-                    yield f'Q {contracts} {size} {agreed} {final} {amount}'
+                    yield f'Q {contracts} {size} {agreed} {final} {cash_words(contracts, size, agreed, final)}'
+
+
+def cash_words(contracts, size, agreed, final):
+    if not (product.price_in_range(agreed) and product.size_is_right(size)
+            and product.final_and_contracts_in_range(final, contracts)):
+        return '0 0 0'
+    negative, amount, rest = product.cash_parts(product_with(size=size), contracts, final, agreed)
+    return f'{negative:d} {amount} {rest}'
 
 
 # The section on products: groups, prices, cash.

@@ -16,11 +16,14 @@ from tables.damages import (damaged_second_maps, damaged_tables, damaged_tables_
 from tables.files import (EASTER_ALONE, EASTER_SECOND, EXAMPLE, FIRST_DAYS_WEEKLY, FUTURES_2005, ONE_YEAR,
                           ONE_YEAR_2005, REFUSED_SECOND, REFUSED_WEEKLY, SEED, SEVEN_YEARS, SEVEN_YEARS_SECOND,
                           SIXTEEN_YEARS, SIXTEEN_YEARS_2005, SIXTEEN_YEARS_SECOND, SIXTEEN_YEARS_WEEKLY,
-                          THREE_YEARS, THREE_YEARS_2005, THREE_YEARS_WEEKLY, TWO_YEARS, TWO_YEARS_2005,
-                          TWO_YEARS_WEEKLY, WEEKLY, WEEKLY_2010, YEAR_END_SECOND, Numbers, accepted_files,
-                          all_files, calendar_of, easter_sunday, file_name, first_date, last_date, openable,
-                          opening_date, product_of, refused_files, refused_second_maps, refused_weekly_files)
-from tables.moments import PRICES, push_calls, some_calls, some_calls_and_reopenings, some_value
+                          THREE_YEARS, THREE_YEARS_2005, THREE_YEARS_SIZES, THREE_YEARS_WEEKLY, TWO_YEARS,
+                          TWO_YEARS_2005, TWO_YEARS_WEEKLY, WEEKLY, WEEKLY_2010, YEAR_END_SECOND, Numbers,
+                          accepted_files, all_files, calendar_of, easter_sunday, file_name, first_date, last_date,
+                          openable, opening_date, product_of, refused_files, refused_second_maps,
+                          refused_weekly_files)
+from tables.measures import measured_tables
+from tables.moments import (PRICES, push_calls, some_calls, some_calls_and_measures, some_calls_and_reopenings,
+                            some_value)
 from tables.reopenings import reopened_tables
 from tables.script import CALLS, Script, book_call, make
 
@@ -252,7 +255,7 @@ def value_calls(script):
 # The calls of a mixed history, chosen by the book alone.
 def calls_of(numbers, number, code, date, length, choose=some_calls):
     item = product_of(number, code)
-    book = Book(item.kind, item.group, calendar_of(number), date)
+    book = Book(item.kind, item.group, item.size, calendar_of(number), date)
     calls = []
     while len(calls) < length:
         more = choose(numbers, book)[:length - len(calls)]
@@ -585,6 +588,53 @@ def all_of_reopenings(script, numbers):
     odd_reopenings(script)
 
 
+# ---- Splits and reductions ----
+
+# 02, note 11: measures between rolls, closures and reopenings, on every kind; cash after
+# each of them. Options get 21.
+def mixed_measures(script, numbers):
+    for number, code in ((THREE_YEARS, b'VOD '), (THREE_YEARS, b'FIAT'), (THREE_YEARS, b'AXA '),
+                         (SIXTEEN_YEARS_SECOND, b'1   '), (SIXTEEN_YEARS_SECOND, b'FIA5'),
+                         (SIXTEEN_YEARS_SECOND, b'VOD5'), (THREE_YEARS_SIZES, b'FRA0'), (THREE_YEARS_SIZES, b'FRA4'),
+                         (TWO_YEARS_WEEKLY, b'AXAW')):
+        script.open(number, code, opening_date(number, code) + numbers.below(200))
+        for _ in range(16):
+            make(script, some_calls_and_measures(numbers, script.book))
+            script.cash(numbers.one_of((1, 3, 99999)), 100, numbers.one_of((0, 100, 101, 125003)))
+
+
+# 02, note 11: a measure "joins the calls a history may hold".
+def whole_measures(script, numbers):
+    for number, code, date, length in ((EXAMPLE, b'AXAF', 2930, 120), (THREE_YEARS, b'FIAT', 2930, 120),
+                                       (SIXTEEN_YEARS_SECOND, b'FIAT', 30700, 256),
+                                       (SIXTEEN_YEARS_SECOND, b'FIA5', 33000, 256),
+                                       (THREE_YEARS_SIZES, b'FRA1', 2930, 120), (EXAMPLE, b'AXA ', 2930, 60),
+                                       (TWO_YEARS_WEEKLY, b'ENIW', 2600, 60)):
+        script.history(number, code, date, calls_of(numbers, number, code, date, length, some_calls_and_measures))
+
+
+# Numbers of whole calls, but not of all of them; numbers that are no whole calls; a buffer
+# without room for the last; p, q and prices that no two bytes hold, each 65,536 more than
+# one that is accepted; an open that is refused.
+def odd_measures(script):
+    start = dates.day_of(2008, 3, 17)
+    calls = [('Z', 3, 2, 123400), ('R', start + 1), ('Z', 2, 3, 123400), ('C', start + 3), ('Z', 1, 3, 1)]
+    for numbers_lent, buffer_lent in ((20, 20), (16, 20), (4, 4), (12, 15), (18, 20), (20, 19), (3, 20)):
+        script.history(EXAMPLE, b'AXAF', start, calls, numbers_lent, buffer_lent)
+    script.history(EXAMPLE, b'AXAF', start, [
+        ('Z', 65536 + 3, 2, 100), ('Z', 3, 65536 + 2, 100), ('Z', 2**32 - 1, 2**32 - 1, 100), ('Z', 65536, 65536, 100),
+        ('Z', 3, 2, 2**32 - 1), ('Z', 3, 2, 65536 + 100), ('Z', 3, 2, 100)])
+    script.history_without_open(EXAMPLE, b'NONE', start, calls)
+
+
+# 02, note 11, whole.
+def all_of_measures(script, numbers):
+    measured_tables(script)
+    mixed_measures(script, numbers)
+    whole_measures(script, numbers)
+    odd_measures(script)
+
+
 # ---- What one closure can reach ----
 
 # 02, note 10: the trading days of some weeks after the date closed, each on the same
@@ -641,12 +691,13 @@ def closures_of_every_kind(script):
 
 # ---- The whole script ----
 
-# 01, Questions, and 02, notes 3, 5 and 9: the numbers that each call can give back.
+# 01, Questions, and 02, notes 3, 5, 9 and 11: the numbers that each call can give back.
 ANSWERS = {
     'O': (0, 1, 2, 3, 4, 5, 6, 7, 8, 9, 11, 16, 24),
     'R': (0, 10, 11, 12, 16),
     'C': (0, 10, 11, 13, 14, 15, 16),
     'E': (0, 10, 11, 13, 26, 27),
+    'Z': (0, 10, 19, 21, 28, 29),
     'L': (0, 10, 18),
     'U': (0, 10, 11, 17),
     'T': (0, 10, 19, 20),
@@ -666,6 +717,15 @@ STEPS = {'third Friday': (0, 1, 2, 3, 4), 'Italian': (0, 1, 2, 3, 6), 'weekly': 
 EVENTS = ('pushed', 'refused by 27', 'reopened', 'reopened in both maps', 'front later', 'another later')
 
 
+# 02, note 11: what happens on tables of each kind of future.
+SIZES = ('larger', 'smaller', 'same size', 'rounded up', 'rounded down', 'below a share')
+
+# 02, note 11: what 29 is answered no for, and cash with a rest, of either sign, with an
+# amount and with an amount of 0.
+RANGES = ('size 0', 'size too large', 'price 0', 'price too large')
+RESTS = ((False, True), (True, True), (False, False), (True, False))
+
+
 # What the script must have: every answer of every call, also in whole histories, these
 # events, closures in both orders that push the front out, and every number of days
 # stepped back.
@@ -674,7 +734,9 @@ def wanted():
     in_histories = {('history', letter, number) for letter in CALLS for number in ANSWERS[letter]}
     events = {(event, kind, italian) for event in EVENTS for kind in product.KINDS for italian in (False, True)}
     both_orders = {('both orders', kind) for kind in product.KINDS}
-    return (answers | in_histories | events | both_orders
+    sizes = {(event, kind, italian) for event in SIZES for kind in product.FUTURES for italian in (False, True)}
+    ranges = {('29', reason) for reason in RANGES} | {('rest', *signs) for signs in RESTS}
+    return (answers | in_histories | events | both_orders | sizes | ranges
             | {('back', back, rule) for rule, steps in STEPS.items() for back in steps})
 
 
@@ -709,6 +771,7 @@ def whole_script():
     dues_around_second_maps(script)
     all_of_reopenings(script, Numbers(SEED + 9))
     closures_of_every_kind(script)
+    all_of_measures(script, Numbers(SEED + 11))
     if wanted() - script.seen:
         raise ValueError(f'the script has no {sorted(wanted() - script.seen)}')
     others = {answer for answer in script.seen - wanted() if answer[0] in (*ANSWERS, 'history')}

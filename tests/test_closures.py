@@ -12,7 +12,7 @@ TESTS = os.path.dirname(os.path.abspath(__file__))
 sys.path.insert(0, TESTS)
 
 from second import dates, listing, master, product, table, terms, trading  # noqa: E402
-from second.product import Product  # noqa: E402
+from second.product import SHARE, Product  # noqa: E402
 from second.trading import Calendar  # noqa: E402
 
 # The years of a cover in which a kind's listing fits for some months.
@@ -21,7 +21,7 @@ FRIDAY_21 = dates.day_of(2008, 3, 21)
 
 
 def item(kind, group):
-    return Product(b'A   ', group, b'XPAR', kind, 100, 100, b'EUR')
+    return Product(b'A   ', group, b'XPAR', kind, 100 * SHARE, 100, b'EUR')
 
 
 # The products of every kind, with an Italian group and with another.

@@ -29,6 +29,7 @@ WRONG_DECOMPOSE = {
     'a line less': '{} | head -n -1',
     'another day': '{} | sed s/2008-03-21/2008-03-20/',
     'C for X': '{} | sed s/^X/C/',
+    'whole shares alone': '{} | sed "s/[.][0-9]*//"',
     'the answer on standard error': '{} >&2',
 }
 
@@ -60,6 +61,13 @@ class Texts(unittest.TestCase):
         self.assertEqual([16 + 80 // 8], [k for k in range(16, 108) if file[k]])
         self.assertEqual(0, master.file_refusal(file))
 
+    # 02, note 11: "record bytes 20–21 hold 0 to 9,999"; 3,333 is hexadecimal 0d05.
+    def test_bytes_of_a_size(self):
+        file, said = lists.compose(texts.text(texts.COVER, texts.changed(5, b'33.3333')))
+        self.assertEqual(b'', said)
+        self.assertEqual(b'AXA FR11XPAR\x01\x00\x21\x00\x64EUR\x0d\x05' + bytes(10), file[1552:1584])
+        self.assertEqual(texts.text(texts.COVER, texts.changed(5, b'33.3333')), lists.decompose(file))
+
     # 02, note 7: the files with most records.
     def test_most(self):
         for cover, count in ((b'Y 2008 1', 1905), (b'Y 2000 16', 1680)):
@@ -90,7 +98,7 @@ class Compare(unittest.TestCase):
     def run_both(self, programs):
         programs.text('no product', texts.text(texts.COVER))
         return programs.file('X and C', lists.compose(
-            texts.text(texts.COVER, texts.WEEK[4], b'X 2008-03-24', texts.AXA))[0])
+            texts.text(texts.COVER, texts.WEEK[4], b'X 2008-03-24', texts.changed(5, b'100.0001')))[0])
 
     def test_right(self):
         self.assertEqual(1, self.run_both(self.programs()))

@@ -23,7 +23,7 @@ from runs.lines import other_lines  # noqa: E402
 from second import (dates, generated, intake, listing, master, product, rounds, table, terms,  # noqa: E402
                     trading, writing)
 from second.book import Book  # noqa: E402
-from second.product import Product  # noqa: E402
+from second.product import SHARE, Product  # noqa: E402
 from second.trading import Calendar  # noqa: E402
 
 DATA = os.path.join(TESTS, 'data')
@@ -31,7 +31,7 @@ FRIDAY_21 = dates.day_of(2008, 3, 21)
 THURSDAY_20 = dates.day_of(2008, 3, 20)
 PLAIN = Calendar(2008, 3, frozenset())
 EASTER = Calendar(2008, 3, frozenset([FRIDAY_21]))
-AXA = Product(b'AXA ', b'FR11', b'XPAR', 1, 100, 100, b'EUR')
+AXA = Product(b'AXA ', b'FR11', b'XPAR', 1, 100 * SHARE, 100, b'EUR')
 SESSION_INPUT = b'O AXA 2008-03-20\nR 2008-03-21\nC 2008-03-20\n'
 SESSION_OUTPUT = b"""\
 O 2008-03-20 6 0 6
@@ -52,7 +52,7 @@ NO 13
 """
 
 
-def item(code, group=b'FR11', kind=1, size=100, tick=100):
+def item(code, group=b'FR11', kind=1, size=100 * SHARE, tick=100):
     return Product(code.ljust(4), group, b'XPAR', kind, size, tick, b'EUR')
 
 
@@ -141,7 +141,7 @@ class Examples(unittest.TestCase):
 
     def test_cash_and_tick(self):
         future = opened([item(b'F', b'FR01', 0)], Calendar(2008, 5, frozenset()), THURSDAY_20)
-        self.assertEqual(table.cash(future, 3, 123400, 125000), (0, 480000))
+        self.assertEqual(table.cash(future, 3, 123400, 125000), (0, False, 480000, 0))
         five = opened([item(b'G', tick=5)], PLAIN, THURSDAY_20)
         self.assertEqual(table.tick(five, 5), 0)
         self.assertEqual(table.tick(five, 6), 20)
@@ -565,7 +565,7 @@ class Reopenings(unittest.TestCase):
 
     # The book answers as the table does, and a refused call leaves it as it was.
     def test_book(self):
-        book = Book(1, b'FR11', EASTER, self.MONDAY_17)
+        book = Book(1, b'FR11', 100 * SHARE, EASTER, self.MONDAY_17)
         book.close(THURSDAY_20)
         book.roll(THURSDAY_20)
         before = dict(vars(book))
@@ -759,7 +759,7 @@ class FuturesOf2005(unittest.TestCase):
     # Cash and the due day are a future's.
     def test_values(self):
         held = opened([self.ITEM], EASTER, THURSDAY_20)
-        self.assertEqual(table.cash(held, 3, 123400, 125000), (0, 480000))
+        self.assertEqual(table.cash(held, 3, 123400, 125000), (0, False, 480000, 0))
         self.assertEqual(table.due(held, THURSDAY_20), (0, dates.day_of(2008, 3, 24)))
 
     # Kind 0 keeps the text of 2008.
@@ -923,7 +923,7 @@ class WeeklyOptions(unittest.TestCase):
             held = opened([item(b'A', group, 5, tick=5)], EASTER, date)
             self.assertEqual(table.due(held, date), (0, dates.day_of(2008, 3, day)))
             self.assertEqual((table.tick(held, 5), table.tick(held, 6)), (0, 20))
-            self.assertEqual(table.cash(held, 1, 100, 100), (21, 0))
+            self.assertEqual(table.cash(held, 1, 100, 100), (21, False, 0, 0))
 
     # "the cover's weekly Fridays before the front one": on 17 March 2008 4, 11, 25
     # January, 1, 8, 22, 29 February, 7, 14 March. So 4 to 13 numbers given.
@@ -969,7 +969,7 @@ class WeeklyOptions(unittest.TestCase):
     # is listed gets one. No cover has more than 643 of them.
     def test_numbers_pass_255(self):
         calendar = Calendar(2084, 16, frozenset())
-        book = Book(5, b'IT11', calendar, trading.first_day(calendar) + 7)
+        book = Book(5, b'IT11', 100 * SHARE, calendar, trading.first_day(calendar) + 7)
         while book.roll(book.date + 7)[0] == 0:
             pass
         fridays = list(listing.weekly_fridays(trading.first_day(calendar) + 7, trading.last_day(calendar)))
@@ -1004,8 +1004,8 @@ NO 24
 
 class MasterFiles(unittest.TestCase):
 
-    PRODUCTS = [item(b'A'), item(b'A1'), item(b'AB'), item(b'B', b'IT01', 0, 1, 1),
-                item(b'ZZZZ', b'DE11', 3, 65535, 5)]
+    PRODUCTS = [item(b'A'), item(b'A1'), item(b'AB'), item(b'B', b'IT01', 0, SHARE, 1),
+                item(b'ZZZZ', b'DE11', 3, 65535 * SHARE, 5)]
 
     def refusal(self, *damages, products=PRODUCTS, calendar=EASTER, per_block=2):
         return master.load(master.build(calendar, products, per_block, damages))
@@ -1038,7 +1038,7 @@ class MasterFiles(unittest.TestCase):
             (7, ('bytes', 3, 24, b'1')), (7, ('bytes', 3, 28, b'\4')),
             (7, ('bytes', 3, 28, b'\0')), (7, ('bytes', 3, 29, b'\0\0')),
             (7, ('bytes', 3, 31, b'\0\2')), (7, ('bytes', 3, 33, b'EUX')),
-            (7, ('bytes', 3, 36, b'\1')), (7, ('bytes', 3, 47, b'\1')),
+            (7, ('bytes', 3, 38, b'\1')), (7, ('bytes', 3, 47, b'\1')),
             (7, ('bytes', 3, 80, b'\1')), (7, ('bytes', 5, 48, b'\1')),
             (7, ('bytes', 4, 496, b'\1')), (7, ('bytes', 4, 509, b'\1')),
             (8, ('exchange', 3, 4)), (8, ('bytes', 4, 16, b'A1  ')),
@@ -1071,11 +1071,11 @@ class MasterFiles(unittest.TestCase):
 
     def test_check_plus_modulus(self):
         # The size of the fifteenth record stands in bytes 477 and 478.
-        many = [item(b'%04d' % k, size=1 if k < 14 else 0) for k in range(15)]
+        many = [item(b'%04d' % k, size=SHARE if k < 14 else 0) for k in range(15)]
         check = master.check_of(master.build(PLAIN, many)[3 * 512:])
-        size = next(size for size in range(1, 65536)
-                    if (check + 478 * (size // 256) + 479 * (size % 256)) % 65521 < 15)
-        good = many[:14] + [replace(many[14], size=size)]
+        shares = next(shares for shares in range(1, 65536)
+                      if (check + 478 * (shares // 256) + 479 * (shares % 256)) % 65521 < 15)
+        good = many[:14] + [replace(many[14], size=shares * SHARE)]
         self.assertEqual(self.refusal(products=good, per_block=15), (0, 3, 15))
         self.assertEqual(self.refusal(('check', 3, 65521), products=good, per_block=15),
                          (2, 0, 0))
@@ -1450,17 +1450,18 @@ class Tables(unittest.TestCase):
         self.assertEqual(table.due(held, dates.day_of(2010, 12, 29)), (17, 0))
         for price, number in ((0, 19), (1_000_000_000, 19), (150, 20), (999_999_900, 0)):
             self.assertEqual(table.tick(held, price), number)
-        self.assertEqual(table.cash(held, 1, 100, 100), (21, 0))
-        self.assertEqual(table.cash(held, 1, 101, 100), (20, 0))
+        self.assertEqual(table.cash(held, 1, 100, 100), (21, False, 0, 0))
+        self.assertEqual(table.cash(held, 1, 101, 100), (20, False, 0, 0))
 
     def test_cash(self):
-        held = opened([item(b'F', b'FR01', 0, 65535, 1)], Calendar(2008, 5, frozenset()),
+        held = opened([item(b'F', b'FR01', 0, 65535 * SHARE, 1)], Calendar(2008, 5, frozenset()),
                       THURSDAY_20)
         for contracts, agreed, final, answer in (
-                (100_000, 1, 999_999_999, (0, 6553499986893000000)),
-                (100_000, 999_999_999, 0, (0, -6553499993446500000)),
-                (0, 1, 1, (22, 0)), (100_001, 1, 1, (22, 0)),
-                (1, 1, 1_000_000_000, (22, 0)), (1, 1, -1, (22, 0)), (1, 0, 1, (19, 0))):
+                (100_000, 1, 999_999_999, (0, False, 6553499986893000000, 0)),
+                (100_000, 999_999_999, 0, (0, True, 6553499993446500000, 0)),
+                (0, 1, 1, (22, False, 0, 0)), (100_001, 1, 1, (22, False, 0, 0)),
+                (1, 1, 1_000_000_000, (22, False, 0, 0)), (1, 1, -1, (22, False, 0, 0)),
+                (1, 0, 1, (19, False, 0, 0))):
             self.assertEqual(table.cash(held, contracts, agreed, final), answer)
         self.assertEqual(table.due(held, THURSDAY_20), (0, FRIDAY_21))
 
@@ -1527,7 +1528,8 @@ class Soundness(unittest.TestCase):
             replace(held, calendar=replace(EASTER, years=0)),
             replace(held, calendar=replace(EASTER, years=17)),
             *(replace(held, product=replace(AXA, kind=kind)) for kind in (2, 4, 5, 6)),
-            replace(held, product=replace(AXA, size=0)), replace(held, product=replace(AXA, tick=2)),
+            replace(held, product=replace(AXA, size=0)), replace(held, product=replace(AXA, size=655_360_000)),
+            replace(held, product=replace(AXA, tick=2)),
             replace(held, product=replace(AXA, id=b' AXA')),
             replace(held, product=replace(AXA, market=b'XPA1')),
             replace(held, product=replace(AXA, group=b'FR01')),
@@ -1538,16 +1540,19 @@ class Soundness(unittest.TestCase):
             self.assertEqual(table.roll(damaged, damaged.date), (10, damaged, 0, 0))
             self.assertEqual(table.close(damaged, damaged.date + 1), (10, damaged, 0, 0))
             self.assertEqual(table.reopen(damaged, damaged.date + 1), (10, damaged, 0, 0))
+            self.assertEqual(table.measure(damaged, 0, 0, 0), (10, damaged, 0))
             self.assertEqual(table.last_trading_day(damaged, key), (10, 0, 0))
             self.assertEqual(table.due(damaged, damaged.date), (10, 0))
             self.assertEqual(table.tick(damaged, 0), 10)
-            self.assertEqual(table.cash(damaged, 0, 0, 0), (10, 0))
+            self.assertEqual(table.cash(damaged, 0, 0, 0), (10, False, 0, 0))
 
     def test_still_sound(self):
         held = table.roll(opened([AXA], EASTER, THURSDAY_20), FRIDAY_21)[1]
         self.assertTrue(table.is_sound(replace(held, given=9)))
         self.assertTrue(table.is_sound(replace(held, calendar=replace(EASTER, years=2))))
         self.assertTrue(table.is_sound(replace(held, product=replace(AXA, group=b'DE19'))))
+        for size in (1, 9_999, 10_000, 655_359_999):
+            self.assertTrue(table.is_sound(replace(held, product=replace(AXA, size=size))))
 
 
 class Histories(unittest.TestCase):
@@ -1557,7 +1562,7 @@ class Histories(unittest.TestCase):
             tree = ast.parse(source.read())
         names = [name.name for node in ast.walk(tree)
                  if isinstance(node, (ast.Import, ast.ImportFrom)) for name in node.names]
-        self.assertEqual(names, ['listing', 'trading'])
+        self.assertEqual(names, ['listing', 'product', 'trading'])
 
     def day_near(self, rest, date, calendar):
         if rest.random() < 0.05:
@@ -1570,19 +1575,26 @@ class Histories(unittest.TestCase):
             return listing.third_friday(month) + rest.choice((0, 0, 7, -7)) - rest.randrange(-1, 6)
         return date + rest.randrange(-1, 40)
 
-    # One call on the table and on the book; both must agree.
-    def one_call(self, held, book, name, day, numbers):
-        number, held, entered, left = getattr(table, name)(held, day)
-        self.assertEqual((number, entered, left), getattr(book, name)(day))
+    # One call on the table and on the book; both must agree on its refusal and on what
+    # comes with it, the counts or the price.
+    def one_call(self, held, book, name, arguments, numbers):
+        number, held, *values = getattr(table, name)(held, *arguments)
+        self.assertEqual((number, *values), getattr(book, name)(*arguments))
         numbers.append(number)
         self.assertTrue(table.is_sound(held))
-        self.assertEqual((held.calendar, held.date, table.maturities(held), held.given),
-                         (book.calendar, book.date, book.maturities, book.given))
+        self.assertEqual((held.product.size, held.calendar, held.date, table.maturities(held), held.given),
+                         (book.size, book.calendar, book.date, book.maturities, book.given))
         self.assertEqual(held.given, len(book.left) + len(book.maturities))
         self.assertEqual(held.given, len({*book.left, *(key for key, _, _, _ in book.maturities)}))
         if name == 'reopen':
-            self.assertEqual((entered, left), (0, 0))
+            self.assertEqual(values, [0, 0])
         return held
+
+    # 02, note 11: measures of every answer.
+    def some_measures(self, rest):
+        ratios = [rest.choice(((1, 1), (2, 1), (1, 3), (3, 2), (1000, 999), (1, 1000), (0, 1), (1, 1001)))
+                  for _ in range(3)]
+        return [('measure', p, q, rest.choice((0, 1, 123400, 999999999, 1000000000))) for p, q in ratios]
 
     def history(self, seed, numbers):
         rest = random.Random(seed)
@@ -1596,23 +1608,200 @@ class Histories(unittest.TestCase):
         if not trading.every_week_trades(calendar):
             calendar = empty
         date = trading.first_day(calendar) + rest.randrange(7 if product.is_weekly(kind) else 0, 60)
-        held = opened([item(b'A', group, kind)], calendar, date)
-        book = Book(kind, group, calendar, date)
+        size = rest.choice((1, 100, 65535)) * SHARE + rest.choice((0, 1, 3333))
+        held = opened([item(b'A', group, kind, size)], calendar, date)
+        book = Book(kind, group, size, calendar, date)
         for _ in range(rest.randrange(40)):
             day = self.day_near(rest, book.date, calendar)
             front = book.maturities[0][1]
-            for name, day in rest.choice((
+            for name, *arguments in rest.choice((
                     (('roll', day),), (('close', day),), (('close', day),), (('reopen', day),),
+                    self.some_measures(rest),
                     [('close', day + later) for later in range(7)],
                     [(name, day + later) for name in ('close', 'reopen') for later in rest.sample(range(7), 4)],
                     (('close', front - 1), ('roll', front - 1), ('close', front), ('reopen', front)))):
-                held = self.one_call(held, book, name, day, numbers)
+                held = self.one_call(held, book, name, arguments, numbers)
 
     def test_table_equals_book(self):
         numbers = []
         for seed in range(60):
             self.history(seed, numbers)
-        self.assertEqual(set(numbers), {0, 11, 12, 13, 14, 15, 16, 26, 27})
+        self.assertEqual(set(numbers), {0, 11, 12, 13, 14, 15, 16, 19, 21, 26, 27, 28, 29})
+
+
+# 02, note 11. Worked by hand; sizes are in ten-thousandths of a share, prices in 1/10,000
+# of the currency.
+class Measures(unittest.TestCase):
+
+    FUTURE = item(b'F', b'FR01', 0, tick=1)
+
+    # A table of a future with this size, which no file need have.
+    def table_of(self, size, one=FUTURE):
+        held = opened([one], Calendar(2008, 5, frozenset()), THURSDAY_20)
+        return replace(held, product=replace(one, size=size))
+
+    # The refusal, the size afterwards and the price.
+    def measured(self, size, p, q, price):
+        held = self.table_of(size)
+        number, after, adjusted = table.measure(held, p, q, price)
+        self.assertEqual(after, replace(held, product=replace(held.product, size=after.product.size)))
+        return number, after.product.size, adjusted
+
+    # 100 shares at 12.3400, 2 for 1: 200 shares at 6.1700. 3 for 2: 150 shares, and 12.34 ×
+    # 100 / 150 = 8.22666.. is 8.2267. 1 for 3 of 100 shares at 10.0000: 33.3333 shares, and
+    # 10 × 100 / 33.3333 = 30.00003 is 30.0000. 3 for 1 back: 99.9999 shares, and 30 ×
+    # 33.3333 / 99.9999 = 10.
+    def test_splits_and_reductions(self):
+        for size, p, q, price, changed, adjusted in (
+                (1_000_000, 2, 1, 123_400, 2_000_000, 61_700), (1_000_000, 3, 2, 123_400, 1_500_000, 82_267),
+                (1_000_000, 1, 3, 100_000, 333_333, 300_000), (333_333, 3, 1, 300_000, 999_999, 100_000),
+                (1_000_000, 1, 1, 123_400, 1_000_000, 123_400),
+                (655_359_999, 1, 1, 999_999_999, 655_359_999, 999_999_999),
+                (1_000_000, 1, 1000, 7, 1_000, 7_000), (10_000, 1000, 1, 999_000, 10_000_000, 999)):
+            self.assertEqual(self.measured(size, p, q, price), (0, changed, adjusted), (size, p, q, price))
+
+    # "halves upward": 1 × 1 / 2 = 0.5 is 1, 3 / 2 = 1.5 is 2, 5 / 2 = 2.5 is 3, 2 / 3 is 1, 4 / 3
+    # is 1; the prices are those of the rounded size: 100 × 1 / 1, 100 × 3 / 2, 100 × 5 / 3 =
+    # 166.67, 100 × 2 / 1, 100 × 4 / 1. Of the price: 3 / 2 = 1.5 is 2, 1 / 2 is 1, 5 / 2 is 3.
+    def test_halves(self):
+        for size, p, q, changed, adjusted in ((1, 1, 2, 1, 100), (3, 1, 2, 2, 150), (5, 1, 2, 3, 167),
+                                              (2, 1, 3, 1, 200), (4, 1, 3, 1, 400)):
+            self.assertEqual(self.measured(size, p, q, 100), (0, changed, adjusted))
+        for price, adjusted in ((1, 1), (3, 2), (5, 3), (4, 2)):
+            self.assertEqual(self.measured(1_000_000, 2, 1, price), (0, 2_000_000, adjusted))
+
+    # At the ends of both ranges. 1,472.7191 shares × 89 / 2 = 65,535.99995; 63,386.0633 × 884 /
+    # 855 = 65,535.999949; 64,516,129 × 31 / 2 = 999,999,999.5.
+    def test_question_29(self):
+        for size, p, q, price, expected in (
+                (1, 1, 3, 100, (29, 1, 0)), (3, 1, 7, 100, (29, 3, 0)), (3, 1, 6, 100, (0, 1, 300)),
+                (655_359_999, 2, 1, 100, (29, 655_359_999, 0)), (655_359_999, 7, 1, 100, (29, 655_359_999, 0)),
+                (655_359_999, 1000, 1, 100, (29, 655_359_999, 0)),
+                (14_727_191, 89, 2, 100, (29, 14_727_191, 0)), (633_860_633, 884, 855, 100, (0, 655_359_999, 97)),
+                (10_000, 1, 2, 999_999_999, (29, 10_000, 0)), (10_000, 1, 2, 500_000_000, (29, 10_000, 0)),
+                (10_000, 1, 2, 499_999_999, (0, 5_000, 999_999_998)),
+                (31, 2, 31, 64_516_129, (29, 31, 0)), (31, 2, 31, 64_516_128, (0, 2, 999_999_984)),
+                (1_000_000, 3, 1, 1, (29, 1_000_000, 0)), (1_000_000, 1000, 499, 1, (29, 1_000_000, 0)),
+                (1_000_000, 1000, 501, 1, (0, 1_996_008, 1))):
+            self.assertEqual(self.measured(size, p, q, price), expected, (size, p, q, price))
+
+    # "28, after 10, 19 and 21": p and q "both 1 to 1,000". The first no counts.
+    def test_questions(self):
+        for p, q, price, number in ((1, 1, 0, 19), (0, 0, 0, 19), (1, 1, 1_000_000_000, 19), (0, 1, 1, 28),
+                                    (1, 0, 1, 28), (1001, 1, 1, 28), (1, 1001, 1, 28), (1001, 1001, 1, 28),
+                                    (1000, 1000, 1, 0), (1, 1, 999_999_999, 0), (1, 1, 1, 0)):
+            self.assertEqual(self.measured(1_000_000, p, q, price)[0], number, (p, q, price))
+        unsound = self.table_of(0)
+        self.assertEqual(table.measure(unsound, 0, 0, 0), (10, unsound, 0))
+        for kind in product.KINDS:
+            future = kind in product.FUTURES
+            held = self.table_of(1_000_000, item(b'F', b'FR01' if future else b'FR11', kind))
+            self.assertEqual(table.measure(held, 2, 1, 0)[0], 19)
+            self.assertEqual(table.measure(held, 0, 1, 5)[0], 28 if future else 21)
+            self.assertEqual(table.measure(held, 1, 1, 5)[0], 0 if future else 21)
+
+    # 20 is not among them: an adjusted price need lie on no tick.
+    def test_no_tick(self):
+        held = self.table_of(1_000_000, item(b'F', b'FR01', 0, tick=100))
+        number, after, adjusted = table.measure(held, 3, 1, 101)
+        self.assertEqual((number, after.product.size, adjusted), (0, 3_000_000, 34))
+
+    # "new price × new size differs from the old product by at most half the new size".
+    def test_value_is_kept(self):
+        rest = random.Random(11)
+        accepted = 0
+        for _ in range(3000):
+            size = rest.choice((rest.randrange(1, 50), rest.randrange(1, 2_000_000), rest.randrange(1, 655_360_000)))
+            p, q = rest.randrange(1, 1001), rest.randrange(1, 1001)
+            price = rest.choice((rest.randrange(1, 100), rest.randrange(1, 1_000_000_000)))
+            number, changed, adjusted = product.measured(0, size, p, q, price)
+            if number == 0:
+                accepted += 1
+                self.assertLessEqual(2 * abs(adjusted * changed - price * size), changed)
+                self.assertLessEqual(2 * abs(changed * q - size * p), q)
+                # a half goes upward, so only the upper end is reached
+                self.assertLess(2 * (price * size - adjusted * changed), changed)
+                self.assertLess(2 * (size * p - changed * q), q)
+        self.assertGreater(accepted, 1000)
+
+    # 3 contracts of 100 shares from 12.3400 to 12.5000: +480,000; the other way −480,000.
+    # 33.3333 shares × 0.0001: 33.3333 of 1/10,000. One ten-thousandth of a share from 0.0001
+    # to 0: −0 and a rest of 1. 100,000 × 65,535.9999 × 99,999.9998.
+    def test_cash(self):
+        for size, contracts, agreed, final, expected in (
+                (1_000_000, 3, 123_400, 125_000, (False, 480_000, 0)),
+                (1_000_000, 3, 125_000, 123_400, (True, 480_000, 0)),
+                (333_333, 1, 100, 101, (False, 33, 3_333)), (333_333, 1, 101, 100, (True, 33, 3_333)),
+                (1, 1, 1, 0, (True, 0, 1)), (1, 1, 1, 2, (False, 0, 1)), (1, 1, 7, 7, (False, 0, 0)),
+                (9_999, 3, 1, 2, (False, 2, 9_997)), (1, 9_999, 1, 2, (False, 0, 9_999)),
+                (1, 10_000, 2, 1, (True, 1, 0)),
+                (655_359_999, 100_000, 1, 999_999_999, (False, 6_553_599_976_892_800_020, 0)),
+                (655_359_999, 100_000, 999_999_999, 0, (True, 6_553_599_983_446_400_010, 0))):
+            self.assertEqual(table.cash(self.table_of(size), contracts, agreed, final), (0, *expected))
+
+    # "whole sizes give the old amount and rest 0": contracts × shares × (final − agreed).
+    def test_cash_of_whole_sizes(self):
+        rest = random.Random(12)
+        for _ in range(500):
+            shares, contracts = rest.randrange(1, 65_536), rest.randrange(1, 100_001)
+            agreed, final = rest.randrange(1, 1_000_000_000), rest.randrange(1_000_000_000)
+            old = contracts * shares * (final - agreed)
+            parts = product.cash_parts(replace(self.FUTURE, size=shares * SHARE), contracts, final, agreed)
+            self.assertEqual(parts, (old < 0, abs(old), 0))
+
+    # "record bytes 20–21 hold 0 to 9,999"; "a file's [size] not below one share".
+    def test_question_7(self):
+        for shares, part, number in ((100, 0, 0), (100, 9_999, 0), (100, 10_000, 7), (100, 65_535, 7), (1, 0, 0),
+                                     (0, 9_999, 7), (0, 10_000, 7), (0, 5_000, 7), (65_535, 9_999, 0)):
+            file = master.build(PLAIN, [AXA], damages=(
+                ('bytes', 3, 16 + 13, shares.to_bytes(2, 'big')), ('bytes', 3, 16 + 20, part.to_bytes(2, 'big'))))
+            self.assertEqual(master.load(file)[0], number, (shares, part))
+            if number == 0:
+                self.assertEqual(master.read_products(file), [replace(AXA, size=10_000 * shares + part)])
+        self.assertEqual(master.load(master.build(PLAIN, [AXA], damages=(('bytes', 3, 16 + 22, b'\1'),)))[0], 7)
+
+    # 33.3333 shares: bytes 13–14 are 33, bytes 20–21 are 3,333, hexadecimal 0d05.
+    def test_record(self):
+        record = master.record_of(replace(AXA, size=333_333))
+        self.assertEqual(record, b'AXA FR11XPAR\x01\x00\x21\x00\x64EUR\x0d\x05' + bytes(10))
+        self.assertEqual(master.product_of(record).size, 333_333)
+
+    # The record of a table's product is accepted in a file where the size is a share or
+    # more, and gets 7 below that.
+    def test_record_of_a_table(self):
+        for size, number in ((10_000, 0), (9_999, 7), (1, 7), (655_359_999, 0)):
+            held = self.table_of(size)
+            self.assertTrue(table.is_sound(held))
+            draft = writing.draft_of(PLAIN, [held.product])
+            self.assertEqual(writing.write(draft, bytes(2048))[0], number)
+
+    # "A measure changes no month, day or number": rolls, closures and reopenings give the
+    # same with measures between them as without, and keep the size. A measure after a measure
+    # starts from the size that the first left: 100 shares, 1 for 3 and 1 for 3, is 11.1111.
+    def test_in_a_history(self):
+        held = opened([self.FUTURE], Calendar(2008, 5, frozenset([FRIDAY_21])), THURSDAY_20)
+        plain = held
+        for name, day in (('roll', FRIDAY_21), ('close', FRIDAY_21 + 27), ('reopen', FRIDAY_21 + 27)):
+            number, held, price = table.measure(held, 1, 3, 123_400)
+            self.assertEqual(number, 0)
+            moved, plain = getattr(table, name)(held, day), getattr(table, name)(plain, day)
+            self.assertEqual((moved[0], *moved[2:]), (0, *plain[2:]))
+            held, plain = moved[1], plain[1]
+            self.assertEqual(replace(held, product=plain.product), plain)
+        self.assertEqual(held.product.size, 37_037)
+        sizes = [product.new_size(size, 1, 3) for size in (1_000_000, 333_333, 111_111)]
+        self.assertEqual(sizes, [333_333, 111_111, 37_037])
+
+    # The book answers as the table does, and a refused measure leaves it as it was.
+    def test_book(self):
+        book = Book(0, b'FR01', 1_000_000, EASTER, THURSDAY_20)
+        before = dict(vars(book))
+        for p, q, price, number in ((1, 1, 0, 19), (0, 1, 1, 28), (1, 1001, 1, 28), (3, 1, 1, 29), (1000, 1, 1, 29)):
+            self.assertEqual(book.measure(p, q, price), (number, 0))
+            self.assertEqual(vars(book), before)
+        self.assertEqual(book.measure(3, 2, 123_400), (0, 82_267))
+        self.assertEqual(vars(book), {**before, 'size': 1_500_000})
+        self.assertEqual(Book(1, b'FR11', 1_000_000, EASTER, THURSDAY_20).measure(0, 0, 1), (21, 0))
 
 
 # 02, note 13.
@@ -1879,7 +2068,7 @@ class Expected(unittest.TestCase):
             self.assertEqual((number, len(rest)), right)
         self.assertEqual(lines[:3], [
             'F 0 0 8 788', 'C 2008 8 53 235919',
-            'I 0 11 10 65 88 65 32 70 82 49 49 88 80 65 82 3 100 100 69 85 82'])
+            'I 0 11 10 65 88 65 32 70 82 49 49 88 80 65 82 3 1000000 100 69 85 82'])
 
     # 02, note 14: the values, and the calendars of two seeds.
     def test_made_up(self):

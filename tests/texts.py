@@ -62,14 +62,18 @@ def day_faults():
 
 def product_faults():
     for place, words in ((1, (b'axa', b'A-A', b'A\tA', b'\xc3\x84')), (2, (b'FR01', b'fr11', b'1R11', b'FRX1')),
-                         (3, (b'XP1R', b'xpar')), (4, (b'6', b'255', b'0')), (5, (b'0', b'00000')),
+                         (3, (b'XP1R', b'xpar')), (4, (b'6', b'255', b'0')),
+                         (5, (b'0', b'00000', b'0.0000', b'0.5000', b'0.9999', b'000.0001')),
                          (6, (b'2', b'0', b'65535')), (7, (b'JPY', b'eur'))):
         for word in words:
             yield f'{place} {word!r}', text(COVER, changed(place, word)), b'NO 7\n'
     for place, words in ((0, (b'p', b'PP', b'')), (1, (b'', b'AXAXA')), (2, (b'FR1', b'FR111', b'')),
                          (3, (b'XPA', b'XPARI', b'')), (4, (b'256', b'', b'x', b'-1', b'1.5', b'+1')),
                          (5, (b'65536', b'', b'1e3', b'4294967396', b'18446744073709551716')),
-                         (6, (b'65536', b'', b'1,0')), (7, (b'EU', b'EURO', b'', b'EUR '))):
+                         (5, (b'1.', b'1.5', b'1.500', b'1.50000', b'.5000', b'.', b'1..500', b'1.5.00', b'1.0000.',
+                              b'1.0000.0000', b'1,5000', b'1.50x0', b'1.-500', b'1.+500', b'-1.5000', b'x.5000',
+                              b'65536.0000', b'65536.5000', b'4294967297.5000', b'1.5000\0', b'1:5000')),
+                         (6, (b'65536', b'', b'1,0', b'1.0000')), (7, (b'EU', b'EURO', b'', b'EUR '))):
         for word in words:
             yield f'{place} {word!r}', text(COVER, AXA, changed(place, word)), b'BAD 3\n'
     yield 'a word less', text(COVER, AXA[:-4]), b'BAD 2\n'
@@ -103,10 +107,18 @@ def faults():
     yield from order_faults()
 
 
-# ---- Accepted texts that are not as decompose prints them: name, text, the text printed ----
+# ---- Accepted texts, most of them not as decompose prints them: name, text, the text printed ----
+
+# 02, note 11: the size as it is written, and as it is printed.
+SIZES = ((b'100.0000', b'100'), (b'0100.0000', b'100'), (b'33.3333', b'33.3333'), (b'00033.0500', b'33.0500'),
+         (b'1.0000', b'1'), (b'1.0001', b'1.0001'), (b'65535.9999', b'65535.9999'), (b'65535', b'65535'),
+         (b'256.0256', b'256.0256'), (b'10.9990', b'10.9990'))
+
 
 def other_forms():
     plain = text(COVER, WEEK[4], AXA)
+    for size, printed in SIZES:
+        yield f'size {size.decode()}', text(COVER, WEEK[4], changed(5, size)), text(COVER, WEEK[4], changed(5, printed))
     yield 'no line feed at the end', plain[:-1], plain
     yield 'zeros before numbers', text(b'Y 02008 0003', WEEK[4], changed(5, b'0000100')), plain
     yield '63 characters', text(COVER, WEEK[4], changed(4, b'1'.rjust(35, b'0'))), plain
@@ -127,8 +139,16 @@ def random_text(chance):
     days = [chance.randint(start, end) for _ in range(chance.below(12))]
     closed = [lists.day_line(chance.one_of((b'C', b'X')), day)[:-1] for day in days
               if dates.is_weekday(day) or not chance.below(40)]
-    products = chance.sample(many(300), chance.randint(1, 40))
+    products = [with_part(chance, line) for line in chance.sample(many(300), chance.randint(1, 40))]
     return [b'Y %d %d' % (first, years), *closed, *(products if not chance.below(20) else sorted(products))]
+
+
+# A product line, one of three with ten-thousandths of a share.
+def with_part(chance, line):
+    words = line.split(b' ')
+    if not chance.below(3):
+        words[5] += b'.%04d' % chance.one_of((0, 1, 50, 3333, 9999, chance.below(10000)))
+    return b' '.join(words)
 
 
 # A line with one byte taken away, put in or replaced.

@@ -153,7 +153,7 @@ def week_cases():
 
 WRONG_BYTES = (('id', 0, b'a'), ('id-space', 0, b' '), ('group', 4, b'1'), ('digit', 6, b'0'),
                ('market', 8, b'1'), ('kind', 12, b'\xff'), ('size-0', 13, b'\0\0'),
-               ('tick-2', 15, b'\0\2'), ('currency', 17, b'XXX'), ('byte-20', 20, b'\1'),
+               ('tick-2', 15, b'\0\2'), ('currency', 17, b'XXX'), ('byte-22', 22, b'\1'),
                ('byte-31', 31, b'\1'))
 
 
@@ -169,6 +169,19 @@ def record_cases():
         yield f'q7-{length}-bytes', replace(one, records=one.records[:length]), BUFFER
 
 
+# 02, note 11: sizes in ten-thousandths of a share. A table's product whose size fell below
+# a share has no record that question 7 accepts.
+def size_cases():
+    for size in (10000, 10001, 333333, 1000000, 655350000, 655359999):
+        yield f'ok-size-{size}', draft(products=[item(b'A', size=size), item(b'AXA')]), BUFFER
+    for size in (0, 1, 5000, 9999):
+        yield f'q7-size-{size}', draft(products=[item(b'A', size=size), item(b'AXA')]), BUFFER
+    for part in (10000, 65535):
+        yield f'q7-ten-thousandths-{part}', with_record(draft(), 0, 20, master.two_bytes(part)), BUFFER
+    many = [item(one.id, size=10000 + 9999 * k) for k, one in enumerate(many_products(31))]
+    yield 'ok-31-sizes', draft(products=many), BUFFER
+
+
 # 8, within a block and over the end of one.
 def id_cases():
     for k in (0, 13, 14, 29):
@@ -182,7 +195,7 @@ def id_cases():
 
 
 def alone():
-    for part in (year_cases, order_cases, clean_cases, week_cases, record_cases, id_cases):
+    for part in (year_cases, order_cases, clean_cases, week_cases, record_cases, id_cases, size_cases):
         yield from part()
 
 

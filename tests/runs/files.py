@@ -62,12 +62,14 @@ OTHER_KINDS = {product.FUTURE: product.FUTURE_2005, product.OPTION_12: product.O
 
 
 # As many products as a file can hold, by rising id. Every third future is one of
-# 2005, and every third option of 12 months a weekly one.
+# 2005, and every third option of 12 months a weekly one; every second size has
+# ten-thousandths of a share (02, note 11).
 @lru_cache(maxsize=1)
 def all_products():
     products = cases.many_products(RECORDS_AT_MOST * (SIZES[-1] - 1))
-    return [replace(one, kind=OTHER_KINDS.get(one.kind, one.kind)) if k % 3 == 0 else one
-            for k, one in enumerate(products)]
+    kinds = [OTHER_KINDS.get(one.kind, one.kind) if k % 3 == 0 else one.kind for k, one in enumerate(products)]
+    return [replace(one, kind=kind, size=one.size + k % 2 * (9_999 - k))
+            for k, (one, kind) in enumerate(zip(products, kinds))]
 
 
 # A file's parts for a number of blocks.

@@ -54,7 +54,7 @@ class Session:
     # An accepted open of a product.
     def open(self, item, date):
         self.lines.append(b'O %s %s' % (item.id.rstrip(), day_word(date)))
-        self.book = Book(item.kind, item.group, self.calendar, date)
+        self.book = Book(item.kind, item.group, item.size, self.calendar, date)
 
     # An accepted open of one of the products, early in the cover or on any date,
     # or on the first one where no listing fits any more.

@@ -1,4 +1,4 @@
-"""The second program: document 01 and notes 1 to 5, 7 to 9 and 12 to 14 of document 02
+"""The second program: document 01 and notes 1 to 5, 7 to 9 and 11 to 14 of document 02
 written once more, in Python, for comparison.
 
 It shares no code with the proved program. Every module is written from these

@@ -1,7 +1,7 @@
-"""The book of demand 3 (01, "The table"; 02, notes 2, 3 and 9). It knows nothing
+"""The book of demand 3 (01, "The table"; 02, notes 2, 3, 9 and 11). It knows nothing
 of table.py."""
 
-from second import listing, trading
+from second import listing, product, trading
 
 
 # 01, The table: "It holds a calendar, a date, maturities (month, day, number),
@@ -13,10 +13,11 @@ class Book:
     # 01, The table: "fed the opened product's kind and group, the file's
     # calendar and the opening's date"; "It starts with the fresh listing,
     # numbered 1, 2, .. by rising month; given is its length, and no month has
-    # left."
-    def __init__(self, kind, group, calendar, date):
+    # left." 02, note 11: "fed the opened product's size too".
+    def __init__(self, kind, group, size, calendar, date):
         self.kind = kind
         self.group = group
+        self.size = size
         self.calendar = calendar
         self.date = date
         fresh = listing.fresh_listing(calendar, group, kind, date)
@@ -90,3 +91,9 @@ class Book:
         if not listing.front_stays(self.calendar, reopened, self.group, self.kind, self.date):
             return 27, 0, 0
         return self._accept(reopened, self.date)
+
+    # 02, note 11: the book "answers a measure as this note says, 10 left out, and changes
+    # only its size": (number, price). No month enters or leaves.
+    def measure(self, p, q, price):
+        number, self.size, adjusted = product.measured(self.kind, self.size, p, q, price)
+        return number, adjusted

@@ -1,4 +1,4 @@
-"""The text of a master file (README, "The text of a master file"; 02, note 7).
+"""The text of a master file (README, "The text of a master file"; 02, notes 7 and 11).
 
 python3 tests/second/lists.py compose reads a text from standard input and writes
 the master file to standard output, or `NO n` or `BAD k` to standard error.
@@ -14,11 +14,11 @@ if __name__ == '__main__':
     sys.path.insert(0, os.path.dirname(os.path.dirname(os.path.abspath(__file__))))
 
 from second import dates, master, trading, writing  # noqa: E402
-from second.product import Product  # noqa: E402
+from second.product import SHARE, Product  # noqa: E402
 from second.trading import Calendar  # noqa: E402
 
-# README: "no line has more than 63 characters"; "a year, a number of years, a size
-# and a tick are at most 65,535, a kind is at most 255"; "the first 2,048 products
+# README: "no line has more than 63 characters"; "a year, a number of years, a size's
+# shares and a tick are at most 65,535, a kind is at most 255"; "the first 2,048 products
 # are kept".
 CHARACTERS_AT_MOST = 63
 NUMBER_AT_MOST = 65535
@@ -27,10 +27,12 @@ KEPT_AT_MOST = 2048
 
 # README: "single spaces part the words of a line"; "a number is one or more
 # digits"; "an id has 1 to 4 characters, a group and a market 4, a currency 3, any
-# but spaces and line feeds".
+# but spaces and line feeds"; a size is "a number, perhaps with a point and four digits
+# after it".
 COVER = re.compile(rb'Y ([0-9]+) ([0-9]+)')
 DAY = re.compile(rb'([CX]) ([0-9]{4})-([0-9]{2})-([0-9]{2})')
-PRODUCT = re.compile(rb'P ([^ ]{1,4}) ([^ ]{4}) ([^ ]{4}) ([0-9]+) ([0-9]+) ([0-9]+) ([^ ]{3})', re.DOTALL)
+SIZE = rb'([0-9]+)(?:\.([0-9]{4}))?'
+PRODUCT = re.compile(rb'P ([^ ]{1,4}) ([^ ]{4}) ([^ ]{4}) ([0-9]+) ' + SIZE + rb' ([0-9]+) ([^ ]{3})', re.DOTALL)
 
 
 # ---- From a text to a file ----
@@ -69,11 +71,11 @@ def product_entry(line):
     match = PRODUCT.fullmatch(line)
     if not match:
         return None
-    code, group, market, kind, size, tick, currency = match.groups()
-    numbers = tuple(map(int, (kind, size, tick)))
-    if numbers[0] > KIND_AT_MOST or max(numbers) > NUMBER_AT_MOST:
+    code, group, market, kind, shares, part, tick, currency = match.groups(b'0000')
+    if int(kind) > KIND_AT_MOST or max(int(shares), int(tick)) > NUMBER_AT_MOST:
         return None
-    return 'P', Product(code.ljust(4), group, market, *numbers, currency)
+    size = SHARE * int(shares) + int(part)
+    return 'P', Product(code.ljust(4), group, market, int(kind), size, int(tick), currency)
 
 
 # README: the days of a cover's years, those of them that there are.
@@ -134,9 +136,15 @@ def day_line(letter, day):
     return b'%s %04d-%02d-%02d\n' % (letter, *dates.date_of(day))
 
 
+# README: "A size has a point and four digits where it is not a whole number of shares."
+def size_word(size):
+    shares, part = divmod(size, SHARE)
+    return b'%d.%04d' % (shares, part) if part else b'%d' % shares
+
+
 def product_line(item):
     return b' '.join([b'P', item.id.rstrip(b' '), item.group, item.market, b'%d' % item.kind,
-                      b'%d' % item.size, b'%d' % item.tick, item.currency]) + b'\n'
+                      size_word(item.size), b'%d' % item.tick, item.currency]) + b'\n'
 
 
 # README: "the cover, the closed days by date, the products in the file's order".

@@ -1,5 +1,5 @@
 """The master file: building it, with damage for tests, judging it (questions 1
-to 9) and reading it (01, "Master file"; 02, note 4)."""
+to 9) and reading it (01, "Master file"; 02, notes 4 and 11)."""
 
 import csv
 from functools import lru_cache
@@ -51,10 +51,12 @@ def block_of(kind, number, index, content):
     return bytes(block)
 
 
-# 01, Master file: the 32 bytes of a record.
+# 01, Master file: the 32 bytes of a record. 02, note 11: the size's shares stay in bytes
+# 13–14; "bytes 20–21 hold" its ten-thousandths.
 def record_of(item):
+    shares, part = divmod(item.size, product.SHARE)
     fields = (item.id + item.group + item.market + bytes([item.kind])
-              + two_bytes(item.size) + two_bytes(item.tick) + item.currency)
+              + two_bytes(shares) + two_bytes(item.tick) + item.currency + two_bytes(part))
     return fields + bytes(RECORD - len(fields))
 
 
@@ -161,11 +163,12 @@ def calendar_from_csv(lines, first_year, years):
                     frozenset(day for day in days if trading.in_cover(empty, day)))
 
 
-# The products of a list in CSV (id, group, market, kind, size, tick, currency).
+# The products of a list in CSV (id, group, market, kind, size in whole shares, tick,
+# currency).
 def products_from_csv(lines):
     return [Product(row['id'].encode('ascii').ljust(4), row['group'].encode('ascii'),
-                    row['market'].encode('ascii'), int(row['kind']),
-                    int(row['size']), int(row['tick']), row['currency'].encode('ascii'))
+                    row['market'].encode('ascii'), int(row['kind']), product.SHARE * int(row['size']),
+                    int(row['tick']), row['currency'].encode('ascii'))
             for row in csv.DictReader(lines)]
 
 
@@ -191,10 +194,16 @@ def record_at(block, k):
     return block[HEADER + RECORD * k:HEADER + RECORD * (k + 1)]
 
 
+# 02, note 11: a record's size, the shares of bytes 13–14 and the ten-thousandths of
+# bytes 20–21.
+def size_parts(record):
+    return int.from_bytes(record[13:15], 'big'), int.from_bytes(record[20:22], 'big')
+
+
 # The fields of a record.
 def product_of(record):
-    return Product(record[0:4], record[4:8], record[8:12], record[12],
-                   int.from_bytes(record[13:15], 'big'),
+    shares, part = size_parts(record)
+    return Product(record[0:4], record[4:8], record[8:12], record[12], product.SHARE * shares + part,
                    int.from_bytes(record[15:17], 'big'), record[17:20])
 
 
@@ -280,9 +289,17 @@ def weeks_are_right(file):
     return trading.every_week_trades(read_calendar(file))
 
 
-# 01, question 7, for one used record: its fields, and bytes "20–31 zero".
+# 02, note 11: "bytes 20–21 hold 0 to 9,999 [..] a table's size may fall as low as one
+# ten-thousandth, a file's not below one share".
+def file_size_is_right(record):
+    shares, part = size_parts(record)
+    return shares >= 1 and part < product.SHARE
+
+
+# 01, question 7, for one used record: its fields, and bytes "20–31 zero", 22 to 31 now.
 def record_is_right(record):
-    return product.fields_are_right(product_of(record)) and not any(record[20:])
+    return (product.fields_are_right(product_of(record)) and file_size_is_right(record)
+            and not any(record[22:]))
 
 
 # 01, question 7: "Is every record, and all that must be zero in its block, as

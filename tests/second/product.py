@@ -1,7 +1,9 @@
-"""Kinds, product fields, settlement days, tick and cash (01, "Master file",
-"Due day, tick, cash", question 7; 02, notes 1 and 3)."""
+"""Kinds, product fields, settlement days, tick, cash and measures (01, "Master file",
+"Due day, tick, cash", question 7; 02, notes 1, 3 and 11)."""
 
+import math
 from dataclasses import dataclass
+from fractions import Fraction
 
 FUTURE = 0
 OPTION_12 = 1
@@ -19,9 +21,15 @@ CURRENCIES = (b'EUR', b'CHF', b'USD', b'GBP', b'GBX')
 PRICE_AT_MOST = 999_999_999
 CONTRACTS_AT_MOST = 100_000
 
+# 02, note 11: "Sizes now carry ten-thousandths of a share". Every size is a number of
+# these; 65,535.9999 shares is the largest.
+SHARE = 10_000
+SIZE_AT_MOST = 655_359_999
+RATIO_AT_MOST = 1_000
+
 
 # 01, Master file: the fields of a record. id, group and market are 4 bytes,
-# currency is 3 bytes, kind, size and tick are numbers.
+# currency is 3 bytes, kind, size (in ten-thousandths of a share) and tick are numbers.
 @dataclass(frozen=True)
 class Product:
     id: bytes
@@ -38,8 +46,8 @@ NO_PRODUCT = Product(bytes(4), bytes(4), bytes(4), 0, 0, 0, bytes(3))
 
 # 01, Listed months: "A product's kind is either a future or an option with one
 # of three terms." 02, note 1: "kind 4, a future of 2005". Question 21.
-def is_future(product):
-    return product.kind in FUTURES
+def is_future(kind):
+    return kind in FUTURES
 
 
 # 02, note 3: "Weekly tables [..] under kind 5".
@@ -69,14 +77,20 @@ def market_is_right(market):
     return len(market) == 4 and all(byte in LETTERS for byte in market)
 
 
-# 01, question 7, for the fields of one product. 02, notes 1 and 3: "question 7 now
-# admits" 4 and 5.
+# 02, note 11: "a table's size may fall as low as one ten-thousandth", and is at most
+# "65,535.9999 shares".
+def size_is_right(size):
+    return 1 <= size <= SIZE_AT_MOST
+
+
+# 01, question 7, for the fields of one product, of a file or of a table. 02, notes 1
+# and 3: "question 7 now admits" 4 and 5.
 def fields_are_right(product):
     return (id_is_right(product.id)
             and product.kind in KINDS
             and group_is_right(product.group, product.kind)
             and market_is_right(product.market)
-            and 1 <= product.size <= 65_535
+            and size_is_right(product.size)
             and product.tick in TICKS
             and product.currency in CURRENCIES)
 
@@ -89,7 +103,7 @@ def is_italian(group):
 # 01, Due day: "Futures: n = 1. Options: n = 2 for DE11 to DE14; 4 for FI11 to
 # FI14, GB11, IE11; else 3."
 def days_to_settlement(product):
-    if is_future(product):
+    if is_future(product.kind):
         return 1
     if product.group in (b'DE11', b'DE12', b'DE13', b'DE14'):
         return 2
@@ -114,6 +128,47 @@ def final_and_contracts_in_range(final, contracts):
     return 0 <= final <= PRICE_AT_MOST and 1 <= contracts <= CONTRACTS_AT_MOST
 
 
-# 01, Due day, tick, cash: "contracts × size × (final − agreed), signed".
-def cash_amount(product, contracts, final, agreed):
-    return contracts * product.size * (final - agreed)
+# 01, Due day, tick, cash: "contracts × size × (final − agreed), signed". 02, note 11:
+# "a sign, an amount in 1/10,000 and a rest of 0 to 9,999 of 1/100,000,000, the sign
+# covering both, zero being positive": (negative, amount, rest).
+def cash_parts(product, contracts, final, agreed):
+    value = contracts * product.size * (final - agreed)
+    return (value < 0, *divmod(abs(value), SHARE))
+
+
+# ---- Measures (02, note 11) ----
+
+# "nearest to [..], halves upward".
+def nearest(value):
+    return math.floor(value + Fraction(1, 2))
+
+
+# "the size nearest to size × p / q in ten-thousandths".
+def new_size(size, p, q):
+    return nearest(Fraction(size * p, q))
+
+
+# "the price nearest to old price × old size / new size".
+def new_price(price, old_size, size):
+    return nearest(Fraction(price * old_size, size))
+
+
+# 28: "are p and q in range?": "both 1 to 1,000".
+def ratio_in_range(p, q):
+    return 1 <= p <= RATIO_AT_MOST and 1 <= q <= RATIO_AT_MOST
+
+
+# The questions of a measure but 10: "28, after 10, 19 and 21 [..] 29: are the new size
+# [..] and the new price, 1 to 999,999,999, in range?" The answer: (number, the size
+# afterwards, the price, "0 if refused").
+def measured(kind, size, p, q, price):
+    if not price_in_range(price):
+        return 19, size, 0
+    if not is_future(kind):
+        return 21, size, 0
+    if not ratio_in_range(p, q):
+        return 28, size, 0
+    changed = new_size(size, p, q)
+    if not size_is_right(changed) or not price_in_range(new_price(price, size, changed)):
+        return 29, size, 0
+    return 0, changed, new_price(price, size, changed)

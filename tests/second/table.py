@@ -1,5 +1,5 @@
 """The table of listed maturities and its calls (01, "The table", "Questions";
-02, notes 2 to 5 and 9).
+02, notes 2 to 5, 9 and 11).
 
 Every call answers first the number of the question that refused it, or 0.
 """
@@ -184,6 +184,16 @@ def reopen(table, day):
     return (0, *relist(replace(table, calendar=calendar)))
 
 
+# 02, note 11, a measure, p for q: 10, 19, 21, 28, 29. "A measure changes no month, day or
+# number". (number, table, price).
+def measure(table, p, q, price):
+    if not is_sound(table):
+        return 10, table, 0
+    item = table.product
+    number, size, adjusted = product.measured(item.kind, item.size, p, q, price)
+    return number, replace(table, product=replace(item, size=size)), adjusted
+
+
 # ---- Calls that give values ----
 
 # 01, Questions: "Last trading day of a listed month: 10, 18."; 02, note 2: with
@@ -225,13 +235,14 @@ def tick(table, price):
     return 0
 
 
-# 01, Questions: "Cash: 10, 19–22." (number, amount in 1/10,000 of the currency).
+# 01, Questions: "Cash: 10, 19–22." 02, note 11: (number, negative, amount in 1/10,000 of
+# the currency, rest in 1/100,000,000).
 def cash(table, contracts, agreed, final):
     number = tick(table, agreed)
     if number:
-        return number, 0
-    if not product.is_future(table.product):
-        return 21, 0
+        return number, False, 0, 0
+    if not product.is_future(table.product.kind):
+        return 21, False, 0, 0
     if not product.final_and_contracts_in_range(final, contracts):
-        return 22, 0
-    return 0, product.cash_amount(table.product, contracts, final, agreed)
+        return 22, False, 0, 0
+    return 0, *product.cash_parts(table.product, contracts, final, agreed)

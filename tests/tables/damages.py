@@ -1,5 +1,5 @@
 """Damaged tables: one field of a sound table changed, and every call on it (01,
-"A table is sound if"; 02, notes 1 to 5 and 9)."""
+"A table is sound if"; 02, notes 1 to 5, 9 and 11)."""
 
 from second import dates, listing, product, table, trading
 from tables.files import (EASTER_SECOND, EXAMPLE, FIRST_DAYS_WEEKLY, ONE_YEAR, SEVEN_YEARS, SEVEN_YEARS_SECOND,
@@ -12,12 +12,12 @@ from tables.script import (BACK, CLOSED, CURRENCY, DATE, DAY, EXCHANGE, FIRST_YE
 
 # 01, The table: "its product fields [..] satisfy [..] 7", each field in turn.
 def product_damages(item):
-    other = 49 if product.is_future(item) else 48
+    other = 49 if product.is_future(item.kind) else 48
     return [(ID, 0, 32), (ID, 0, 97), (ID, 1, 0), (ID, 3, 33),
             (GROUP, 0, 97), (GROUP, 1, 48), (GROUP, 2, other), (GROUP, 2, 50), (GROUP, 3, 58),
             (MARKET, 0, 32), (MARKET, 2, 48), (MARKET, 3, 97),
             *((KIND, 0, kind) for kind in product.KINDS if kind != item.kind),
-            (SIZE, 0, 0), (TICK, 0, 0), (TICK, 0, 2), (TICK, 0, 65535),
+            (SIZE, 0, 0), (SIZE, 0, 655360000), (TICK, 0, 0), (TICK, 0, 2), (TICK, 0, 65535),
             (CURRENCY, 0, 74), (CURRENCY, 1, 69), (CURRENCY, 2, 0)]
 
 
@@ -116,8 +116,8 @@ def day_of_no_maturity(now):
 # Changes that leave a table sound: another id, market, size and tick, such a day
 # closed, the largest count given.
 def harmless_changes(now):
-    return [(ID, 0, 90), (ID, 0, 48), (MARKET, 3, 65), (SIZE, 0, 65535), (SIZE, 0, 1), (TICK, 0, 5),
-            (CLOSED, *map_place(now.calendar, day_of_no_maturity(now))), (GIVEN, 0, most_given(now))]
+    return [(ID, 0, 90), (ID, 0, 48), (MARKET, 3, 65), (SIZE, 0, 1), (SIZE, 0, 9999), (SIZE, 0, 655359999),
+            (TICK, 0, 5), (CLOSED, *map_place(now.calendar, day_of_no_maturity(now))), (GIVEN, 0, most_given(now))]
 
 
 # The first day after a sound table's date that it can close.
@@ -139,7 +139,8 @@ def every_call(script):
     now = script.saved
     return {script.roll(now.date), script.close(day_to_close(now)),
             script.last_trading_day(now.places[0][0]), script.due(now.places[0][1]),
-            script.tick(100), script.cash(1, 100, 200), script.reopen(day_to_reopen(now))}
+            script.tick(100), script.cash(1, 100, 200), script.reopen(day_to_reopen(now)),
+            script.measure(1, 1, 100)}
 
 
 # 01, Questions: "the number of the first answered no": 10 also where later
@@ -148,7 +149,8 @@ def every_call_refused_twice(script):
     refusals = {script.roll(65535), script.roll(0), script.close(65535), script.close(0),
                 script.last_trading_day(65535), script.due(65535), script.due(5),
                 script.tick(0), script.tick(7), script.cash(0, 0, 0), script.cash(0, 100, 100),
-                script.reopen(65535), script.reopen(0), script.reopen(5)}
+                script.reopen(65535), script.reopen(0), script.reopen(5),
+                script.measure(0, 0, 0), script.measure(1, 0, 100), script.measure(1000, 1, 999999999)}
     if refusals != {10}:
         raise ValueError('a damaged table is refused by another question than 10')
 

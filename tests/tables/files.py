@@ -4,7 +4,7 @@ from dataclasses import replace
 from functools import lru_cache
 
 from second import dates, listing, master, trading
-from second.product import Product
+from second.product import SHARE, Product
 from second.trading import Calendar
 
 SEED = 20080321
@@ -88,10 +88,10 @@ def clustered_weekly(numbers, first_year, years):
     return replace(empty, closed=closable(day for day in days if trading.in_cover(empty, day)))
 
 
-# A product from a line: id, group, market, kind, size, tick, currency.
+# A product from a line: id, group, market, kind, size in whole shares, tick, currency.
 def product_from(line):
     code, group, market, kind, size, tick, currency = line.encode('ascii').split()
-    return Product(code.ljust(4), group, market, int(kind), int(size), int(tick), currency)
+    return Product(code.ljust(4), group, market, int(kind), SHARE * int(size), int(tick), currency)
 
 
 # All kinds, Italian groups and others, every count of days to settlement.
@@ -275,12 +275,45 @@ def refused_weekly_files():
     ]
 
 
+# 02, note 11: "Sizes now carry ten-thousandths of a share": futures and an option whose
+# sizes are 33.3333, 65,535.9999, 1.0001, 100.5 and 1 shares.
+FRACTIONS = tuple(replace(product_from(line), size=size) for line, size in (
+    ('FRA0 FR01 XPAR 0 1 1 EUR', 333333),
+    ('FRA1 IT01 XMIL 0 1 1 EUR', 655359999),
+    ('FRA4 FR01 XPAR 4 1 5 GBX', 10001),
+    ('FRA5 FR11 XPAR 1 1 100 EUR', 1005000),
+    ('FRA6 FR01 XPAR 0 1 1 CHF', 10000),
+))
+
+
+# 02, note 11: a file with such sizes.
+def files_of_sizes():
+    calendar = Calendar(2008, 3, frozenset((dates.day_of(2008, 3, 21),)))
+    return [master.build(calendar, list(FRACTIONS))]
+
+
+# Files that question 7 refuses: a size "below one share", ten-thousandths above 9,999,
+# byte 22 not zero.
+def refused_sizes():
+    calendar = Calendar(2008, 3, frozenset((dates.day_of(2008, 3, 21),)))
+
+    def damaged(offset, data):
+        return master.build(calendar, list(FRACTIONS), damages=(('bytes', 3, 16 + offset, data),))
+
+    return [
+        (7, damaged(13, b'\x00\x00')),
+        (7, damaged(20, b'\x27\x10')),
+        (7, damaged(22, b'\x01')),
+    ]
+
+
 # All master files in the order of their numbers.
 @lru_cache(maxsize=1)
 def all_files():
     return [*accepted_files(), *(file for _, file in refused_files()), *files_of_2005(),
             *second_map_files(), *(file for _, file in refused_second_maps()),
-            *weekly_files(), *(file for _, file in refused_weekly_files())]
+            *weekly_files(), *(file for _, file in refused_weekly_files()),
+            *files_of_sizes(), *(file for _, file in refused_sizes())]
 
 
 # The numbers of the files with futures of 2005.
@@ -293,6 +326,9 @@ ONE_YEAR_2005, THREE_YEARS_2005, TWO_YEARS_2005, SIXTEEN_YEARS_2005 = range(20, 
 # The numbers of the files with weekly options, and of the first that is refused.
 (THREE_YEARS_WEEKLY, WEEKLY_2010, FIRST_DAYS_WEEKLY, TWO_YEARS_WEEKLY, SIXTEEN_YEARS_WEEKLY,
  REFUSED_WEEKLY) = range(34, 40)
+
+# The numbers of the file with sizes of ten-thousandths, and of the first that is refused.
+THREE_YEARS_SIZES, REFUSED_SIZES = 41, 42
 
 
 # A file's name in the folder.

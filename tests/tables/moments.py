@@ -1,5 +1,5 @@
 """Calls that fit the moment of a history: the dates, days, months and prices that
-decide between answers (01, "Questions"; 02, notes 3 and 9)."""
+decide between answers (01, "Questions"; 02, notes 3, 9 and 11)."""
 
 from second import dates, listing, product, trading
 
@@ -98,6 +98,26 @@ def some_calls(numbers, book):
     if choice < 3:
         return [('R', some_date(numbers, book))]
     return [('C', some_day(numbers, book))]
+
+
+# 02, note 11. A measure p for q: a small ratio, the largest and the smallest, one that
+# 28 refuses; a price that is usual, at the ends of its range, or refused by 19.
+RATIOS = ((1, 1), (2, 1), (1, 2), (3, 2), (2, 3), (1, 3), (10, 1), (1, 10), (7, 11), (1000, 999), (999, 1000),
+          (1, 1000), (1000, 1), (0, 1), (1, 0), (1001, 1), (1, 1001))
+
+
+def some_measure(numbers):
+    p, q = numbers.one_of(RATIOS)
+    price = numbers.one_of((1 + numbers.below(2000000), 1 + numbers.below(2000000), 123400, 1, 7, 999999999, 0,
+                            1000000000, 4294967295))
+    return 'Z', p, q, price
+
+
+# Measures between rolls, closes and reopenings.
+def some_calls_and_measures(numbers, book):
+    if numbers.below(2) == 0:
+        return [some_measure(numbers)]
+    return some_calls_and_reopenings(numbers, book)
 
 
 PRICES = (0, 1, 5, 6, 100, 123400, 123456, 999999900, 999999999, 1000000000, 4294967295)

@@ -1,8 +1,9 @@
 """A script of table calls: its records, the lines that they must print, and the
-table and the book that they leave (01, "The table", "Questions"; 02, notes 2, 3
-and 9)."""
+table and the book that they leave (01, "The table", "Questions"; 02, notes 2, 3, 9
+and 11)."""
 
 from dataclasses import replace
+from fractions import Fraction
 from functools import lru_cache
 
 from second import master, product, table
@@ -12,11 +13,14 @@ from second.trading import Calendar
 RECORD = 16
 SUM_MODULUS = 65521
 
-# The calls that a history may hold, by the letters of their records.
-CALLS = {'R': 'roll', 'C': 'close', 'E': 'reopen'}
+# The calls that a history may hold, by the letters of their records. A call is its letter
+# and its arguments: one date or day, or the p, q and price of a measure.
+CALLS = {'R': 'roll', 'C': 'close', 'E': 'reopen', 'Z': 'measure'}
 
-# How many numbers a call of a whole history is handed over as, and answered with.
+# How many numbers a call of a whole history is handed over as, and answered with: its
+# kind and three more; the refusal, the counts of months that entered and left, the price.
 NUMBERS_TO_A_CALL = 4
+NO_ANSWER = (0, 0, 0, 0)
 
 
 # ---- Records of the script ----
@@ -46,10 +50,10 @@ def calendar_sums(calendar):
     return map_sum(calendar.to_map()), map_sum(calendar.to_second_map())
 
 
-# The sum of a product's fields: at each one 31 times the sum so far, and the
-# field, mod 65,521.
+# The sum of a product's fields but its size: at each one 31 times the sum so far, and
+# the field, mod 65,521.
 def product_sum(item):
-    fields = (*item.id, *item.group, *item.market, item.kind, *item.currency, item.size, item.tick)
+    fields = (*item.id, *item.group, *item.market, item.kind, *item.currency, item.tick)
     total = 0
     for field in fields:
         total = (31 * total + field) % SUM_MODULUS
@@ -62,12 +66,12 @@ def words(*numbers):
 
 
 # The words on a table: date, given, first year, years, the sums of the closed days
-# and of the product, then key, day, days stepped back and number of all 15 places,
-# and the sum of the second map where it is not 0.
+# and of the product, the size, then key, day, days stepped back and number of all 15
+# places, and the sum of the second map where it is not 0.
 def table_words(item, calendar, date, places, given):
     unused = [(0, 0, 0, 0)] * (table.PLACES - len(places))
     closed, second = calendar_sums(calendar)
-    return (words(date, given, calendar.first_year, calendar.years, closed, product_sum(item))
+    return (words(date, given, calendar.first_year, calendar.years, closed, product_sum(item), item.size)
             + ''.join(words(*place) for place in [*places, *unused])
             + (words(second) if second else ''))
 
@@ -132,6 +136,14 @@ def anchor_rule(item):
     return 'Italian' if product.is_italian(item.group) else 'third Friday'
 
 
+# 02, note 11: what 29 is answered no for.
+def out_of_range(size, p, q, price):
+    changed = product.new_size(size, p, q)
+    if not product.size_is_right(changed):
+        return 'size too large' if changed else 'size 0'
+    return 'price too large' if product.new_price(price, size, changed) else 'price 0'
+
+
 # A difference between the table and the book.
 class Differs(Exception):
     pass
@@ -161,19 +173,24 @@ class Script:
         if refusal is not None:
             self.seen.add((line[0], refusal))
 
-    # The record of a call that gives the table back, and its line.
+    # The record of a call that gives the table back, and its line: the refusal, the
+    # numbers that come with it, and the table.
+    def write_table(self, entry, refusal, numbers, now):
+        self.table = now
+        self.write(entry, chr(entry[0]) + words(refusal, *numbers) + table_words(
+            now.product, now.calendar, now.date, now.places, now.given), refusal)
+
+    # The same of a call that lists maturities.
     def write_outcome(self, entry, outcome):
-        refusal, self.table, entered, left = outcome
-        now = self.table
+        refusal, now, entered, left = outcome
         if refusal == 0:
             rule = anchor_rule(now.product)
             self.seen |= {('back', back, rule) for _, _, back, _ in table.maturities(now)}
-        self.write(entry, chr(entry[0]) + words(refusal, entered, left) + table_words(
-            now.product, now.calendar, now.date, now.places, now.given), refusal)
+        self.write_table(entry, refusal, (entered, left), now)
         return refusal
 
     # 01, The table: the book "is fed the opened product's kind and group, the
-    # file's calendar and the opening's date".
+    # file's calendar and the opening's date". 02, note 11: and its size.
     def open(self, number, code, date):
         file = self.file(number)
         outcome = table.open_table(file, code, date)
@@ -181,30 +198,30 @@ class Script:
         if outcome[0] == 0:
             calendar, products = master.contents(file)
             item = products[code]
-            self.book = Book(item.kind, item.group, calendar, date)
+            self.book = Book(item.kind, item.group, item.size, calendar, date)
         refusal = self.write_outcome(record('O', number, date, code), outcome)
-        self.compare_with_book(outcome, (0, self.table.given, 0))
+        self.compare_with_book(reply(outcome), (0, self.table.given, 0, 0))
         return refusal
 
     # 01, The table: "the table's calendar, date, maturities (month, day,
     # number) and count given are the book's; so are every call's acceptance or
-    # refusal number and its two counts". Days stepped back are compared too.
+    # refusal number and its two counts". Days stepped back are compared too. 02, note
+    # 11: "the table's size after the list is the book's".
     def compare_with_book(self, outcome, answer):
-        book = self.book
+        book, now = self.book, self.table
         if book is None:
             return
-        refusal, now, entered, left = outcome
-        held = (now.calendar, now.date, table.maturities(now), now.given)
-        if ((refusal, entered, left) != answer
-                or held != (book.calendar, book.date, book.maturities, book.given)):
+        held = (now.product.size, now.calendar, now.date, table.maturities(now), now.given)
+        if (outcome != answer
+                or held != (book.size, book.calendar, book.date, book.maturities, book.given)):
             raise Differs(f'after record {len(self.records)}: {outcome} and {answer}')
 
-    # A call of a history on the table and on the book: its outcome.
+    # A roll, close or reopening on the table and on the book: its outcome.
     def call(self, letter, day):
         outcome = getattr(table, CALLS[letter])(self.table, day)
         answer = book_call(self.book, letter, day) if self.book else None
         self.write_outcome(record(letter, number=day), outcome)
-        self.compare_with_book(outcome, answer)
+        self.compare_with_book(reply(outcome), answer)
         return outcome
 
     # Something seen with the product's kind, and whether its group is Italian.
@@ -238,6 +255,28 @@ class Script:
                     self.see('another later' if place else 'front later')
         return refusal
 
+    # 02, note 11.
+    def measure(self, p, q, price):
+        old = self.table.product.size
+        refusal, now, adjusted = table.measure(self.table, p, q, price)
+        answer = book_call(self.book, 'Z', p, q, price) if self.book else None
+        self.write_table(record('Z', rest=long_numbers(p, q, price)), refusal, (adjusted,), now)
+        self.compare_with_book((refusal, 0, 0, adjusted), answer)
+        if refusal == 0:
+            self.see_sizes(old, now.product.size, Fraction(p, q))
+        if refusal == 29:
+            self.seen.add(('29', out_of_range(old, p, q, price)))
+        return refusal
+
+    # Seen: accepted measures that make the size larger and smaller, that round it up and
+    # down, that leave it below one share.
+    def see_sizes(self, old, size, ratio):
+        self.see('larger' if size > old else 'smaller' if size < old else 'same size')
+        if size != old * ratio:
+            self.see('rounded up' if size > old * ratio else 'rounded down')
+        if size < product.SHARE:
+            self.see('below a share')
+
     # 01, Questions: "Last trading day of a listed month: 10, 18."; 02, note 3: or of
     # a listed Friday.
     def last_trading_day(self, key):
@@ -257,11 +296,14 @@ class Script:
         self.write(record('T', rest=long_numbers(price)), 'T' + words(refusal), refusal)
         return refusal
 
-    # 01, Questions: "Cash: 10, 19–22."
+    # 01, Questions: "Cash: 10, 19–22." 02, note 11: 1 for a negative sign, the amount, the
+    # rest.
     def cash(self, contracts, agreed, final):
-        refusal, amount = table.cash(self.table, contracts, agreed, final)
+        refusal, negative, amount, rest = table.cash(self.table, contracts, agreed, final)
         entry = record('Q', rest=long_numbers(contracts, agreed, final))
-        self.write(entry, 'Q' + words(refusal, amount), refusal)
+        self.write(entry, 'Q' + words(refusal, int(negative), amount, rest), refusal)
+        if rest:
+            self.seen.add(('rest', negative, amount > 0))
         return refusal
 
     def save(self):
@@ -276,19 +318,19 @@ class Script:
     def damage(self, field, place, value):
         self.table = damage(self.table, field, place, value)
         self.book = None
-        entry = record('D', field, place, master.two_bytes(value))
+        entry = record('D', field, place, long_numbers(value))
         self.write(entry, 'D' + words(field, place, value))
 
     # 01, The table: "The list of rolls and closes starts from the table that an
     # accepted open gave back"; 02, note 9: "Histories with reopenings in them are held
-    # to the same statement". The expected table and answers are the book's. A call is
-    # lent as four numbers and answered with four; where the numbers lent are no whole
-    # calls, or more than the buffer, no call is made. The answer of a call that is not
-    # made stays 0.
+    # to the same statement"; note 11: a measure "joins the calls a history may hold". The
+    # expected table and answers are the book's. A call is lent as four numbers and
+    # answered with four; where the numbers lent are no whole calls, or more than the
+    # buffer, no call is made. The answer of a call that is not made stays 0.
     def history(self, number, code, date, calls, numbers_lent=None, buffer_lent=None):
         calendar, products = master.contents(self.file(number))
         item = products[code]
-        book = Book(item.kind, item.group, calendar, date)
+        book = Book(item.kind, item.group, item.size, calendar, date)
         all_numbers = NUMBERS_TO_A_CALL * len(calls)
         numbers_lent = all_numbers if numbers_lent is None else numbers_lent
         buffer_lent = all_numbers if buffer_lent is None else buffer_lent
@@ -297,37 +339,53 @@ class Script:
         answers = [book_call(book, *call) for call in made]
         self.write_history(number, code, date, calls, (numbers_lent, buffer_lent))
         self.write_answers((int(fits), 0), calls, answers, table_words(
-            item, book.calendar, book.date, book.maturities, book.given))
+            replace(item, size=book.size), book.calendar, book.date, book.maturities, book.given))
 
     # The same with an id that the file has not: every call is refused by 10.
     def history_without_open(self, number, code, date, calls):
         zero = table.ZERO_TABLE
         self.write_history(number, code, date, calls, (NUMBERS_TO_A_CALL * len(calls),) * 2)
-        self.write_answers((1, 9), calls, [(10, 0, 0)] * len(calls), table_words(
+        self.write_answers((1, 9), calls, [(10, 0, 0, 0)] * len(calls), table_words(
             zero.product, zero.calendar, zero.date, zero.places, zero.given))
 
-    # The record of a history and those of its calls, whose argument has three bytes.
+    # The record of a history and those of its calls: a letter and three numbers. A roll,
+    # close or reopening reads the first of them alone; the others are not 0 where the
+    # first is odd.
     def write_history(self, number, code, date, calls, lent):
         lengths = b''.join(map(master.two_bytes, (len(calls), *lent)))
         self.records.append(record('H', number, date, code + lengths))
-        self.records += [record(letter, *divmod(day, 65536)) for letter, day in calls]
+        for letter, *arguments in calls:
+            unread = (2, 3) if arguments[0] % 2 else (0, 0)
+            self.records.append(record(letter, rest=long_numbers(*(*arguments, *unread)[:3])))
 
     # The line of a history and those of its calls' answers. No table is left.
     def write_answers(self, verdict, calls, answers, held):
         self.lines.append('H' + words(*verdict) + held)
-        not_made = [(0, 0, 0)] * (len(calls) - len(answers))
+        not_made = [NO_ANSWER] * (len(calls) - len(answers))
         self.lines += ['A' + words(*answer) for answer in (*answers, *not_made)]
-        self.seen |= {('history', letter, answer[0]) for (letter, _), answer in zip(calls, answers)}
+        self.seen |= {('history', call[0], answer[0]) for call, answer in zip(calls, answers)}
         self.table = table.ZERO_TABLE
         self.book = None
 
 
-# A call of a history, asked of the book: (number, entered, left).
-def book_call(book, letter, day):
-    return getattr(book, CALLS[letter])(day)
+# What a call that lists maturities answers beside its table: (number, entered, left,
+# price); no price comes with it.
+def reply(outcome):
+    refusal, _, entered, left = outcome
+    return refusal, entered, left, 0
+
+
+# A call of a history, asked of the book: (number, entered, left, price). 02, note 11: "A
+# measure changes no month", so none enters or leaves.
+def book_call(book, letter, *arguments):
+    answer = getattr(book, CALLS[letter])(*arguments)
+    if letter == 'Z':
+        refusal, price = answer
+        return refusal, 0, 0, price
+    return (*answer, 0)
 
 
 # Calls of a history one after the other.
 def make(script, calls):
-    for letter, day in calls:
-        getattr(script, CALLS[letter])(day)
+    for letter, *arguments in calls:
+        getattr(script, CALLS[letter])(*arguments)

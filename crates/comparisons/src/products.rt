@@ -2,7 +2,8 @@
 use crate::text::end_line;
 use crate::text::put;
 use crate::text::put_answer;
-use crate::text::put_signed;
+use crate::text::put_long;
+use crate::text::put_wide;
 use crate::text::start_line;
 
 // Whether a group is Italian, and an option's days to settlement.
@@ -28,10 +29,10 @@ fn country(a: u8, b: u8) {
 
 fn tick_line(price: u32, tick: u16) {
     start_line(b'P');
-    put_signed(price as i64);
+    put_long(price);
     put(tick);
-    put_answer(product::price_right(price));
-    put_answer(product::is_multiple(price, tick));
+    put_answer(amounts::price_right(price));
+    put_answer(amounts::is_multiple(price, tick));
     end_line();
 }
 
@@ -43,24 +44,28 @@ fn ticks(price: u32) {
     tick_line(price, 100);
 }
 
-fn cash_line(contracts: u32, size: u16, agreed: u32, last: u32) {
+// The numbers, and of their cash the sign, 1 where it is negative, the amount and the rest.
+fn cash_line(contracts: u32, size: u32, agreed: u32, last: u32) {
+    let cash = amounts::cash(contracts, size, agreed, last);
     start_line(b'Q');
-    put_signed(contracts as i64);
-    put(size);
-    put_signed(agreed as i64);
-    put_signed(last as i64);
-    put_signed(product::cash(contracts, size, agreed, last));
+    put_long(contracts);
+    put_long(size);
+    put_long(agreed);
+    put_long(last);
+    put_answer(cash.negative);
+    put_wide(cash.amount);
+    put(cash.rest);
     end_line();
 }
 
-fn final_prices(contracts: u32, size: u16, agreed: u32) {
+fn final_prices(contracts: u32, size: u32, agreed: u32) {
     cash_line(contracts, size, agreed, 0);
     cash_line(contracts, size, agreed, 125000);
     cash_line(contracts, size, agreed, 999999999);
     cash_line(contracts, size, agreed, 1000000000);
 }
 
-fn agreed_prices(contracts: u32, size: u16) {
+fn agreed_prices(contracts: u32, size: u32) {
     final_prices(contracts, size, 0);
     final_prices(contracts, size, 1);
     final_prices(contracts, size, 123400);
@@ -68,11 +73,17 @@ fn agreed_prices(contracts: u32, size: u16) {
     final_prices(contracts, size, 1000000000);
 }
 
+// Sizes in ten-thousandths of a share.
 fn sizes(contracts: u32) {
     agreed_prices(contracts, 0);
     agreed_prices(contracts, 1);
-    agreed_prices(contracts, 100);
-    agreed_prices(contracts, 65535);
+    agreed_prices(contracts, 9999);
+    agreed_prices(contracts, 10000);
+    agreed_prices(contracts, 333333);
+    agreed_prices(contracts, 1000000);
+    agreed_prices(contracts, 655350000);
+    agreed_prices(contracts, 655359999);
+    agreed_prices(contracts, 655360000);
 }
 
 pub(crate) fn print() {

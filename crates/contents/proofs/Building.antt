@@ -19,7 +19,8 @@ use Rattle.ids.specs.Ids.{isRecord}
 use Rattle.lines.specs.declared.Line.{Line}
 use Rattle.lines.specs.Lines.{emptyLine, extended, fed}
 use Rattle.lines.proofs.Feeding.{fed-append}
-use Rattle.contents.specs.Contents.{LineWith, coverText, markedText, idText, productText, dayLine, placeLine, coverDays, lineText}
+use Rattle.printing.specs.Text.{inFourDigits}
+use Rattle.contents.specs.Contents.{LineWith, coverText, markedText, idText, partText, productText, dayLine, placeLine, coverDays, lineText}
 
 -- one text after another
 pub then : {l m r : Line} {t u : List ℕ} → LineWith l t m → LineWith m u r → LineWith l (t ++ u) r
@@ -42,6 +43,17 @@ same {X} {l} f e q = record { is = e .is ∙ ap (λ (x : X). fed l (f x)) q }
 pub nothing : (r : Line) → r ≡ emptyLine → LineWith emptyLine [] r
 unfolding fed
 nothing r e = record { is = e }
+
+-- ---- the ten-thousandths of a size
+
+module _ (l : Line) (part : ℕ) where
+  pub part-none : part ≡ 0 → LineWith l (partText part) l
+  unfolding partText fed
+  part-none e = rw (eq-eqb part 0 e) (record { is = refl })
+
+  pub part-some : (part ≡ 0 → ⊥) → (r : Line) → LineWith l ((46 ∷ []) ++ inFourDigits part) r → LineWith l (partText part) r
+  unfolding partText
+  part-some e r g = rw (ne-eqb part 0 e) g
 
 -- ---- the characters of an id
 

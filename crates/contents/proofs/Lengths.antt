@@ -5,6 +5,7 @@ use mathlib.Core.Bool.{Bool, true, false, cond}
 use mathlib.Core.List.{List, [], _∷_, _++_}
 use mathlib.Core.Logic.{_⊎_, inl, inr}
 use Prim.Native.Nat.{ℕ, _+_, _-_, _/_, _%_, _≤_, _<_}
+use native.Mathlib.Nat.{le-refl}
 use native.Mathlib.Omega.{arith}
 use lib.Dec.{eqb, leb}
 use lib.ListN.{length, getD, length-append}
@@ -18,7 +19,7 @@ use Rattle.ids.specs.Ids.{isRecord}
 use Rattle.printing.specs.Text.{lastDigit, inTwoDigits, inFourDigits, decimal, yearMonth, dateText, dayText, spaced, refusalText}
 use Rattle.printing.specs.Buffer.{roomy, Printed}
 use Rattle.printing.proofs.Texts.{decimal-1, decimal-2, decimal-3, decimal-4, decimal-5}
-use Rattle.contents.specs.Contents.{coverText, markedText, idText, productText, dayLine, placeLine, coverDays, lineText}
+use Rattle.contents.specs.Contents.{coverText, markedText, idText, partText, productText, dayLine, placeLine, coverDays, lineText}
 
 decimal-short : (n : ℕ) → length (decimal n) ≤ 5
 unfolding inTwoDigits inFourDigits
@@ -57,6 +58,14 @@ id-short (byte ∷ rest) = go (eqb byte 32) (id-short rest)
     go true h = omega arith
     go false h = omega arith
 
+part-short : (part : ℕ) → length (partText part) ≤ 5
+unfolding partText inFourDigits inTwoDigits
+part-short part = go (eqb part 0)
+  where
+    go : (b : Bool) → length (cond b [] ((46 ∷ []) ++ inFourDigits part)) ≤ 5
+    go true = omega arith
+    go false = le-refl 5
+
 cover-short : (c : Cover) → length (coverText c) < 64
 unfolding coverText
 cover-short c =
@@ -78,12 +87,14 @@ product-short r =
     omega (
       arith,
       length-append id (32 ∷ fourBytes r 4 ++ (32 ∷ fourBytes r 8 ++ numbers)),
-      length-append (spaced (getD r 12 0)) (spaced (numberAt r 13) ++ (spaced (numberAt r 15) ++ end)),
-      length-append (spaced (numberAt r 13)) (spaced (numberAt r 15) ++ end),
+      length-append (spaced (getD r 12 0)) (spaced (numberAt r 13) ++ (partText (numberAt r 20) ++ (spaced (numberAt r 15) ++ end))),
+      length-append (spaced (numberAt r 13)) (partText (numberAt r 20) ++ (spaced (numberAt r 15) ++ end)),
+      length-append (partText (numberAt r 20)) (spaced (numberAt r 15) ++ end),
       length-append (spaced (numberAt r 15)) end,
       id-short (fourBytes r 0),
       spaced-short (getD r 12 0),
       spaced-short (numberAt r 13),
+      part-short (numberAt r 20),
       spaced-short (numberAt r 15),
     )
   where
@@ -94,7 +105,7 @@ product-short r =
     end = 32 ∷ threeBytes r 17 ++ (10 ∷ [])
 
     numbers : List ℕ
-    numbers = spaced (getD r 12 0) ++ (spaced (numberAt r 13) ++ (spaced (numberAt r 15) ++ end))
+    numbers = spaced (getD r 12 0) ++ (spaced (numberAt r 13) ++ (partText (numberAt r 20) ++ (spaced (numberAt r 15) ++ end)))
 
 dayline-short : (cal : Calendar) (d : ℕ) → length (dayLine cal d) < 64
 unfolding dayLine

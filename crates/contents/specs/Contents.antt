@@ -1,4 +1,4 @@
--- The text of what a master file holds, line by line (02, note 7; README, The text of a master file).
+-- The text of what a master file holds, line by line (02, notes 7 and 11; README, The text of a master file).
 -- Assumes nothing.
 use Prim.Native.Nat.{ℕ, zero, suc, _+_, _-_, _/_, _%_, _≤_, _<_}
 use mathlib.Core.Path.{_≡_}
@@ -17,7 +17,7 @@ use Rattle.years.specs.Calendars.{calendarOf}
 use Rattle.master.specs.Load.{loadAsks}
 use Rattle.lines.specs.declared.Line.{Line}
 use Rattle.lines.specs.Lines.{fed}
-use Rattle.printing.specs.Text.{dayText, spaced, refusalText}
+use Rattle.printing.specs.Text.{inFourDigits, dayText, spaced, refusalText}
 use Rattle.contents.specs.declared.Progress.{Progress}
 
 -- of a line before and after: it has a text more
@@ -37,6 +37,10 @@ unfoldable pub idText : List ℕ → List ℕ
 idText [] = []
 idText (byte ∷ rest) = cond (eqb byte 32) [] (byte ∷ idText rest)
 
+-- the ten-thousandths of a size: 'a point and four digits' (a point is 46), nothing where it is whole (02, note 11)
+unfoldable pub partText : ℕ → List ℕ
+partText part = cond (eqb part 0) [] ((46 ∷ []) ++ inFourDigits part)
+
 -- '`P id group market kind size tick currency`', of a record's bytes
 unfoldable pub productText : List ℕ → List ℕ
 productText r =
@@ -48,8 +52,9 @@ productText r =
     ++ (fourBytes r 8
     ++ (spaced (getD r 12 0)
     ++ (spaced (numberAt r 13)
+    ++ (partText (numberAt r 20)
     ++ (spaced (numberAt r 15)
-    ++ ((32 ∷ []) ++ (threeBytes r 17 ++ (10 ∷ [])))))))))))
+    ++ ((32 ∷ []) ++ (threeBytes r 17 ++ (10 ∷ []))))))))))))
 
 -- the line of a day: 'X' [88], 'C' [67], or none
 unfoldable pub dayLine : Calendar → ℕ → List ℕ

@@ -11,7 +11,7 @@ ghost use Rattle.calendar.specs.Trading.{coverStart};
 ghost use Rattle.records.specs.Records.{threeBytes, fourBytes};
 ghost use Rattle.lines.specs.Lines.{emptyLine};
 ghost use Rattle.printing.specs.Text.{lastDigit, inTwoDigits, inFourDigits, decimal, dayText, spaced};
-ghost use Rattle.contents.specs.Contents.{LineWith, coverText, markedText, idText, productText, dayLine, placeLine, coverDays, lineText, lineCount, another, LinesIn};
+ghost use Rattle.contents.specs.Contents.{LineWith, coverText, markedText, idText, partText, productText, dayLine, placeLine, coverDays, lineText, lineCount, another, LinesIn};
 
 // The next line of the text, and how many bytes of it stand in the buffer.
 pub struct Progress {
@@ -127,6 +127,16 @@ fn with_three_bytes(line: Line, three: [u8; 3]) -> Line
     lines::extend(two, three[2])
 }
 
+// A line with the ten-thousandths of a size more, where it is not whole.
+fn with_part(line: Line, part: u16) -> Line
+    ensures { λ r. ⌜ LineWith line (partText part) r ⌝ }
+{
+    if part == 0 {
+        return line;
+    }
+    with_four(lines::extend(line, b'.'), part)
+}
+
 // The line of a product, by its record.
 fn product_line(r: &[u8]) -> Line
     ensures { λ x. ⌜ LineWith emptyLine (productText (now (r .entry))) x ⌝ }
@@ -137,7 +147,8 @@ fn product_line(r: &[u8]) -> Line
     let market = with_four_bytes(lines::extend(group, b' '), records::four_at(r, 8));
     let kind = with_spaced(market, blocks::byte_at(r, 12) as u16);
     let size = with_spaced(kind, records::field_at(r, 13));
-    let tick = with_spaced(size, records::field_at(r, 15));
+    let part = with_part(size, records::field_at(r, 20));
+    let tick = with_spaced(part, records::field_at(r, 15));
     let currency = with_three_bytes(lines::extend(tick, b' '), records::three_at(r, 17));
     lines::extend(currency, b'\n')
 }

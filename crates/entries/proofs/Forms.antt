@@ -18,7 +18,7 @@ use Rattle.entries.specs.declared.NumberRead.{NumberRead}
 use Rattle.entries.specs.declared.Entry.{Entry}
 use Rattle.records.specs.Records.{threeBytes, fourBytes}
 use Rattle.writing.specs.Writing.{fieldBytes}
-use Rattle.entries.specs.Entries.{wordAt, numberOf, otherEntry, idBytes, coverForm, coverEntry, dayForm, dayEntry, productForm, lineRecord, productEntry, entryAt, entryOf, lineEntry}
+use Rattle.entries.specs.Entries.{wordAt, numberOf, sharesRead, partRead, otherEntry, idBytes, coverForm, coverEntry, dayForm, dayEntry, productForm, lineRecord, productEntry, entryAt, entryOf, lineEntry}
 
 -- a cover
 module _ (line : List ℕ) where
@@ -72,30 +72,35 @@ module _ (line : List ℕ) where
     unfolding productEntry
     product-kindless t = rw (e, ← p, t) refl
 
-    module _ (t : kind .there ≡ true) (size : NumberRead) (q : size ≡ numberOf (wordAt line 5) 65535) where
-      pub product-sizeless : size .there ≡ false → otherEntry ≡ productEntry line
+    module _ (t : kind .there ≡ true) (shares : NumberRead) (q : shares ≡ sharesRead (wordAt line 5)) where
+      pub product-shareless : shares .there ≡ false → otherEntry ≡ productEntry line
       unfolding productEntry
-      product-sizeless u = rw (e, ← p, t, ← q, u) refl
+      product-shareless u = rw (e, ← p, t, ← q, u) refl
 
-      module _ (u : size .there ≡ true) (tick : NumberRead) (s : tick ≡ numberOf (wordAt line 6) 65535) where
-        pub product-tickless : tick .there ≡ false → otherEntry ≡ productEntry line
+      module _ (u : shares .there ≡ true) (part : NumberRead) (s : part ≡ partRead (wordAt line 5)) where
+        pub product-partless : part .there ≡ false → otherEntry ≡ productEntry line
         unfolding productEntry
-        product-tickless v = rw (e, ← p, t, ← q, u, ← s, v) refl
+        product-partless v = rw (e, ← p, t, ← q, u, ← s, v) refl
 
-        pub product-is : tick .there ≡ true → (r : List ℕ) → r ≡ lineRecord line (kind .value) (size .value) (tick .value)
-            → record { letter = 80; cover = record { «first_year» = 0; years = 0 }; day = 0; «record» = r } ≡ productEntry line
-        unfolding productEntry
-        product-is v r w = rw (e, ← p, t, ← q, u, ← s, v, w) refl
+        module _ (v : part .there ≡ true) (tick : NumberRead) (w : tick ≡ numberOf (wordAt line 6) 65535) where
+          pub product-tickless : tick .there ≡ false → otherEntry ≡ productEntry line
+          unfolding productEntry
+          product-tickless x = rw (e, ← p, t, ← q, u, ← s, v, ← w, x) refl
+
+          pub product-is : tick .there ≡ true → (r : List ℕ) → r ≡ lineRecord line (kind .value) (shares .value) (part .value) (tick .value)
+              → record { letter = 80; cover = record { «first_year» = 0; years = 0 }; day = 0; «record» = r } ≡ productEntry line
+          unfolding productEntry
+          product-is x r y = rw (e, ← p, t, ← q, u, ← s, v, ← w, x, y) refl
 
 -- the record of a line, word by word
-pub record-words : (line : List ℕ) (kind size tick : ℕ) {a b d e id group market currency : List ℕ}
+pub record-words : (line : List ℕ) (kind shares part tick : ℕ) {a b d e id group market currency : List ℕ}
     → a ≡ wordAt line 1 → id ≡ idBytes a
     → b ≡ wordAt line 2 → group ≡ fourBytes b 0
     → d ≡ wordAt line 3 → market ≡ fourBytes d 0
     → e ≡ wordAt line 7 → currency ≡ threeBytes e 0
-    → fieldBytes id group market kind size tick currency ≡ lineRecord line kind size tick
+    → fieldBytes id group market kind shares tick currency part ≡ lineRecord line kind shares part tick
 unfolding lineRecord fieldBytes idBytes fourBytes threeBytes
-record-words line kind size tick p id q group r market s currency = rw (id, group, market, currency, p, q, r, s) refl
+record-words line kind shares part tick p id q group r market s currency = rw (id, group, market, currency, p, q, r, s) refl
 
 -- a line by its first byte
 module _ (l : Line) where

@@ -1,20 +1,20 @@
--- A number, digit by digit.
+-- A number, digit by digit, and a size, by its point.
 -- Assumes nothing.
 use mathlib.Core.Path.{_≡_, refl, sym, ap, _∙_}
 use mathlib.Core.Bool.{Bool, true, false, _&&_, cond, and-false}
 use mathlib.Core.List.{List, [], _∷_}
-use Prim.Native.Nat.{ℕ, _+_, _*_, _≤_, _<_}
+use Prim.Native.Nat.{ℕ, _+_, _-_, _*_, _≤_, _<_}
 use native.Mathlib.Numerals.{add-one}
 use native.Mathlib.Omega.{arith}
 use lib.Dec.{eqb, leb}
-use lib.ListN.{length, getD, drop}
-use lib.Seq.{drop-cons, drop-length}
+use lib.ListN.{length, getD, take, drop, length-drop}
+use lib.Seq.{drop-cons, drop-length, take-all}
 use borrow.Author.Tests.{le-leb, lt-leb, leb-true, eq-eqb, ne-eqb}
 use Rattle.questions.proofs.Bools.{both}
 use Rattle.product.specs.Fields.{digit}
 use Rattle.lines.specs.Lines.{digitValue}
 use Rattle.entries.specs.declared.NumberRead.{NumberRead}
-use Rattle.entries.specs.Entries.{noNumber, numberFrom, numberOf}
+use Rattle.entries.specs.Entries.{noNumber, numberFrom, numberOf, pointed, sharesRead, partRead}
 
 module _ (word : List ℕ) (most : ℕ) where
   pub number-none : length word ≡ 0 → noNumber ≡ numberOf word most
@@ -68,3 +68,51 @@ at-most word most r e = rw e (go (eqb (length word) 0))
     go : (b : Bool) → cond b noNumber (numberFrom most 0 word) .value ≤ most
     go true = omega arith
     go false = number-most most 0 word (omega arith)
+
+-- a size, by its point
+module _ (word : List ℕ) where
+  pub short-word : length word < 5 → false ≡ pointed word
+  unfolding pointed
+  short-word h = rw (lt-leb 5 (length word) h) refl
+
+  pub long-word : 5 ≤ length word → eqb (getD word (length word - 5) 0) 46 ≡ pointed word
+  unfolding pointed
+  long-word h = rw (le-leb 5 (length word) h) refl
+
+  pub pointed-long : pointed word ≡ true → 5 ≤ length word
+  unfolding pointed
+  pointed-long e = leb-true 5 (length word) (both (leb 5 (length word)) (eqb (getD word (length word - 5) 0) 46) e .0)
+
+  pub pointed-more : pointed word ≡ true → 4 ≤ length word
+  pointed-more e = omega (arith, pointed-long e)
+
+  pub shares-pointed : pointed word ≡ true → numberOf (take (length word - 5) word) 65535 ≡ sharesRead word
+  unfolding sharesRead
+  shares-pointed e = rw e refl
+
+  pub shares-whole : pointed word ≡ false → numberOf word 65535 ≡ sharesRead word
+  unfolding sharesRead
+  shares-whole e = rw e refl
+
+  -- the last four bytes, as a part of the word from a place up to its end
+  pub part-pointed : pointed word ≡ true → numberOf (take (length word - (length word - 4)) (drop (length word - 4) word)) 9999 ≡ partRead word
+  unfolding partRead
+  part-pointed e =
+      let last = drop (length word - 4) word in
+      rw (e, take-all (length word - (length word - 4)) last (omega (arith, length-drop (length word - 4) word))) refl
+
+  pub part-whole : pointed word ≡ false → record { there = true; value = 0 } ≡ partRead word
+  unfolding partRead
+  part-whole e = rw e refl
+
+  pub shares-most : (r : NumberRead) → r ≡ sharesRead word → r .value ≤ 65535
+  unfolding sharesRead
+  shares-most r e = at-most (cond (pointed word) (take (length word - 5) word) word) 65535 r e
+
+  pub part-most : (r : NumberRead) → r ≡ partRead word → r .value ≤ 9999
+  unfolding partRead
+  part-most r e = rw e (go (pointed word))
+    where
+      go : (b : Bool) → cond b (numberOf (drop (length word - 4) word) 9999) (record { there = true; value = 0 }) .value ≤ 9999
+      go true = at-most (drop (length word - 4) word) 9999 (numberOf (drop (length word - 4) word) 9999) refl
+      go false = omega arith

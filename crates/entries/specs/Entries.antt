@@ -1,10 +1,10 @@
--- A line of a list, from which `compose` makes a master file, as an entry (02, note 7; README, The text of a master file).
+-- A line of a list, from which `compose` makes a master file, as an entry (02, notes 7 and 11; README, The text of a master file).
 -- Assumes nothing.
-use Prim.Native.Nat.{ℕ, _+_, _*_}
+use Prim.Native.Nat.{ℕ, _+_, _-_, _*_}
 use mathlib.Core.Bool.{Bool, true, false, _&&_, _||_, cond}
 use mathlib.Core.List.{List, [], _∷_, _++_}
 use lib.Dec.{leb, ltb, eqb}
-use lib.ListN.{getD, length, take, replicate}
+use lib.ListN.{getD, length, take, drop, replicate}
 use Rattle.product.specs.Fields.{digit}
 use Rattle.writing.specs.Writing.{fieldBytes}
 use Rattle.lines.specs.declared.Line.{Line}
@@ -38,6 +38,18 @@ numberFrom most value (byte ∷ rest) =
 -- the number that a word is
 unfoldable pub numberOf : List ℕ → ℕ → NumberRead
 numberOf word most = cond (eqb (length word) 0) noNumber (numberFrom most 0 word)
+
+-- a size is 'a number, perhaps with a point and four digits after it': a point, 46, stands before the word's last four bytes
+unfoldable pub pointed : List ℕ → Bool
+pointed word = leb 5 (length word) && eqb (getD word (length word - 5) 0) 46
+
+-- the shares of a size, 'at most 65,535'
+unfoldable pub sharesRead : List ℕ → NumberRead
+sharesRead word = numberOf (cond (pointed word) (take (length word - 5) word) word) 65535
+
+-- its ten-thousandths of a share; 0 where it has no point
+unfoldable pub partRead : List ℕ → NumberRead
+partRead word = cond (pointed word) (numberOf (drop (length word - 4) word) 9999) (record { there = true; value = 0 })
 
 -- another line: no letter, and zeros
 abbrev pub otherEntry : Entry
@@ -81,23 +93,24 @@ productForm line =
 unfoldable pub idBytes : List ℕ → List ℕ
 idBytes id = getD id 0 32 ∷ getD id 1 32 ∷ getD id 2 32 ∷ getD id 3 32 ∷ []
 
--- the record of a line of that form, with its three numbers
-unfoldable pub lineRecord : List ℕ → ℕ → ℕ → ℕ → List ℕ
-lineRecord line kind size tick =
-    fieldBytes (idBytes (wordAt line 1)) (wordAt line 2) (wordAt line 3) kind size tick (wordAt line 7)
+-- the record of a line of that form, with its numbers
+unfoldable pub lineRecord : List ℕ → ℕ → ℕ → ℕ → ℕ → List ℕ
+lineRecord line kind shares part tick =
+    fieldBytes (idBytes (wordAt line 1)) (wordAt line 2) (wordAt line 3) kind shares tick (wordAt line 7) part
 
--- the entry of such a line, whose letter is P, 80: 'a size and a tick are at most 65,535, a kind is at most 255'
+-- the entry of such a line, whose letter is P, 80: 'a size's shares and a tick are at most 65,535, a kind is at most 255'
 unfoldable pub productEntry : List ℕ → Entry
 productEntry line =
     let kind = numberOf (wordAt line 4) 255 in
-    let size = numberOf (wordAt line 5) 65535 in
+    let shares = sharesRead (wordAt line 5) in
+    let part = partRead (wordAt line 5) in
     let tick = numberOf (wordAt line 6) 65535 in
-    cond (productForm line && (kind .there && (size .there && tick .there)))
+    cond (productForm line && (kind .there && (shares .there && (part .there && tick .there))))
     (record {
       letter = 80;
       cover = record { «first_year» = 0; years = 0 };
       day = 0;
-      «record» = lineRecord line (kind .value) (size .value) (tick .value);
+      «record» = lineRecord line (kind .value) (shares .value) (part .value) (tick .value);
     })
     otherEntry
 

@@ -4,7 +4,7 @@ use lines::Line;
 ghost use mathlib.Core.Path.{_≡_};
 ghost use Prim.Native.Nat.{_≤_};
 ghost use lib.ListN.{length, getD};
-ghost use Rattle.entries.specs.Entries.{wordsOf, wordAt, numberOf, otherEntry, coverForm, coverEntry, dayEntry, productForm, idBytes, lineRecord, productEntry, lineEntry};
+ghost use Rattle.entries.specs.Entries.{wordsOf, wordAt, numberOf, pointed, sharesRead, partRead, otherEntry, coverForm, coverEntry, dayEntry, productForm, idBytes, lineRecord, productEntry, lineEntry};
 ghost use Rattle.entries.specs.Places.{SpaceFrom};
 
 // Whether there is a number, and which.
@@ -110,6 +110,56 @@ fn number_in(line: &[u8], k: usize, most: u32) -> NumberRead
     ensures { λ r. ⌜ r ≡ numberOf (wordAt (now (line .entry)) k) most ⌝ }
 {
     number_of(word_at(line, k), most)
+}
+
+// Whether a point stands before the last four bytes of a word.
+fn is_pointed(word: &[u8]) -> bool
+    ensures { λ r. ⌜ r ≡ pointed (now (word .entry)) ⌝ }
+{
+    let n = word.len();
+    if n < 5 {
+        return false;
+    }
+    word[n - 5] == b'.'
+}
+
+// The shares of a size.
+fn shares_read(word: &[u8]) -> NumberRead
+    ensures { λ r. ⌜ r ≡ sharesRead (now (word .entry)) ⌝ }
+{
+    if is_pointed(word) {
+        let end = word.len() - 5;
+        return number_of(&word[..end], 65535);
+    }
+    number_of(word, 65535)
+}
+
+// The ten-thousandths of a size.
+fn part_read(word: &[u8]) -> NumberRead
+    ensures { λ r. ⌜ r ≡ partRead (now (word .entry)) ⌝ }
+{
+    if is_pointed(word) {
+        let start = word.len() - 4;
+        return number_of(&word[start..], 9999);
+    }
+    NumberRead {
+        there: true,
+        value: 0,
+    }
+}
+
+// The shares of the size that word k of a line is.
+fn shares_in(line: &[u8], k: usize) -> NumberRead
+    ensures { λ r. ⌜ r ≡ sharesRead (wordAt (now (line .entry)) k) ⌝ }
+{
+    shares_read(word_at(line, k))
+}
+
+// Its ten-thousandths.
+fn part_in(line: &[u8], k: usize) -> NumberRead
+    ensures { λ r. ⌜ r ≡ partRead (wordAt (now (line .entry)) k) ⌝ }
+{
+    part_read(word_at(line, k))
 }
 
 // Another line.
@@ -222,15 +272,15 @@ fn id_bytes(id: &[u8]) -> records::FourBytes
     ]
 }
 
-// The record of a line that has the words of a product, with its three numbers.
-fn line_record(line: &[u8], kind: u8, size: u16, tick: u16) -> writing::Record
-    ensures { λ r. ⌜ r ≡ lineRecord (now (line .entry)) kind size tick ⌝ }
+// The record of a line that has the words of a product, with its numbers.
+fn line_record(line: &[u8], kind: u8, shares: u16, part: u16, tick: u16) -> writing::Record
+    ensures { λ r. ⌜ r ≡ lineRecord (now (line .entry)) kind shares part tick ⌝ }
 {
     let id = id_bytes(word_at(line, 1));
     let group = records::four_at(word_at(line, 2), 0);
     let market = records::four_at(word_at(line, 3), 0);
     let currency = records::three_at(word_at(line, 7), 0);
-    writing::field_bytes(id, group, market, kind, size, tick, currency)
+    writing::field_bytes(id, group, market, kind, shares, tick, currency, part)
 }
 
 // A product or another line.
@@ -244,15 +294,25 @@ fn product_entry(line: &[u8]) -> Entry
     if !kind.there {
         return other_entry();
     }
-    let size = number_in(line, 5, 65535);
-    if !size.there {
+    let shares = shares_in(line, 5);
+    if !shares.there {
+        return other_entry();
+    }
+    let part = part_in(line, 5);
+    if !part.there {
         return other_entry();
     }
     let tick = number_in(line, 6, 65535);
     if !tick.there {
         return other_entry();
     }
-    let record = line_record(line, kind.value as u8, size.value as u16, tick.value as u16);
+    let record = line_record(
+        line,
+        kind.value as u8,
+        shares.value as u16,
+        part.value as u16,
+        tick.value as u16,
+    );
     Entry {
         letter: b'P',
         cover: Cover {

@@ -1,10 +1,9 @@
--- The worked examples marked P, as one table of tests (01, March 2008 and its neighbours), and our own for document 02: months of futures of 2005 (note 1), days stepped back (note 2), weekly options (note 3).
+-- The worked examples marked P, as one table of tests (01, March 2008 and its neighbours), and our own for document 02: months of futures of 2005 (note 1), days stepped back (note 2), weekly options (note 3), sizes, prices and cash with ten-thousandths of a share (note 11).
 -- Assumes nothing.
 use Prim.Native.Nat.{ℕ}
 use mathlib.Core.Bool.{Bool, true, false, not, _&&_}
 use mathlib.Core.List.{List, [], _∷_, map}
 use lib.Dec.{eqb}
-use lib.IntN.{ℤ, pos, negsuc}
 use lib.ListN.{replicate}
 use Rattle.questions.specs.Questions.{Answer}
 use Rattle.days.specs.Gregorian.{weekdayOf, monthNumber}
@@ -18,6 +17,8 @@ use Rattle.product.specs.declared.Term.the-variants.{Months12, Weeks5}
 use Rattle.product.specs.declared.Product.{Product}
 use Rattle.product.specs.Fields.{EUR}
 use Rattle.product.specs.Settlement.{IT, groupCode}
+use Rattle.amounts.specs.declared.Amount.{Amount}
+use Rattle.amounts.specs.Prices.{newSize, newPrice, measureRight, cashOf}
 use Rattle.listing.specs.Rules.{freshKeys}
 use Rattle.expiry.specs.LastDays.{thirdFriday, lastTradingDay, workedOut}
 use Rattle.listing.specs.Months.{ruleOf, weekIntoCover}
@@ -37,14 +38,17 @@ sameList [] (y ∷ ys) = false
 sameList (x ∷ xs) [] = false
 sameList (x ∷ xs) (y ∷ ys) = eqb x y && sameList xs ys
 
--- a positive amount, or zero
-abbrev pub isAmount : ℤ → ℕ → Bool
-isAmount (pos n) amount = eqb n amount
-isAmount (negsuc n) amount = false
+-- a positive amount, or zero: the amount and the rest
+abbrev pub isPositive : Amount → ℕ → ℕ → Bool
+isPositive a amount rest = not (a .negative) && (eqb (a .amount) amount && eqb (a .rest) rest)
 
--- a call that is accepted, with an amount
-abbrev pub pays : Answer ℤ → ℕ → Bool
-pays a amount = eqb (a .refusal) 0 && isAmount (a .value) amount
+-- a negative one
+abbrev pub isNegative : Amount → ℕ → ℕ → Bool
+isNegative a amount rest = a .negative && (eqb (a .amount) amount && eqb (a .rest) rest)
+
+-- a call that is accepted, with a positive amount and rest 0
+abbrev pub pays : Answer Amount → ℕ → Bool
+pays a amount = eqb (a .refusal) 0 && isPositive (a .value) amount 0
 
 -- the group FR11
 abbrev pub FR11 : List ℕ
@@ -90,7 +94,7 @@ axaFuture =
       group = FR01;
       market = 88 ∷ 80 ∷ 65 ∷ 82 ∷ [];
       kind = Future Of2008;
-      size = 100;
+      size = 1000000;
       tick = 5;
       currency = EUR;
     }
@@ -111,7 +115,7 @@ axaWeekly =
       group = FR11;
       market = 88 ∷ 80 ∷ 65 ∷ 82 ∷ [];
       kind = Option Weeks5;
-      size = 100;
+      size = 1000000;
       tick = 5;
       currency = EUR;
     }
@@ -180,8 +184,22 @@ rows =
     weekIntoCover (Option Weeks5) cover2010 (dayOf 2010 1 8) ∷
     -- 'in opening kind 5': of kind 1 it is not asked
     weekIntoCover (Option Months12) cover2010 (dayOf 2010 1 1) ∷
-    -- '3 contracts of 100, agreed 12.3400, final 12.5000: +480,000'
+    -- '3 contracts of 100, agreed 12.3400, final 12.5000: +480,000'; 'whole sizes give the old amount and rest 0' (02, note 11)
     pays (cashCall futureTable 3 123400 125000) 480000 ∷
+    -- 02, note 11: 100 shares at 12.3400, 3 for 2: 150 shares at 8.2267, upward from 8.22666..
+    eqb (newSize 1000000 3 2) 1500000 ∷ eqb (newPrice 123400 1000000 1500000) 82267 ∷
+    -- 100 shares at 10.0000, 1 for 3: 33.3333 shares at 30.0000
+    eqb (newSize 1000000 1 3) 333333 ∷ eqb (newPrice 100000 1000000 333333) 300000 ∷
+    -- 'halves upward': one ten-thousandth, 1 for 2, stays; 1 for 3 is 0, which 29 refuses
+    eqb (newSize 1 1 2) 1 ∷ eqb (newSize 1 1 3) 0 ∷ measureRight 1 1 2 100 ∷ not (measureRight 1 1 3 100) ∷
+    -- 65,535.9999 shares, 1 for 1, pass 29, and not 2 for 1; neither does a price above 99,999.9999
+    measureRight 655359999 1 1 100 ∷ not (measureRight 655359999 2 1 100) ∷ not (measureRight 10000 1 2 999999999) ∷
+    -- one contract of 33.3333 shares, agreed 0.0100, final 0.0101: +33 rest 3,333
+    isPositive (cashOf 1 333333 100 101) 33 3333 ∷
+    -- 'the sign covering both, zero being positive': of one ten-thousandth, from 0.0001 to 0 a negative amount of 0, rest 1; equal prices a positive 0
+    isNegative (cashOf 1 1 1 0) 0 1 ∷ isPositive (cashOf 1 1 100 100) 0 0 ∷
+    -- 100,000 contracts of 65,535.9999 shares over the widest change of price: 6,553,599,976,892,800,020 rest 0
+    isPositive (cashOf 100000 655359999 1 999999999) 6553599976892800020 0 ∷
     -- 'Price 5 with tick 5 passes, 6 gets 20'
     eqb (tickCall futureTable 5) 0 ∷ eqb (tickCall futureTable 6) 20 ∷
     []

@@ -1,6 +1,7 @@
 // The records that are found in a file.
 use crate::text::end_line;
 use crate::text::put_byte;
+use crate::text::put_long;
 use crate::text::put_short;
 use crate::text::put_size;
 use crate::text::start_line;
@@ -31,7 +32,7 @@ fn put_product(item: Product) {
     put_four(group);
     put_four(market);
     put_byte(product::kind_number(kind));
-    put_short(item.size);
+    put_long(item.size);
     put_short(item.tick);
     put_three(currency);
 }

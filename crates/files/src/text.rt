@@ -18,6 +18,10 @@ pub(crate) fn put_short(n: u16) {
     put(n as u64);
 }
 
+pub(crate) fn put_long(n: u32) {
+    put(n as u64);
+}
+
 pub(crate) fn put_size(n: usize) {
     put(n as u64);
 }

@@ -19,11 +19,14 @@ use Rattle.calendar.proofs.Reopening.{reopen-cover, clean-reopen, weeks-reopen}
 use Rattle.product.specs.declared.Kind.{Kind}
 use Rattle.product.specs.Fields.{isWeekly}
 use Rattle.product.specs.declared.Product.{Product}
+use Rattle.amounts.specs.Prices.{newSize}
 use Rattle.listing.specs.Rules.{Rule, lastDayOf, front, frontStays, complete}
 use Rattle.listing.specs.Months.{ruleOf, allInCover, weekIntoCover}
 use Rattle.listing.proofs.Lawful.{Lawful, days-rise, front-later}
 use Rattle.listing.proofs.Fronts.{same-front, still-complete}
-use Rattle.history.specs.Book.{Call, roll, close, reopen, Book, calendarAfter, dateAfter, bookAsks}
+use Rattle.measures.specs.Measures.{withSize}
+use Rattle.measures.proofs.Kept.{asked-range, right-size}
+use Rattle.history.specs.Book.{Call, roll, close, reopen, measure, Book, calendarAfter, dateAfter, bookAsks}
 use Rattle.history.proofs.Soundness.{Opened}
 
 -- a trading day is a Monday to Friday
@@ -78,6 +81,7 @@ pub rule-stays : (cal : Calendar) (kind : Kind) (group : List ℕ) (c : Call) �
 rule-stays cal kind group (roll date) = refl
 rule-stays cal kind group (close day) = rw (close-cover cal day)
 rule-stays cal kind group (reopen day) = rw (reopen-cover cal day)
+rule-stays cal kind group (measure u v price) = refl
 
 -- a later date passes 24 too
 week-later : (kind : Kind) (c : Cover) (date later : ℕ) → leb date later ≡ true → weekIntoCover kind c date ≡ true → weekIntoCover kind c later ≡ true
@@ -116,8 +120,23 @@ after-opened p b o (reopen day) e =
       full = ap (λ (r : Rule). complete r (reopenDay (b .calendar) day) (b .date)) (rule-stays (b .calendar) (p .kind) (p .group) (reopen day))
           ∙ still-complete (ruleOf (b .calendar) (p .kind) (p .group)) (b .calendar) (reopenDay (b .calendar) day) (b .date) (stays (p .kind) (p .group) b day e) (o .full);
     }
+after-opened p b o (measure u v price) e = o
 
--- an accepted roll or close brings back no key whose day has passed, and 27 keeps a reopening from it: the front does not go back
+-- so would the product with the size that an accepted measure gives
+pub size-opened : (p : Product) (b : Book) (cal : Calendar) (date : ℕ) → Opened p cal date → (u v price : ℕ) → Accepted (p .kind) (p .group) b (measure u v price)
+    → Opened (withSize p (newSize (b .size) u v)) cal date
+size-opened p b cal date o u v price e =
+    record {
+      product = right-size p (newSize (b .size) u v) (o .product) (asked-range (p .kind) (b .size) u v price e .size-right);
+      valid = o .valid;
+      cleaned = o .cleaned;
+      weeks = o .weeks;
+      covered = o .covered;
+      week = o .week;
+      full = o .full;
+    }
+
+-- an accepted roll or close brings back no key whose day has passed, 27 keeps a reopening from it, and a measure moves no day: the front does not go back
 pub forward : (kind : Kind) (group : List ℕ) (b : Book) → Lawful (ruleOf (b .calendar) kind group) → (c : Call) → Accepted kind group b c
     → front (ruleOf (b .calendar) kind group) (b .calendar) (b .date) ≤ front (ruleOf (b .calendar) kind group) (calendarAfter (b .calendar) c) (dateAfter (b .date) c)
 forward kind group b w (roll date) e =
@@ -136,3 +155,4 @@ forward kind group b w (close day) e =
     )))
 forward kind group b w (reopen day) e =
     omega (arith, same-front (ruleOf (b .calendar) kind group) (b .calendar) (reopenDay (b .calendar) day) (b .date) (stays kind group b day e))
+forward kind group b w (measure u v price) e = omega arith

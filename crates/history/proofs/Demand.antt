@@ -1,4 +1,4 @@
--- Demand 3, for every product that opens and every list of rolls and closes.
+-- Demand 3, for every product that opens and every list of calls.
 -- Assumes nothing.
 use mathlib.Core.Path.{_≡_, refl, sym, ap, _∙_}
 use mathlib.Core.Bool.{Bool, true, false, cond}
@@ -17,7 +17,7 @@ use Rattle.listing.proofs.Places.{before-none}
 use Rattle.listing.proofs.Lawful.{Lawful, key-of, day-past}
 use Rattle.listing.proofs.OfKinds.{rule-lawful, rule-keys, months-most}
 use Rattle.table.specs.declared.Table.{Table}
-use Rattle.table.specs.declared.Outcome.{Outcome}
+use Rattle.history.specs.declared.Called.{Called}
 use Rattle.places.specs.Numbering.{isListed, numberOf, unnumbered}
 use Rattle.table.specs.Table.{listedIn, sound, openedTable}
 use Rattle.history.specs.Book.{Call, Book, bookOpened, bookAfter, bookRun, bookReplies}
@@ -103,7 +103,7 @@ module _ (p : Product) (b : Book) (nu : ℕ → ℕ) (I : Inv p b nu) where
 
 module _ (p : Product) (cal : Calendar) (date : ℕ) (o : Opened p cal date) where
   abbrev start : Book
-  start = bookOpened (p .kind) (p .group) cal date
+  start = bookOpened (p .kind) (p .group) (p .size) cal date
 
   abbrev nu₀ : ℕ → ℕ
   nu₀ = numbersFirst (ruleOf cal (p .kind) (p .group)) cal date
@@ -168,7 +168,7 @@ module _ (p : Product) (cal : Calendar) (date : ℕ) (o : Opened p cal date) whe
 
   -- one more call
   next-table : (cs : List Call) (c : Call) → tableCall (table cs) c .table ≡ tableIn p (bookAfter (p .kind) (p .group) (book cs) c)
-  next-table cs c = rw (table-is cs) (ap (λ (o : Outcome). o .table) (turn p (book cs) (at cs .nu′) (at cs .inv) c))
+  next-table cs c = rw (table-is cs) (ap (λ (o : Called). o .table) (turn p (book cs) (at cs .nu′) (at cs .inv) c))
 
   taken-off : (cs : List Call) (c : Call) (m : ℕ) → isListed (listedIn (table cs)) m ≡ true
       → (isListed (listedIn (tableCall (table cs) c .table)) m ≡ false) ↔ (lastTradingDay (tableCall (table cs) c .table .calendar) (p .kind) (p .group) m < tableCall (table cs) c .table .date)
@@ -202,7 +202,7 @@ module _ (p : Product) (cal : Calendar) (date : ℕ) (o : Opened p cal date) whe
     book-maturities = ap (λ (t : Table). t .maturities) (table-is cs);
     book-listed = listed-are cs;
     book-given = ap (λ (t : Table). t .given) (table-is cs);
-    same-product = ap (λ (t : Table). t .product) (table-is cs);
+    product = ap (λ (t : Table). t .product) (table-is cs);
     replies = replies-are cs;
     calendar-is = calendar-at cs;
     date-is = date-at cs;

@@ -20,16 +20,22 @@ use Rattle.listing.specs.Months.{ruleOf}
 use Rattle.listing.proofs.Lawful.{Lawful}
 use Rattle.listing.proofs.OfKinds.{rule-lawful, rule-begins}
 use Rattle.places.specs.Numbering.{isListed, missing}
-use Rattle.history.specs.Book.{Call, Book, calendarAfter, dateAfter, bookOpened, bookAsks, bookMoved, bookAfter, bookRun}
+use Rattle.amounts.specs.Prices.{newSize}
+use Rattle.measures.specs.Measures.{withSize}
+use Rattle.history.specs.Book.{Call, roll, close, reopen, measure, Book, calendarAfter, dateAfter, bookOpened, bookAsks, bookMoved, bookResized, bookAccepted, bookAfter, bookRun}
 use Rattle.history.proofs.Numbers.{one-append, listed-one}
 use Rattle.history.proofs.Gone.{once, once-append, once-months}
 use Rattle.history.proofs.Moves.{fresh, Numbered, numbersNext, numbersFirst, Moved, moves, first-length, first-numbered}
 use Rattle.history.proofs.Soundness.{Opened}
-use Rattle.history.proofs.Calls.{rule-stays, after-opened, forward}
+use Rattle.history.proofs.Calls.{Accepted, rule-stays, after-opened, size-opened, forward}
 
 -- the rule of a book
 abbrev pub ruleIn : Product → Book → Rule
 ruleIn p b = ruleOf (b .calendar) (p .kind) (p .group)
+
+-- the product of a book: the opened one with the book's size
+abbrev pub productIn : Product → Book → Product
+productIn p b = withSize p (b .size)
 
 -- the front of its calendar and date
 abbrev pub frontIn : Product → Book → ℕ
@@ -41,7 +47,7 @@ known b k = isListed (b .maturities) k || oneOf (b .gone) k
 
 -- what holds of the book at every moment, with nu k the number that the key k ever had, or 0
 pub record Inv (p : Product) (b : Book) (nu : ℕ → ℕ) : Type 0 where
-  pub opened : Opened p (b .calendar) (b .date)
+  pub opened : Opened (productIn p b) (b .calendar) (b .date)
   pub numbered : Numbered (ruleIn p b) (b .calendar) (b .date) (b .maturities) (b .given) nu
   pub total : b .given ≡ length (b .maturities) + length (b .gone)
   pub past : (k : ℕ) → oneOf (b .gone) k ≡ true → k < frontIn p b
@@ -61,7 +67,7 @@ module _ (p : Product) where
   lawful b = rule-lawful (b .calendar .cover) (p .kind) (p .group)
 
   -- the opened book
-  pub starts : (cal : Calendar) (date : ℕ) → Opened p cal date → Inv p (bookOpened (p .kind) (p .group) cal date) (numbersFirst (ruleOf cal (p .kind) (p .group)) cal date)
+  pub starts : (cal : Calendar) (date : ℕ) → Opened p cal date → Inv p (bookOpened (p .kind) (p .group) (p .size) cal date) (numbersFirst (ruleOf cal (p .kind) (p .group)) cal date)
   unfolding bookOpened oneOf
   starts cal date o =
       let r = ruleOf cal (p .kind) (p .group) in
@@ -72,7 +78,7 @@ module _ (p : Product) where
 
   module _ (b : Book) (nu : ℕ → ℕ) (I : Inv p b nu) where
     -- a listing of a later front replaces the book's
-    module _ (cal : Calendar) (date : ℕ) (o : Opened p cal date) (same : ruleOf cal (p .kind) (p .group) ≡ ruleIn p b) (later : frontIn p b ≤ front (ruleIn p b) cal date) where
+    module _ (cal : Calendar) (date : ℕ) (o : Opened (productIn p b) cal date) (same : ruleOf cal (p .kind) (p .group) ≡ ruleIn p b) (later : frontIn p b ≤ front (ruleIn p b) cal date) where
       abbrev moved-book : Book
       moved-book = bookMoved (p .kind) (p .group) b cal date
 
@@ -139,17 +145,43 @@ module _ (p : Product) where
     still : Later p b nu b
     still = record { nu′ = nu; inv = I; rule = refl; grows = λ k h. refl; on = omega arith; stays = λ k h. h }
 
+    -- a call's calendar and date, where the fresh listing replaces the old
+    call-moved : (c : Call) → Accepted (p .kind) (p .group) b c → Later p b nu (bookMoved (p .kind) (p .group) b (calendarAfter (b .calendar) c) (dateAfter (b .date) c))
+    call-moved c y =
+        book-moved (calendarAfter (b .calendar) c) (dateAfter (b .date) c) (after-opened (productIn p b) b (I .opened) c y)
+        (rule-stays (b .calendar) (p .kind) (p .group) c) (forward (p .kind) (p .group) b (lawful b) c y)
+
+    -- a measure changes only the size
+    book-resized : (u v price : ℕ) → Accepted (p .kind) (p .group) b (measure u v price) → Later p b nu (bookResized b (newSize (b .size) u v))
+    unfolding bookResized
+    book-resized u v price y = record {
+      nu′ = nu;
+      inv = record {
+        opened = size-opened (productIn p b) b (b .calendar) (b .date) (I .opened) u v price y;
+        numbered = I .numbered;
+        total = I .total;
+        past = I .past;
+        apart = I .apart;
+      };
+      rule = refl;
+      grows = λ k h. refl;
+      on = omega arith;
+      stays = λ k h. h;
+    }
+
+    accepted-later : (c : Call) → Accepted (p .kind) (p .group) b c → Later p b nu (bookAccepted (p .kind) (p .group) b c)
+    accepted-later (roll date) y = call-moved (roll date) y
+    accepted-later (close day) y = call-moved (close day) y
+    accepted-later (reopen day) y = call-moved (reopen day) y
+    accepted-later (measure u v price) y = book-resized u v price y
+
     -- one call
     pub turn-later : (c : Call) → Later p b nu (bookAfter (p .kind) (p .group) b c)
     unfolding bookAfter
     turn-later c = go (eqb (firstNo (bookAsks (p .kind) (p .group) b c)) 0) refl
       where
-        go : (t : Bool) → eqb (firstNo (bookAsks (p .kind) (p .group) b c)) 0 ≡ t
-            → Later p b nu (cond t (bookMoved (p .kind) (p .group) b (calendarAfter (b .calendar) c) (dateAfter (b .date) c)) b)
-        go true e =
-            let y = eqb-true (firstNo (bookAsks (p .kind) (p .group) b c)) 0 e in
-            book-moved (calendarAfter (b .calendar) c) (dateAfter (b .date) c) (after-opened p b (I .opened) c y)
-            (rule-stays (b .calendar) (p .kind) (p .group) c) (forward (p .kind) (p .group) b (lawful b) c y)
+        go : (t : Bool) → eqb (firstNo (bookAsks (p .kind) (p .group) b c)) 0 ≡ t → Later p b nu (cond t (bookAccepted (p .kind) (p .group) b c) b)
+        go true e = accepted-later c (eqb-true (firstNo (bookAsks (p .kind) (p .group) b c)) 0 e)
         go false e = still
 
   -- of three moments the first and the last

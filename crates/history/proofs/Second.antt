@@ -22,7 +22,7 @@ use Rattle.table.specs.Table.{openCall, openedTable}
 use Rattle.table.proofs.Opens.{accepted-from}
 use Rattle.values.specs.Values.{dueDay}
 use Rattle.values.proofs.Answers.{old-due}
-use Rattle.history.specs.Book.{Call, roll, close, reopen, Reply, calendarAfter}
+use Rattle.history.specs.Book.{Call, roll, close, reopen, measure, Reply, calendarAfter}
 use Rattle.history.specs.History.{tableRun, tableReplies, calendarOfCalls, Demand3}
 use Rattle.history.proofs.FromFile.{from-file}
 
@@ -30,6 +30,7 @@ exchange-after : (cal : Calendar) (c : Call) (s : ℕ) → bitAt (calendarAfter 
 exchange-after cal (roll date) s t = t
 exchange-after cal (close day) s t = rw (close-exchange cal day) at t
 exchange-after cal (reopen day) s t = exchange-bits cal day s t
+exchange-after cal (measure p q price) s t = t
 
 exchange-of-calls : (cal : Calendar) (cs : List Call) (rs : List Reply) (s : ℕ) → bitAt (calendarOfCalls cal cs rs .exchange) s ≡ true → bitAt (cal .exchange) s ≡ true
 unfolding calendarOfCalls

@@ -28,14 +28,16 @@ use Rattle.table.specs.declared.Table.{Table}
 use Rattle.places.specs.Numbering.{isListed, numberOf, sameMaturity, numbersRight}
 use Rattle.places.proofs.Rising.{place-of, at-map}
 use Rattle.places.proofs.Unique.{same-maturity}
-use Rattle.table.specs.Table.{listedIn, listsFresh, sound, moved, refusedWith, answered, rollCall, closeCall, reopenCall}
-use Rattle.history.specs.Book.{Call, roll, close, reopen, Book, calendarAfter, dateAfter, bookAsks}
+use Rattle.table.specs.Table.{listedIn, listsFresh, sound, moved, rollCall, closeCall, reopenCall}
+use Rattle.measures.specs.Measures.{measureCall}
+use Rattle.measures.proofs.Kept.{asked-range, resized-sound}
+use Rattle.history.specs.Book.{Call, roll, close, reopen, measure, Book, calendarAfter, dateAfter, bookAsks}
 use Rattle.history.specs.History.{tableCall}
 use Rattle.history.proofs.Numbers.{Numbers}
 use Rattle.history.proofs.Moves.{fresh, now, Numbered, listed-now, given-most, numbersNext, moves}
 use Rattle.history.proofs.Soundness.{Opened, at-used, is-sound}
 use Rattle.history.proofs.Calls.{rule-stays, after-opened, forward}
-use Rattle.history.proofs.Tables.{table-answer}
+use Rattle.history.proofs.Tables.{acceptedCall, eitherCall, table-answer}
 
 -- a month with a number is listed
 number-listed : (ms : List Maturity) (k : ℕ) → 1 ≤ numberOf ms k → isListed ms k ≡ true
@@ -253,12 +255,12 @@ module _ (t : Table) (s : Sound t) where
 
   -- the book that holds what the table holds
   abbrev beside : Book
-  beside = record { calendar = t .calendar; date = t .date; maturities = listedIn t; given = t .given; gone = [] }
+  beside = record { calendar = t .calendar; date = t .date; maturities = listedIn t; given = t .given; gone = []; size = t .product .size }
 
   abbrev refusal : Call → ℕ
   refusal c = firstNo (bookAsks (t .product .kind) (t .product .group) beside c)
 
-  -- an accepted call gives a sound table
+  -- the fresh listing of an accepted call's calendar and date gives a sound table
   moved-sound : (c : Call) → refusal c ≡ 0
       → sound (moved t (calendarAfter (t .calendar) c) (dateAfter (t .date) c) .table) ≡ true
   unfolding moved
@@ -269,12 +271,18 @@ module _ (t : Table) (s : Sound t) where
       (rw (rule-stays (t .calendar) (t .product .kind) (t .product .group) c)
       (moves r w (t .calendar) (t .date) (listedIn t) (t .given) (numberOf (listedIn t)) numbered cal date (forward (t .product .kind) (t .product .group) beside w c e) .numbered))
 
+  -- an accepted call gives a sound table
+  accepted-sound : sound t ≡ true → (c : Call) → refusal c ≡ 0 → sound (acceptedCall t c .table) ≡ true
+  accepted-sound e (roll date) y = moved-sound (roll date) y
+  accepted-sound e (close day) y = moved-sound (close day) y
+  accepted-sound e (reopen day) y = moved-sound (reopen day) y
+  accepted-sound e (measure u v price) y = resized-sound t _ e (asked-range (t .product .kind) (t .product .size) u v price y .size-right)
+
   called-sound : sound t ≡ true → (c : Call) → sound (tableCall t c .table) ≡ true
-  unfolding answered
-  called-sound e c = rw (table-answer t beside refl refl e c) (go (eqb (refusal c) 0) refl)
+  called-sound e c = rw (table-answer t beside refl refl refl e c) (go (eqb (refusal c) 0) refl)
     where
-      go : (b : Bool) → eqb (refusal c) 0 ≡ b → sound (cond b (moved t (calendarAfter (t .calendar) c) (dateAfter (t .date) c)) (refusedWith t (refusal c)) .table) ≡ true
-      go true q = moved-sound c (eqb-true (refusal c) 0 q)
+      go : (b : Bool) → eqb (refusal c) 0 ≡ b → sound (eitherCall b t c (refusal c) .table) ≡ true
+      go true q = accepted-sound e c (eqb-true (refusal c) 0 q)
       go false q = e
 
 module _ (t : Table) (e : sound t ≡ true) where
@@ -336,3 +344,6 @@ module _ (t : Table) (e : sound t ≡ true) where
 
   pub reopen-sound : (day : ℕ) → sound (reopenCall t day .table) ≡ true
   reopen-sound day = call-sound (reopen day)
+
+  pub measure-sound : (p q price : ℕ) → sound (measureCall t p q price .table) ≡ true
+  measure-sound p q price = call-sound (measure p q price)

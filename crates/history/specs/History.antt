@@ -1,4 +1,4 @@
--- Demand 3: one claim about every list of rolls, closes and reopenings on a table that an accepted open gave back (01, The table; the sentences that do not stand there are the demand's own). For a weekly product 'demand 3 and its book read with Fridays for months' (02, note 3): a month m is there the day number of a Friday.
+-- Demand 3: one claim about every list of rolls, closes, reopenings and measures on a table that an accepted open gave back (01, The table; the sentences that do not stand there are the demand's own). For a weekly product 'demand 3 and its book read with Fridays for months' (02, note 3): a month m is there the day number of a Friday.
 -- Assumes nothing.
 use Prim.Native.Nat.{ℕ, suc, _+_, _≤_, _<_}
 use mathlib.Core.Path.{_≡_}
@@ -19,24 +19,36 @@ use Rattle.table.specs.declared.Outcome.{Outcome}
 use Rattle.places.specs.Numbering.{isListed, numberOf, unnumbered}
 use Rattle.listing.specs.Months.{freshOf, allInCover, keysOf, weekIntoCover}
 use Rattle.table.specs.Table.{listedIn, sound, rollCall, closeCall, reopenCall, openedTable}
-use Rattle.history.specs.Book.{Call, roll, close, reopen, Reply, Book, calendarAfter, dateAfter, bookOpened, bookRun, bookReplies}
+use Rattle.measures.specs.declared.Measured.{Measured}
+use Rattle.measures.specs.Measures.{withSize, measureCall}
+use Rattle.history.specs.declared.Called.{Called}
+use Rattle.history.specs.Book.{Call, roll, close, reopen, measure, Reply, Book, calendarAfter, dateAfter, bookOpened, bookRun, bookReplies}
 
--- 'the table .. rolls and closes a day', and 'reopening of a day' (02, note 9): a call on a table
-abbrev pub tableCall : Table → Call → Outcome
-tableCall t (roll date) = rollCall t date
-tableCall t (close day) = closeCall t day
-tableCall t (reopen day) = reopenCall t day
+-- a roll, close or reopening gives no price
+abbrev pub unpriced : Outcome → Called
+unpriced o = record { refusal = o .refusal; table = o .table; entered = o .entered; left = o .left; price = 0 }
+
+-- 'A measure changes no month' (02, note 11): its counts are 0 and 0 by this definition
+abbrev pub uncounted : Measured → Called
+uncounted m = record { refusal = m .refusal; table = m .table; entered = 0; left = 0; price = m .price }
+
+-- 'the table .. rolls and closes a day', and 'reopening of a day' (02, note 9): a call on a table; a measure 'joins the calls a history may hold' (02, note 11)
+abbrev pub tableCall : Table → Call → Called
+tableCall t (roll date) = unpriced (rollCall t date)
+tableCall t (close day) = unpriced (closeCall t day)
+tableCall t (reopen day) = unpriced (reopenCall t day)
+tableCall t (measure p q price) = uncounted (measureCall t p q price)
 
 -- the table after a list of calls: 'nothing else changes the table between its calls'
 unfoldable pub tableRun : Table → List Call → Table
 tableRun t [] = t
 tableRun t (c ∷ cs) = tableRun (tableCall t c .table) cs
 
--- a call's 'acceptance or refusal number and its two counts'
-abbrev pub replyOf : Outcome → Reply
-replyOf o = record { refusal = o .refusal; entered = o .entered; left = o .left }
+-- a call's 'acceptance or refusal number and its two counts', and the price of a measure
+abbrev pub replyOf : Called → Reply
+replyOf o = record { refusal = o .refusal; entered = o .entered; left = o .left; price = o .price }
 
--- 'every call's acceptance or refusal number and its two counts'
+-- 'every call's acceptance or refusal number and its two counts', and the price of a measure
 unfoldable pub tableReplies : Table → List Call → List Reply
 tableReplies t [] = []
 tableReplies t (c ∷ cs) = replyOf (tableCall t c) ∷ tableReplies (tableCall t c .table) cs
@@ -53,7 +65,7 @@ dateOfCalls date [] rs = date
 dateOfCalls date (c ∷ cs) [] = date
 dateOfCalls date (c ∷ cs) (r ∷ rs) = dateOfCalls (cond (eqb (r .refusal) 0) (dateAfter date c) date) cs rs
 
--- what an accepted open leaves: 7 holds of the product, the cover has '1 to 16 years from 2000 to 2099', and 5, 6, 11, 24 and 16 are answered yes
+-- what an accepted open leaves: 7 holds of the product, with any size that a table may have, the cover has '1 to 16 years from 2000 to 2099', and 5, 6, 11, 24 and 16 are answered yes
 unfoldable pub opens : Product → Calendar → ℕ → Bool
 opens p cal date =
     productRight p
@@ -69,14 +81,14 @@ module _ (p : Product) (cal : Calendar) (date : ℕ) where
 
   -- the book after the same calls
   abbrev pub book : List Call → Book
-  book cs = bookRun (p .kind) (p .group) (bookOpened (p .kind) (p .group) cal date) cs
+  book cs = bookRun (p .kind) (p .group) (bookOpened (p .kind) (p .group) (p .size) cal date) cs
 
   -- the table's answers to the calls, and the book's
   abbrev pub answers : List Call → List Reply
   answers cs = tableReplies (openedTable p cal date) cs
 
   abbrev pub bookAnswers : List Call → List Reply
-  bookAnswers cs = bookReplies (p .kind) (p .group) (bookOpened (p .kind) (p .group) cal date) cs
+  bookAnswers cs = bookReplies (p .kind) (p .group) (bookOpened (p .kind) (p .group) (p .size) cal date) cs
 
   -- 'the file's calendar with the accepted closures' and reopenings
   abbrev pub calendarThen : List Call → Calendar
@@ -106,11 +118,11 @@ module _ (p : Product) (cal : Calendar) (date : ℕ) where
     pub book-maturities : after cs .maturities ≡ places15 (book cs .maturities)
     pub book-listed : listedIn (after cs) ≡ book cs .maturities
     pub book-given : after cs .given ≡ book cs .given
-    -- the product is the opened one
-    pub same-product : after cs .product ≡ p
-    -- 'so are every call's acceptance or refusal number and its two counts'
+    -- the product is the opened one but for its size: 'the table's size after the list is the book's' (02, note 11)
+    pub product : after cs .product ≡ withSize p (book cs .size)
+    -- 'so are every call's acceptance or refusal number and its two counts'; and the price: the book 'answers a measure as this note says' (02, note 11)
     pub replies : answers cs ≡ bookAnswers cs
-    -- 'months and last trading days equal a listing made afresh from the opened product, the file's calendar with the accepted closures, and the date of the last accepted roll (or the opening)'; the days stepped back too (02, note 2)
+    -- 'months and last trading days equal a listing made afresh from the opened product, the file's calendar with the accepted closures, and the date of the last accepted roll (or the opening)'; the days stepped back too (02, note 2); 'with the product as changed' (02, note 11), whose kind and group are the opened one's
     pub calendar-is : after cs .calendar ≡ calendarThen cs
     pub date-is : after cs .date ≡ dateThen cs
     pub fresh : unnumbered (listedIn (after cs)) ≡ freshOf (calendarThen cs) (p .kind) (p .group) (dateThen cs)

@@ -1,4 +1,4 @@
--- A history that starts at the file: the open, the calls of a lent list, and what a lent buffer then holds of their answers.
+-- A history that starts at the file: the open, the calls of a lent list, and what a lent buffer then holds of their answers (01, The table; 02, notes 9 and 11).
 -- Assumes nothing.
 use Prim.Native.Nat.{ℕ, _%_}
 use mathlib.Core.Path.{_≡_}
@@ -10,34 +10,37 @@ use Rattle.years.specs.Calendars.{calendarOf}
 use Rattle.master.specs.Load.{productOf}
 use Rattle.table.specs.Table.{openedTable, openCall}
 use Rattle.history.specs.declared.Replay.{Replay}
-use Rattle.history.specs.Book.{Call, roll, close, reopen, Reply}
+use Rattle.history.specs.Book.{Call, roll, close, reopen, measure, Reply}
 use Rattle.history.specs.History.{tableRun, tableReplies, Demand3}
 
--- 'The list of rolls and closes', with reopenings among them (02, note 9), 'starts from the table that an accepted open gave back': what demand 3 says of every file, id and date with an accepted open, and every list of calls
+-- 'The list of rolls and closes', with reopenings (02, note 9) and measures (02, note 11) among them, 'starts from the table that an accepted open gave back': what demand 3 says of every file, id and date with an accepted open, and every list of calls
 pub record FromFile (f id : List ℕ) (date : ℕ) (cs ds : List Call) : Type 0 where
   pub opened : openCall f id date .table ≡ openedTable (productOf f id) (calendarOf f) date
   pub demand : Demand3 (productOf f id) (calendarOf f) date cs ds
 
--- a date or day of the lent list; a number that does not fit 16 bits is read as 65,535, which is no day
-abbrev pub dayIn : ℕ → ℕ
-dayIn number = cond (leb number 65535) number 65535
+-- a number of the lent list that a call takes in 16 bits: a date, a day, p or q; one that does not fit is read as 65,535, which is none of them
+abbrev pub shortIn : ℕ → ℕ
+shortIn number = cond (leb number 65535) number 65535
 
--- a call of the lent list by its kind and its date or day: 0 a roll, 2 a reopening, anything else a close
-abbrev pub callOf : ℕ → ℕ → Call
-callOf kind number = cond (eqb kind 0) (roll (dayIn number)) (cond (eqb kind 2) (reopen (dayIn number)) (close (dayIn number)))
+-- a call of the lent list by its kind and three numbers: 0 a roll to a date, 2 a reopening of a day, 3 a measure of p for q with a price, anything else a close of a day
+abbrev pub callOf : ℕ → ℕ → ℕ → ℕ → Call
+callOf kind first second third =
+    cond (eqb kind 0) (roll (shortIn first))
+    (cond (eqb kind 2) (reopen (shortIn first))
+    (cond (eqb kind 3) (measure (shortIn first) (shortIn second) third) (close (shortIn first))))
 
--- the calls of a lent list, four numbers each: the kind, the date or day, and two that no call reads
+-- the calls of a lent list, four numbers each: the kind and three more, of which only a measure reads the last two
 unfoldable pub callsOf : List ℕ → List Call
-callsOf (kind ∷ number ∷ x ∷ y ∷ rest) = callOf kind number ∷ callsOf rest
-callsOf (kind ∷ number ∷ x ∷ []) = []
-callsOf (kind ∷ number ∷ []) = []
+callsOf (kind ∷ first ∷ second ∷ third ∷ rest) = callOf kind first second third ∷ callsOf rest
+callsOf (kind ∷ first ∷ second ∷ []) = []
+callsOf (kind ∷ first ∷ []) = []
 callsOf (kind ∷ []) = []
 callsOf [] = []
 
--- the answers as numbers, four for each call: refusal, entered, left, and 0
+-- the answers as numbers, four for each call: refusal, entered, left, price
 unfoldable pub numbersOf : List Reply → List ℕ
 numbersOf [] = []
-numbersOf (r ∷ rs) = r .refusal ∷ r .entered ∷ r .left ∷ 0 ∷ numbersOf rs
+numbersOf (r ∷ rs) = r .refusal ∷ r .entered ∷ r .left ∷ r .price ∷ numbersOf rs
 
 -- the list holds whole calls, and the buffer has four places for each
 unfoldable pub replayFits : List ℕ → List ℕ → Bool

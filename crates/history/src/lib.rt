@@ -1,12 +1,22 @@
 // The history of a table: a table is opened, and a list of calls is run on it.
+use measures::Measured;
 use table::Outcome;
 use table::Table;
 ghost use mathlib.Core.Path.{_≡_};
 ghost use Prim.Native.Nat.{_+_, _*_, _≤_, _<_};
 ghost use lib.ListN.{length, set};
 ghost use Rattle.table.specs.Table.{openCall};
-ghost use Rattle.history.specs.History.{tableCall};
-ghost use Rattle.history.specs.Replay.{dayIn, callOf, Replayed};
+ghost use Rattle.history.specs.History.{unpriced, uncounted, tableCall};
+ghost use Rattle.history.specs.Replay.{shortIn, callOf, Replayed};
+
+// What a call gives back: the number of its refusal, 0 where it is accepted, the table, the counts of months that entered and that left, and the price of a measure.
+pub struct Called {
+    pub refusal: u8,
+    pub table: Table,
+    pub entered: u16,
+    pub left: u16,
+    pub price: u32,
+}
 
 // What a run of calls ends with: whether the lists fit each other and the buffer, open's refusal, and the table.
 pub struct Replay {
@@ -15,9 +25,9 @@ pub struct Replay {
     pub table: Table,
 }
 
-// A date or day of a lent list; a number that does not fit 16 bits is read as 65,535, which is no day.
-fn day_in(number: u32) -> u16
-    ensures { λ r. ⌜ r ≡ dayIn number ⌝ }
+// A number of a lent list that a call takes in 16 bits: a date, a day, p or q. One that does not fit is read as 65,535, which is none of them.
+fn short_in(number: u32) -> u16
+    ensures { λ r. ⌜ r ≡ shortIn number ⌝ }
 {
     if 65535 < number {
         return 65535;
@@ -25,30 +35,61 @@ fn day_in(number: u32) -> u16
     number as u16
 }
 
-// One call: 0 rolls to a date, 2 reopens a day, anything else closes a day.
-pub fn call(t: Table, kind: u32, number: u32) -> Outcome
-    ensures { λ r. ⌜ r ≡ tableCall t (callOf kind number) ⌝ }
+// A roll, close or reopening gives no price.
+fn without_price(o: Outcome) -> Called
+    ensures { λ r. ⌜ r ≡ unpriced o ⌝ }
 {
-    let day = day_in(number);
-    if kind == 0 {
-        return t.roll(day);
+    let table = o.table;
+    Called {
+        refusal: o.refusal,
+        table,
+        entered: o.entered,
+        left: o.left,
+        price: 0,
     }
-    if kind == 2 {
-        return t.reopen(day);
-    }
-    t.close(day)
 }
 
-// A call's number and its two counts go to the four places of call i.
-fn write_reply(buffer: &mut [u32], i: usize, refusal: u8, entered: u16, left: u16)
+// No month enters or leaves in a measure.
+fn without_counts(m: Measured) -> Called
+    ensures { λ r. ⌜ r ≡ uncounted m ⌝ }
+{
+    let table = m.table;
+    Called {
+        refusal: m.refusal,
+        table,
+        entered: 0,
+        left: 0,
+        price: m.price,
+    }
+}
+
+// One call: 0 rolls to a date, 2 reopens a day, 3 is a measure of p for q with a price, anything else closes a day.
+pub fn call(t: Table, kind: u32, first: u32, second: u32, third: u32) -> Called
+    ensures { λ r. ⌜ r ≡ tableCall t (callOf kind first second third) ⌝ }
+{
+    let number = short_in(first);
+    if kind == 0 {
+        return without_price(t.roll(number));
+    }
+    if kind == 2 {
+        return without_price(t.reopen(number));
+    }
+    if kind == 3 {
+        return without_counts(measures::measure(t, number, short_in(second), third));
+    }
+    without_price(t.close(number))
+}
+
+// A call's number, its two counts and its price go to the four places of call i.
+fn write_reply(buffer: &mut [u32], i: usize, refusal: u8, entered: u16, left: u16, price: u32)
     requires { ⌜ 4 * i + 4 ≤ length (now buffer) ⌝ }
-    ensures { λ _. ⌜ now (buffer .exit) ≡ set (set (set (set (now (buffer .entry)) (4 * i) refusal) (4 * i + 1) entered) (4 * i + 2) left) (4 * i + 3) 0 ⌝ }
+    ensures { λ _. ⌜ now (buffer .exit) ≡ set (set (set (set (now (buffer .entry)) (4 * i) refusal) (4 * i + 1) entered) (4 * i + 2) left) (4 * i + 3) price ⌝ }
 {
     let at = 4 * i;
     buffer[at] = refusal as u32;
     buffer[at + 1] = entered as u32;
     buffer[at + 2] = left as u32;
-    buffer[at + 3] = 0;
+    buffer[at + 3] = price;
 }
 
 // A table opened from a file.
@@ -58,7 +99,7 @@ fn open_table(file: &[u8], id: [u8; 4], date: u16) -> Outcome
     table::zero_table().open(file, id, date)
 }
 
-// Opens a table and runs the calls of a lent list on it, four numbers each, and writes each call's number and counts to a lent buffer, four numbers each.
+// Opens a table and runs the calls of a lent list on it, four numbers each, and writes each call's number, counts and price to a lent buffer, four numbers each.
 pub fn run(file: &[u8], id: [u8; 4], date: u16, calls: &[u32], buffer: &mut [u32]) -> Replay
     ensures { λ r. ⌜ Replayed (now (file .entry)) id date (now (calls .entry)) (now (buffer .entry)) (now (buffer .exit)) r ⌝ }
 {
@@ -83,8 +124,8 @@ pub fn run(file: &[u8], id: [u8; 4], date: u16, calls: &[u32], buffer: &mut [u32
     let mut i: usize = 0;
     while i < n / 4 {
         let at = 4 * i;
-        let o = call(t, calls[at], calls[at + 1]);
-        write_reply(buffer, i, o.refusal, o.entered, o.left);
+        let o = call(t, calls[at], calls[at + 1], calls[at + 2], calls[at + 3]);
+        write_reply(buffer, i, o.refusal, o.entered, o.left, o.price);
         t = o.table;
         i += 1;
     }

@@ -1,4 +1,4 @@
--- The products of a master file (01, Master file).
+-- The products of a master file (01, Master file; 02, note 11).
 -- Assumes nothing.
 use Prim.Native.Nat.{ℕ}
 use mathlib.Core.Bool.{Bool, _&&_}
@@ -13,7 +13,7 @@ use Rattle.product.specs.declared.KindAnswer.{KindAnswer}
 use Rattle.product.specs.declared.KindAnswer.the-variants.{Is, NotAKind}
 use Rattle.product.specs.declared.Product.{Product}
 use Rattle.blocks.specs.Blocks.{blockOf, numberAt}
-use Rattle.records.specs.Records.{recordOf, threeBytes, fourBytes}
+use Rattle.records.specs.Records.{recordOf, threeBytes, fourBytes, sizeAt}
 
 -- two ids are the same
 unfoldable pub sameId : List ℕ → List ℕ → Bool
@@ -32,7 +32,7 @@ productFrom r =
       group = fourBytes r 4;
       market = fourBytes r 8;
       kind = kindOr (kindOf (getD r 12 0));
-      size = numberAt r 13;
+      size = sizeAt r;
       tick = numberAt r 15;
       currency = threeBytes r 17;
     }

@@ -138,7 +138,7 @@ fn product_from(r: &[u8]) -> Product
     let group = records::four_at(r, 4);
     let market = records::four_at(r, 8);
     let kind = kind_or_future(product::kind_of(blocks::byte_at(r, 12)));
-    let size = records::field_at(r, 13);
+    let size = records::size_at(r);
     let tick = records::field_at(r, 15);
     let currency = records::three_at(r, 17);
     Product {

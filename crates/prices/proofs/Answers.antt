@@ -2,17 +2,18 @@
 -- Assumes nothing.
 use mathlib.Core.Path.{_≡_}
 use mathlib.Core.Bool.{Bool, true, false, _&&_}
-use Prim.Native.Nat.{ℕ}
-use lib.IntN.{ℤ}
+use Prim.Native.Nat.{ℕ, _*_}
 use Rattle.questions.specs.Questions.{firstNo}
 use Rattle.questions.proofs.Asks.{accepted, refused}
 use Rattle.questions.proofs.Bools.{and-fst, and-snd, and-both}
 use Rattle.product.specs.declared.Product.{Product}
 use Rattle.product.specs.Fields.{idRight, groupRight, marketRight, kindRight, sizeRight, tickRight, currencyRight, kindNumber, fieldsRight, productRight, isFuture}
-use Rattle.product.specs.Prices.{priceRight, multipleOf, finalRight, contractsRight, cashAdmitted, cashOf}
+use Rattle.amounts.specs.declared.Amount.{Amount}
+use Rattle.amounts.specs.Prices.{priceRight, multipleOf, finalRight, contractsRight, cashAmount, cashParts, noAmount, cashAdmitted, cashOf}
+use Rattle.amounts.proofs.CashParts.{whole-size}
 use Rattle.table.specs.declared.Table.{Table}
 use Rattle.table.specs.Table.{sound}
-use Rattle.prices.specs.Prices.{noCash, tickCall, cashAsks, cashCall}
+use Rattle.prices.specs.Prices.{noCash, tickCall, cashAsks, cashCall, WholeCash}
 use Rattle.table.proofs.Calls.{sound-parts}
 
 -- the tick, by its first question answered no
@@ -87,6 +88,14 @@ module _ (t : Table) (contracts agreed final : ℕ) where
                 let s = size-in-range (t .product) (sound-parts t a .fields) in
                 and-both (and-both (and-both b (and-fst (finalRight final) (contractsRight contracts) f)) (and-snd (finalRight final) (contractsRight contracts) f)) s
 
-            pub cash-yes : (amount : ℤ) → amount ≡ cashOf contracts (t .product .size) agreed final → cashCall t contracts agreed final ≡ record { refusal = 0; value = amount }
+            pub cash-yes : (amount : Amount) → amount ≡ cashOf contracts (t .product .size) agreed final → cashCall t contracts agreed final ≡ record { refusal = 0; value = amount }
             unfolding cashCall cashAsks firstNo cashOf
             cash-yes amount q = rw (q, cash-numbers) (accepted (cashAsks t contracts agreed final) _ _ (rw (a, b, d, e, f)))
+
+  -- 'whole sizes give the old amount and rest 0'
+  pub whole-cash : (shares : ℕ) → t .product .size ≡ 10000 * shares → firstNo (cashAsks t contracts agreed final) ≡ 0 → WholeCash t contracts agreed final shares
+  unfolding cashCall
+  whole-cash shares e asked =
+      let w = whole-size contracts shares agreed final in
+      let is = accepted (cashAsks t contracts agreed final) noAmount (cashParts (cashAmount contracts (t .product .size) agreed final)) asked in
+      record { amount = rw (is, e) (w .amount); rest = rw (is, e) (w .rest) }

@@ -1,13 +1,14 @@
 // Calls about prices that leave the table as it is: tick and cash.
+use amounts::Amount;
 use table::Table;
 use table::is_sound;
 ghost use mathlib.Core.Path.{_≡_};
 ghost use Rattle.prices.specs.Prices.{cashReply, noCash, tickCall, cashCall};
 
-// The number of a refusal, or 0 and an amount, positive where the seller pays the buyer.
+// The number of a refusal, or 0 and the cash, positive where the seller pays the buyer.
 pub struct CashReply {
     pub refusal: u8,
-    pub amount: i64,
+    pub cash: Amount,
 }
 
 fn no_cash(number: u8) -> CashReply
@@ -15,7 +16,11 @@ fn no_cash(number: u8) -> CashReply
 {
     CashReply {
         refusal: number,
-        amount: 0,
+        cash: Amount {
+            negative: false,
+            amount: 0,
+            rest: 0,
+        },
     }
 }
 
@@ -26,10 +31,10 @@ pub fn tick(t: Table, price: u32) -> u8
     if !is_sound(t) {
         return 10;
     }
-    if !product::price_right(price) {
+    if !amounts::price_right(price) {
         return 19;
     }
-    if !product::is_multiple(price, t.product.tick) {
+    if !amounts::is_multiple(price, t.product.tick) {
         return 20;
     }
     0
@@ -42,20 +47,20 @@ pub fn cash(t: Table, contracts: u32, agreed: u32, final_price: u32) -> CashRepl
     if !is_sound(t) {
         return no_cash(10);
     }
-    if !product::price_right(agreed) {
+    if !amounts::price_right(agreed) {
         return no_cash(19);
     }
     let p = t.product;
     let kind = p.kind;
-    if !product::is_multiple(agreed, p.tick) {
+    if !amounts::is_multiple(agreed, p.tick) {
         return no_cash(20);
     }
     if !product::is_future(kind) {
         return no_cash(21);
     }
-    if !(product::final_right(final_price) & product::contracts_right(contracts)) {
+    if !(amounts::final_right(final_price) & amounts::contracts_right(contracts)) {
         return no_cash(22);
     }
-    let amount = product::cash(contracts, p.size, agreed, final_price);
-    CashReply { refusal: 0, amount }
+    let cash = amounts::cash(contracts, p.size, agreed, final_price);
+    CashReply { refusal: 0, cash }
 }

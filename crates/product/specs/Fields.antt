@@ -1,4 +1,4 @@
--- The kinds, and what question 7 says of each field of a product record (01, Listed months; Master file; Questions, 7; 02, notes 1 and 3).
+-- The kinds, and what question 7 says of each field of a product record (01, Listed months; Master file; Questions, 7; 02, notes 1, 3 and 11).
 -- Assumes nothing.
 use Prim.Native.Nat.{ℕ}
 use mathlib.Core.Bool.{Bool, true, false, _&&_, _||_, cond}
@@ -102,9 +102,13 @@ marketRight market = every 4 (λ i. letter (getD market i 0))
 abbrev pub kindRight : ℕ → Bool
 kindRight kind = leb kind 5
 
--- 'contract size in shares, 1–65,535'
+-- 'a table's size may fall as low as one ten-thousandth', and reaches 65,535.9999 shares (02, note 11); in ten-thousandths of a share
 abbrev pub sizeRight : ℕ → Bool
-sizeRight size = leb 1 size && leb size 65535
+sizeRight size = leb 1 size && leb size 655359999
+
+-- 'contract size in shares, 1–65,535'; 'record bytes 20–21 hold 0 to 9,999 .. and question 7 says so; .. a file's [size] not below one share' (02, note 11)
+abbrev pub fileSizeRight : ℕ → ℕ → Bool
+fileSizeRight shares part = leb 1 shares && leb shares 65535 && leb part 9999
 
 -- 'tick in 1/10,000 of the currency, one of 1, 5, 10, 100'
 unfoldable pub tickRight : ℕ → Bool
@@ -143,7 +147,7 @@ GBX = 71 ∷ 66 ∷ 88 ∷ []
 unfoldable pub currencyRight : List ℕ → Bool
 currencyRight currency = oneOfCodes (EUR ∷ CHF ∷ USD ∷ GBP ∷ GBX ∷ []) currency
 
--- 7 'Is every record .. as stated?', of the fields in the record's order: id, group, cash market, kind, contract size, tick, currency
+-- 7 'Is every record .. as stated?', of the fields in the record's order: id, group, cash market, kind, contract size, tick, currency; the size in ten-thousandths and as a table may have it: of a file's there is `fileSizeRight` besides (02, note 11)
 unfoldable pub fieldsRight : List ℕ → List ℕ → List ℕ → ℕ → ℕ → ℕ → List ℕ → Bool
 fieldsRight id group market kind size tick currency =
     idRight id
@@ -154,7 +158,7 @@ fieldsRight id group market kind size tick currency =
     && tickRight tick
     && currencyRight currency
 
--- 7 'Is every record .. as stated?', of a product
+-- 'product fields .. satisfy question .. 7', of a product, whose size may be below one share (02, note 11)
 unfoldable pub productRight : Product → Bool
 productRight p =
     fieldsRight (p .id) (p .group) (p .market) (kindNumber (p .kind)) (p .size) (p .tick) (p .currency)

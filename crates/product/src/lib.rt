@@ -1,10 +1,9 @@
-// Products: their kinds and fields, the Italian groups, the days to settlement, ticks and cash.
+// Products: their kinds and fields, the Italian groups and the days to settlement.
 ghost use mathlib.Core.Path.{_≡_};
 ghost use mathlib.Core.List.{[], _∷_};
 ghost use Prim.Native.Nat.{_+_, _*_, _<_};
-ghost use Rattle.product.specs.Fields.{kindNumber, kindOf, isFuture, isWeekly, letter, digit, idCharacter, idByte, idOf, idRight, firstDigit, groupRight, marketRight, kindRight, sizeRight, tickRight, isCode, currencyRight, fieldsRight, productRight};
+ghost use Rattle.product.specs.Fields.{kindNumber, kindOf, isFuture, isWeekly, letter, digit, idCharacter, idByte, idOf, idRight, firstDigit, groupRight, marketRight, kindRight, sizeRight, fileSizeRight, tickRight, isCode, currencyRight, fieldsRight, productRight};
 ghost use Rattle.product.specs.Settlement.{italian, groupNumber, optionDays, settlementDays};
-ghost use Rattle.product.specs.Prices.{priceRight, multipleOf, finalRight, contractsRight, cashAdmitted, cashOf};
 
 // The country codes that days to settlement tell apart: two bytes as one number.
 const DE: u16 = 0x4445;
@@ -41,13 +40,13 @@ pub enum KindAnswer {
     NotAKind,
 }
 
-// A product's fields, as in its record.
+// A product's fields, as in its record; the size in ten-thousandths of a share.
 pub struct Product {
     pub id: [u8; 4],
     pub group: [u8; 4],
     pub market: [u8; 4],
     pub kind: Kind,
-    pub size: u16,
+    pub size: u32,
     pub tick: u16,
     pub currency: [u8; 3],
 }
@@ -198,11 +197,18 @@ pub fn kind_right(kind: u8) -> bool
     kind <= 5
 }
 
-// Question 7, the contract size.
-pub fn size_right(size: u16) -> bool
+// The size of a table's product, in ten-thousandths of a share.
+pub fn size_right(size: u32) -> bool
     ensures { λ r. ⌜ r ≡ sizeRight size ⌝ }
 {
-    1 <= size
+    (1 <= size) & (size <= 655359999)
+}
+
+// Question 7, the size in a record: whole shares, and ten-thousandths beside them.
+pub fn file_size_right(shares: u16, part: u16) -> bool
+    ensures { λ r. ⌜ r ≡ fileSizeRight shares part ⌝ }
+{
+    (1 <= shares) & (part <= 9999)
 }
 
 // Question 7, the tick.
@@ -236,7 +242,7 @@ pub fn fields_right(
     group: [u8; 4],
     market: [u8; 4],
     kind: u8,
-    size: u16,
+    size: u32,
     tick: u16,
     currency: [u8; 3],
 ) -> bool
@@ -333,52 +339,4 @@ pub fn settlement_days(kind: Kind, group: [u8; 4]) -> u8
         Kind::Future(_) => 1,
         Kind::Option(_) => option_days(group),
     }
-}
-
-// Question 19.
-pub fn price_right(price: u32) -> bool
-    ensures { λ r. ⌜ r ≡ priceRight price ⌝ }
-{
-    (1 <= price) & (price <= 999999999)
-}
-
-// Question 20; a tick of 0 has no multiple.
-pub fn is_multiple(price: u32, tick: u16) -> bool
-    ensures { λ r. ⌜ r ≡ multipleOf tick price ⌝ }
-{
-    if tick == 0 {
-        return false;
-    }
-    price % (tick as u32) == 0
-}
-
-// Question 22, the final price.
-pub fn final_right(price: u32) -> bool
-    ensures { λ r. ⌜ r ≡ finalRight price ⌝ }
-{
-    price <= 999999999
-}
-
-// Question 22, the contracts.
-pub fn contracts_right(contracts: u32) -> bool
-    ensures { λ r. ⌜ r ≡ contractsRight contracts ⌝ }
-{
-    (1 <= contracts) & (contracts <= 100000)
-}
-
-// The numbers that cash is defined for.
-pub fn cash_admitted(contracts: u32, size: u16, agreed: u32, final_price: u32) -> bool
-    ensures { λ r. ⌜ r ≡ cashAdmitted contracts size agreed «final_price» ⌝ }
-{
-    price_right(agreed) & final_right(final_price) & contracts_right(contracts) & size_right(size)
-}
-
-// Cash, positive where the seller pays the buyer; 0 for numbers that are not admitted.
-pub fn cash(contracts: u32, size: u16, agreed: u32, final_price: u32) -> i64
-    ensures { λ r. ⌜ r ≡ cashOf contracts size agreed «final_price» ⌝ }
-{
-    if !cash_admitted(contracts, size, agreed, final_price) {
-        return 0;
-    }
-    (contracts as i64) * (size as i64) * ((final_price as i64) - (agreed as i64))
 }

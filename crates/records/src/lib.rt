@@ -6,7 +6,7 @@ ghost use lib.Dec.{eqb};
 ghost use lib.ListN.{length};
 ghost use Rattle.questions.specs.Search.{every};
 ghost use Rattle.blocks.specs.Blocks.{blockCount, blockOf, isProducts, numberAt};
-ghost use Rattle.records.specs.Records.{recordOf, threeBytes, fourBytes, recordRight, recordPlaceRight, recordsRight, productsRight};
+ghost use Rattle.records.specs.Records.{recordOf, threeBytes, fourBytes, sizeAt, recordRight, recordPlaceRight, recordsRight, productsRight};
 
 // Record k of a lent block; no bytes where it has no such place.
 fn block_record(b: &[u8], k: usize) -> &[u8]
@@ -67,6 +67,15 @@ pub fn field_at(bytes: &[u8], at: u16) -> u16
     blocks::number_at(bytes, at) as u16
 }
 
+// The size in a record, in ten-thousandths of a share.
+pub fn size_at(r: &[u8]) -> u32
+    ensures { λ x. ⌜ x ≡ sizeAt (now (r .entry)) ⌝ }
+{
+    let shares = field_at(r, 13);
+    let part = field_at(r, 20);
+    10000 * (shares as u32) + (part as u32)
+}
+
 // Whether a record is as stated.
 pub fn record_right(r: &[u8]) -> bool
     ensures { λ x. ⌜ x ≡ recordRight (now (r .entry)) ⌝ }
@@ -76,11 +85,12 @@ pub fn record_right(r: &[u8]) -> bool
         four_at(r, 4),
         four_at(r, 8),
         blocks::byte_at(r, 12),
-        field_at(r, 13),
+        size_at(r),
         field_at(r, 15),
         three_at(r, 17),
     )
-        & blocks::are_zero(r, 20, 12)
+        & product::file_size_right(field_at(r, 13), field_at(r, 20))
+        & blocks::are_zero(r, 22, 10)
 }
 
 // Whether a place of a lent block holds a record as stated, or is unused and zero.

@@ -1,6 +1,8 @@
 // The calls of a script on the table.
+use crate::reading::four;
 use crate::reading::read_master;
 use crate::reading::two;
+use crate::show::put_measured;
 use crate::show::put_outcome;
 use table::Table;
 
@@ -39,5 +41,16 @@ pub(crate) fn reopen(t: Table, day: u16) -> Table {
     let o = t.reopen(day);
     put_outcome(b'E', o);
     let next = o.table;
+    next
+}
+
+// p, q and the price stand where cash has its three numbers.
+pub(crate) fn measure(t: Table, bytes: [u8; 16]) -> Table {
+    let p = two(bytes[6], bytes[7]);
+    let q = two(bytes[10], bytes[11]);
+    let price = four(bytes[12], bytes[13], bytes[14], bytes[15]);
+    let m = measures::measure(t, p, q, price);
+    put_measured(m);
+    let next = m.table;
     next
 }

@@ -1,6 +1,7 @@
 // Tables with one field changed.
 use crate::text::end_line;
 use crate::text::put;
+use crate::text::put_long;
 use crate::text::start_line;
 use calendar::Calendar;
 use listing::Maturity;
@@ -98,7 +99,7 @@ fn with_kind(p: Product, number: u8) -> Product {
     }
 }
 
-fn with_size(p: Product, size: u16) -> Product {
+fn with_size(p: Product, size: u32) -> Product {
     let mut changed = p;
     changed.size = size;
     changed
@@ -122,7 +123,7 @@ fn with_currency(p: Product, i: u16, byte: u8) -> Product {
 }
 
 // The product with one field changed.
-fn damage_product(p: Product, field: u8, i: u16, value: u16) -> Product {
+fn damage_product(p: Product, field: u8, i: u16, value: u32) -> Product {
     let byte = (value % 256) as u8;
     match field {
         ID => with_id(p, i, byte),
@@ -130,7 +131,7 @@ fn damage_product(p: Product, field: u8, i: u16, value: u16) -> Product {
         MARKET => with_market(p, i, byte),
         KIND => with_kind(p, byte),
         SIZE => with_size(p, value),
-        TICK => with_tick(p, value),
+        TICK => with_tick(p, (value % 65536) as u16),
         CURRENCY => with_currency(p, i, byte),
         _ => p,
     }
@@ -234,24 +235,25 @@ fn number_if(field: u8, changed: u8, number: u16, value: u16) -> u16 {
     number
 }
 
-// The table with one field changed: i is the place in it, where it has places.
-pub(crate) fn damage(t: Table, field: u8, i: u16, value: u16) -> Table {
+// The table with one field changed: i is the place in it, where it has places. All fields but the size have 16 bits or fewer.
+pub(crate) fn damage(t: Table, field: u8, i: u16, value: u32) -> Table {
     let p = t.product;
     let cal = t.calendar;
     let old = t.maturities;
     start_line(b'D');
     put(field as u16);
     put(i);
-    put(value);
+    put_long(value);
     end_line();
+    let short = (value % 65536) as u16;
     let product = damage_product(p, field, i, value);
-    let calendar = damage_calendar(cal, field, i, value);
-    let maturities = damage_maturities(old, field, i, value);
+    let calendar = damage_calendar(cal, field, i, short);
+    let maturities = damage_maturities(old, field, i, short);
     Table {
         product,
         calendar,
-        date: number_if(field, DATE, t.date, value),
+        date: number_if(field, DATE, t.date, short),
         maturities,
-        given: number_if(field, GIVEN, t.given, value),
+        given: number_if(field, GIVEN, t.given, short),
     }
 }

@@ -24,7 +24,7 @@ fn at_most(number: u16, most: u16) -> usize
     number as usize
 }
 
-// A call's kind, from the letter of its record: 0 for a roll, 2 for a reopening, 1 for a close.
+// A call's kind, from the letter of its record: 0 for a roll, 2 for a reopening, 3 for a measure, 1 for a close.
 fn kind_of(letter: u8) -> u32 {
     if letter == b'R' {
         return 0;
@@ -32,10 +32,23 @@ fn kind_of(letter: u8) -> u32 {
     if letter == b'E' {
         return 2;
     }
+    if letter == b'Z' {
+        return 3;
+    }
     1
 }
 
-// The calls of the next n records, four numbers each: the kind, the date or day, and two that stay 0.
+// The four numbers of a call: the kind, and three as they stand in its record.
+fn call_in(bytes: [u8; 16]) -> [u32; 4] {
+    [
+        kind_of(bytes[0]),
+        four(bytes[4], bytes[5], bytes[6], bytes[7]),
+        four(bytes[8], bytes[9], bytes[10], bytes[11]),
+        four(bytes[12], bytes[13], bytes[14], bytes[15]),
+    ]
+}
+
+// The calls of the next n records, four numbers each.
 fn read_calls(fd: i32, n: usize) -> [u32; 1024]
     requires { ⌜ n ≤ 256 ⌝ }
     ensures { λ r. ⌜ length r ≡ 1024 ⌝ }
@@ -45,14 +58,17 @@ fn read_calls(fd: i32, n: usize) -> [u32; 1024]
     while i < n {
         let record = next(fd);
         let bytes = record.bytes;
-        calls[4 * i] = kind_of(bytes[0]);
-        calls[4 * i + 1] = four(0, bytes[1], bytes[2], bytes[3]);
+        let numbers = call_in(bytes);
+        calls[4 * i] = numbers[0];
+        calls[4 * i + 1] = numbers[1];
+        calls[4 * i + 2] = numbers[2];
+        calls[4 * i + 3] = numbers[3];
         i += 1;
     }
     calls
 }
 
-// The answer of each call: refusal, entered, left. The fourth number is 0 for these calls.
+// The answer of each call: refusal, entered, left, price.
 fn put_answers(answers: [u32; 1024], n: usize)
     requires { ⌜ n ≤ 256 ⌝ }
 {
@@ -62,6 +78,7 @@ fn put_answers(answers: [u32; 1024], n: usize)
         put_long(answers[4 * i]);
         put_long(answers[4 * i + 1]);
         put_long(answers[4 * i + 2]);
+        put_long(answers[4 * i + 3]);
         end_line();
         i += 1;
     }

@@ -7,6 +7,7 @@ mod show;
 mod text;
 mod value_calls;
 
+use reading::four;
 use reading::two;
 use table::Table;
 use text::end_line;
@@ -20,6 +21,8 @@ const ROLL: u8 = b'R';
 const CLOSE: u8 = b'C';
 
 const REOPEN: u8 = b'E';
+
+const MEASURE: u8 = b'Z';
 
 const DAMAGE: u8 = b'D';
 
@@ -39,12 +42,14 @@ pub struct State {
 fn table_step(fd: i32, bytes: [u8; 16], t: Table) -> Table {
     let operation = bytes[0];
     let number = two(bytes[2], bytes[3]);
+    let value = four(bytes[4], bytes[5], bytes[6], bytes[7]);
     match operation {
         OPEN => calls::open(bytes),
         ROLL => calls::roll(t, number),
         CLOSE => calls::close(t, number),
         REOPEN => calls::reopen(t, number),
-        DAMAGE => damage::damage(t, bytes[1], number, two(bytes[4], bytes[5])),
+        MEASURE => calls::measure(t, bytes),
+        DAMAGE => damage::damage(t, bytes[1], number, value),
         HISTORY => histories::run(fd, bytes),
         _ => t,
     }

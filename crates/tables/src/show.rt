@@ -1,9 +1,10 @@
-// The line of a table: date, given, first year, years, the sums of the closed days and of the product, all 15 maturities, and the sum of the second map where it is not 0.
+// The line of a table: date, given, first year, years, the sums of the closed days and of the product, the size, all 15 maturities, and the sum of the second map where it is not 0.
 use crate::text::end_line;
 use crate::text::put;
 use crate::text::put_long;
 use crate::text::start_line;
 use listing::Maturity;
+use measures::Measured;
 use product::Product;
 use table::Outcome;
 use table::Table;
@@ -49,7 +50,7 @@ fn mix_bytes(sum: u32, bytes: [u8; 4]) -> u32
     )
 }
 
-// The sum of a product's fields.
+// The sum of a product's fields but its size.
 fn product_sum(p: Product) -> u32 {
     let id = p.id;
     let group = p.group;
@@ -65,7 +66,7 @@ fn product_sum(p: Product) -> u32 {
         currency[1],
         currency[2],
     ];
-    mix(mix(mix_bytes(markets, codes), p.size as u32), p.tick as u32)
+    mix(mix_bytes(markets, codes), p.tick as u32)
 }
 
 fn put_maturities(maturities: [Maturity; 15]) {
@@ -96,6 +97,7 @@ pub(crate) fn put_table(t: Table) {
     put(cover.years);
     put_long(map_sum(&cal.closed));
     put_long(product_sum(p));
+    put_long(p.size);
     put_maturities(maturities);
     put_second(map_sum(&cal.exchange));
 }
@@ -107,6 +109,16 @@ pub(crate) fn put_outcome(letter: u8, o: Outcome) {
     put(o.refusal as u16);
     put(o.entered);
     put(o.left);
+    put_table(t);
+    end_line();
+}
+
+// Refusal, the new price and the table.
+pub(crate) fn put_measured(m: Measured) {
+    let t = m.table;
+    start_line(b'Z');
+    put(m.refusal as u16);
+    put_long(m.price);
     put_table(t);
     end_line();
 }

@@ -3,8 +3,9 @@ use crate::reading::four;
 use crate::reading::two;
 use crate::text::end_line;
 use crate::text::put;
-use crate::text::put_signed;
+use crate::text::put_wide;
 use crate::text::start_line;
+use amounts::Amount;
 use table::Table;
 
 // The letters of the operations.
@@ -40,11 +41,23 @@ fn tick(t: Table, price: u32) {
     end_line();
 }
 
+// 1 where the sign is negative and 0 where it is positive, the amount and the rest.
+fn put_cash(cash: Amount) {
+    if cash.negative {
+        put(1);
+    } else {
+        put(0);
+    }
+    put_wide(cash.amount);
+    put(cash.rest);
+}
+
 fn cash(t: Table, contracts: u32, agreed: u32, last: u32) {
     let r = prices::cash(t, contracts, agreed, last);
+    let cash = r.cash;
     start_line(b'Q');
     put(r.refusal as u16);
-    put_signed(r.amount);
+    put_cash(cash);
     end_line();
 }
 

@@ -1,10 +1,10 @@
--- What writing owes: 'The file holds what was handed in, and loading it gives the counts. Writing out what an accepted file holds gives that same file wherever all its product blocks but the last are full' (02, note 7).
+-- What writing owes: 'The file holds what was handed in, and loading it gives the counts. Writing out what an accepted file holds gives that same file wherever all its product blocks but the last are full' (02, note 7); sizes as of note 11.
 -- Assumes nothing.
 use Prim.Native.Nat.{ℕ, zero, suc, _+_, _-_, _*_, _/_, _≤_}
 use mathlib.Core.Path.{_≡_}
 use mathlib.Core.Bool.{Bool, true, _&&_, cond}
 use mathlib.Core.List.{List, [], _++_}
-use lib.Dec.{eqb, ltb}
+use lib.Dec.{eqb, leb, ltb}
 use lib.ListN.{length, take, drop, getD}
 use Rattle.questions.specs.Search.{every}
 use Rattle.calendar.specs.declared.Calendar.{Calendar}
@@ -64,8 +64,8 @@ pub record SameFile (f : List ℕ) : Type 0 where
   pub accepted : (room : ℕ) → length f ≤ room → writeCall (calendarOf f) (recordsOf f) room ≡ record { refusal = 0; value = length f }
   pub buffer : (before : List ℕ) → length f ≤ length before → bufferAfter (calendarOf f) (recordsOf f) before ≡ f ++ drop (length f) before
 
--- of a product's fields as arrays: what `record_of` writes is read as the product, and is as stated (7) where the product is
+-- of a product's fields as arrays: what `record_of` writes is read as the product, but for sizes above 65,535.9999 shares, and is as stated (7) exactly where the product is and its size is 'not below one share' (02, note 11)
 pub record RecordOf (p : Product) : Type 0 where
   pub long : length (recordBytes p) ≡ 32
-  pub read : productFrom (recordBytes p) ≡ p
-  pub right : recordRight (recordBytes p) ≡ productRight p
+  pub read : p .size ≤ 655359999 → productFrom (recordBytes p) ≡ p
+  pub right : recordRight (recordBytes p) ≡ (productRight p && leb 10000 (p .size))

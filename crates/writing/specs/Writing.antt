@@ -1,9 +1,9 @@
--- Writing a master file into a lent buffer, and the bytes of a product's record (02, note 7).
+-- Writing a master file into a lent buffer, and the bytes of a product's record (02, notes 7 and 11).
 -- Assumes nothing.
-use Prim.Native.Nat.{ℕ}
+use Prim.Native.Nat.{ℕ, _/_, _%_}
 use mathlib.Core.Bool.{cond}
 use mathlib.Core.List.{List, [], _∷_, _++_}
-use lib.Dec.{eqb}
+use lib.Dec.{eqb, leb}
 use lib.ListN.{length, drop, replicate}
 use Rattle.questions.specs.Questions.{firstNo, Answer, answer}
 use Rattle.calendar.specs.declared.Calendar.{Calendar}
@@ -28,17 +28,22 @@ bufferAfter cal records before =
     (fileOf cal records ++ drop (length (fileOf cal records)) before)
     before
 
--- 'Record bytes: 0–3 product id .. 4–7 group .. 8–11 cash market .. 12 kind .. 13–14 contract size .. 15–16 tick .. 17–19 EUR, CHF, USD, GBP or GBX; 20–31 zero', of these fields
-unfoldable pub fieldBytes : List ℕ → List ℕ → List ℕ → ℕ → ℕ → ℕ → List ℕ → List ℕ
-fieldBytes id group market kind size tick currency =
+-- 'Record bytes: 0–3 product id .. 4–7 group .. 8–11 cash market .. 12 kind .. 13–14 contract size in shares .. 15–16 tick .. 17–19 EUR, CHF, USD, GBP or GBX'; ten-thousandths of a share in 'bytes 20–21' (02, note 11); zeros after them: of these fields
+unfoldable pub fieldBytes : List ℕ → List ℕ → List ℕ → ℕ → ℕ → ℕ → List ℕ → ℕ → List ℕ
+fieldBytes id group market kind shares tick currency part =
     fourBytes id 0
     ++ fourBytes group 0
     ++ fourBytes market 0
-    ++ (kind ∷ highByte size ∷ lowByte size ∷ highByte tick ∷ lowByte tick ∷ [])
+    ++ (kind ∷ highByte shares ∷ lowByte shares ∷ highByte tick ∷ lowByte tick ∷ [])
     ++ threeBytes currency 0
-    ++ replicate 12 0
+    ++ (highByte part ∷ lowByte part ∷ [])
+    ++ replicate 10 0
+
+-- the whole shares of a size in ten-thousandths; above 65,535.9999 shares there is no record, and 0 shares stand for that, which 7 refuses
+unfoldable pub sharesOf : ℕ → ℕ
+sharesOf size = cond (leb size 655359999) (size / 10000) 0
 
 -- the record of a product
 unfoldable pub recordBytes : Product → List ℕ
 recordBytes p =
-    fieldBytes (p .id) (p .group) (p .market) (kindNumber (p .kind)) (p .size) (p .tick) (p .currency)
+    fieldBytes (p .id) (p .group) (p .market) (kindNumber (p .kind)) (sharesOf (p .size)) (p .tick) (p .currency) (p .size % 10000)

@@ -10,7 +10,7 @@ ghost use lib.Seq.{paste};
 ghost use Rattle.calendar.specs.Trading.{calendarOfMaps};
 ghost use Rattle.blocks.specs.Blocks.{weightedSum};
 ghost use Rattle.drafts.specs.Drafts.{highByte, lowByte, headerByte, calendarByte, recordsWithin, productByte, blockByte, blockFor, blocksFor, blocksIn};
-ghost use Rattle.writing.specs.Writing.{writeCall, writeAnswer, bufferAfter, fieldBytes, recordBytes};
+ghost use Rattle.writing.specs.Writing.{writeCall, writeAnswer, bufferAfter, fieldBytes, sharesOf, recordBytes};
 
 // The refusal, 0 where a file was written, and its length, 0 with a refusal.
 pub struct WrittenFile {
@@ -181,11 +181,12 @@ pub fn field_bytes(
     group: [u8; 4],
     market: [u8; 4],
     kind: u8,
-    size: u16,
+    shares: u16,
     tick: u16,
     currency: [u8; 3],
+    part: u16,
 ) -> Record
-    ensures { λ r. ⌜ r ≡ fieldBytes id group market kind size tick currency ⌝ }
+    ensures { λ r. ⌜ r ≡ fieldBytes id group market kind shares tick currency part ⌝ }
 {
     [
         id[0],
@@ -201,15 +202,15 @@ pub fn field_bytes(
         market[2],
         market[3],
         kind,
-        (size / 256) as u8,
-        (size % 256) as u8,
+        (shares / 256) as u8,
+        (shares % 256) as u8,
         (tick / 256) as u8,
         (tick % 256) as u8,
         currency[0],
         currency[1],
         currency[2],
-        0,
-        0,
+        (part / 256) as u8,
+        (part % 256) as u8,
         0,
         0,
         0,
@@ -223,7 +224,17 @@ pub fn field_bytes(
     ]
 }
 
-// The record of a product.
+// The whole shares of a size; 0 where it is above all that a record can have.
+fn shares_of(size: u32) -> u16
+    ensures { λ r. ⌜ r ≡ sharesOf size ⌝ }
+{
+    if 655359999 < size {
+        return 0;
+    }
+    (size / 10000) as u16
+}
+
+// The record of a product. One of less than a share has 0 shares, as one of too many, and question 7 refuses it.
 pub fn record_of(p: Product) -> Record
     ensures { λ r. ⌜ r ≡ recordBytes p ⌝ }
 {
@@ -237,8 +248,9 @@ pub fn record_of(p: Product) -> Record
         group,
         market,
         product::kind_number(kind),
-        p.size,
+        shares_of(p.size),
         p.tick,
         currency,
+        (p.size % 10000) as u16,
     )
 }

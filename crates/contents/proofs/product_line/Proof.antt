@@ -5,7 +5,7 @@ use mathlib.Core.List.{List}
 use Rattle.contents.proofs.Building.{then, one, first, same}
 use Rattle.records.specs.Records.{threeBytes, fourBytes}
 use Rattle.printing.specs.Text.{spaced}
-use Rattle.contents.specs.Contents.{idText, productText}
+use Rattle.contents.specs.Contents.{idText, partText, productText}
 use Rattle.contents.proofs.product_line.Statement.{statement}
 use Rattle.contents.proofs.product_line.Tie as tie
 
@@ -60,6 +60,12 @@ with-spaced-requires-2 c κs = tt
 field-at-requires-2 : tie.Need-field-at-requires-2
 field-at-requires-2 c κs = tt
 
+with-part-requires : tie.Need-with-part-requires
+with-part-requires c κs = tt
+
+field-at-requires-3 : tie.Need-field-at-requires-3
+field-at-requires-3 c κs = tt
+
 with-spaced-requires-3 : tie.Need-with-spaced-requires-3
 with-spaced-requires-3 c κs = tt
 
@@ -80,7 +86,8 @@ unfolding productText fourBytes threeBytes
 returns c =
     let at-currency = c .before in
     let at-tick = at-currency .before .before .before in
-    let at-size = at-tick .before .before in
+    let at-part = at-tick .before .before in
+    let at-size = at-part .before .before in
     let at-kind = at-size .before .before in
     let at-market = at-kind .before .before in
     let at-group = at-market .before .before .before in
@@ -97,10 +104,11 @@ returns c =
     (then (same four (at-market .with-four-bytes2 .ensures) (at-market .before .four-at3 .ensures))
     (then (same spaced (at-kind .with-spaced .ensures) (at-kind .before .byte-at .ensures))
     (then (same spaced (at-size .with-spaced2 .ensures) (at-size .before .field-at .ensures))
-    (then (same spaced (at-tick .with-spaced3 .ensures) (at-tick .before .field-at2 .ensures))
+    (then (same partText (at-part .with-part .ensures) (at-part .before .field-at2 .ensures))
+    (then (same spaced (at-tick .with-spaced3 .ensures) (at-tick .before .field-at3 .ensures))
     (then (one _ _ _ (at-currency .before .before .extend5 .ensures))
     (then (same three (at-currency .with-three-bytes .ensures) (at-currency .before .three-at .ensures))
-    (one _ _ _ (c .extend6 .ensures)))))))))))))
+    (one _ _ _ (c .extend6 .ensures))))))))))))))
 
 pub product-line-spec : {M : Type 1} → statement M
 product-line-spec =
@@ -123,6 +131,8 @@ product-line-spec =
     field-at-requires
     with-spaced-requires-2
     field-at-requires-2
+    with-part-requires
+    field-at-requires-3
     with-spaced-requires-3
     extend-requires-5
     three-at-requires

@@ -3,8 +3,8 @@ use Prim.Native.Nat.{_≤_}
 use mathlib.Core.Path.{_∙_}
 use Rattle.questions.proofs.Bools.{said-no, said-yes}
 use borrow.Author.Tests.{not-true, not-false}
-use Rattle.entries.proofs.Numbers.{at-most}
-use Rattle.entries.proofs.Forms.{product-formless, product-kindless, product-sizeless, product-tickless, product-is}
+use Rattle.entries.proofs.Numbers.{at-most, shares-most, part-most}
+use Rattle.entries.proofs.Forms.{product-formless, product-kindless, product-shareless, product-partless, product-tickless, product-is}
 use Rattle.entries.proofs.product_entry.Statement.{statement}
 use Rattle.entries.proofs.product_entry.Tie as tie
 
@@ -30,67 +30,93 @@ returns-2 c =
     let form = said-yes (at-if1 .before .is-product-form .ensures) (at-if1 .if1 .left) in
     c .other-entry2 .ensures ∙ product-kindless _ form _ (at-kind .number-in .ensures) (not-true _ (c .before .if2 .taken))
 
-number-in-requires-2 : tie.Need-number-in-requires-2
-number-in-requires-2 c κs = tt
+shares-in-requires : tie.Need-shares-in-requires
+shares-in-requires c κs = tt
 
 other-entry-requires-3 : tie.Need-other-entry-requires-3
 other-entry-requires-3 c κs = tt
 
 returns-3 : tie.Need-returns-3
 returns-3 c =
-    let at-size = c .before .before .before in
-    let at-if2 = at-size .before in
+    let at-shares = c .before .before .before in
+    let at-if2 = at-shares .before in
     let at-kind = at-if2 .before .before in
     let at-if1 = at-kind .before in
     let form = said-yes (at-if1 .before .is-product-form .ensures) (at-if1 .if1 .left) in
-    c .other-entry3 .ensures ∙ product-sizeless _ form _ (at-kind .number-in .ensures) (not-false _ (at-if2 .if2 .left)) _ (at-size .number-in2 .ensures) (not-true _ (c .before .if3 .taken))
+    c .other-entry3 .ensures ∙ product-shareless _ form _ (at-kind .number-in .ensures) (not-false _ (at-if2 .if2 .left)) _ (at-shares .shares-in .ensures) (not-true _ (c .before .if3 .taken))
 
-number-in-requires-3 : tie.Need-number-in-requires-3
-number-in-requires-3 c κs = tt
+part-in-requires : tie.Need-part-in-requires
+part-in-requires c κs = tt
 
 other-entry-requires-4 : tie.Need-other-entry-requires-4
 other-entry-requires-4 c κs = tt
 
 returns-4 : tie.Need-returns-4
 returns-4 c =
-    let at-tick = c .before .before .before in
-    let at-if3 = at-tick .before in
-    let at-size = at-if3 .before .before in
-    let at-if2 = at-size .before in
+    let at-part = c .before .before .before in
+    let at-if3 = at-part .before in
+    let at-shares = at-if3 .before .before in
+    let at-if2 = at-shares .before in
     let at-kind = at-if2 .before .before in
     let at-if1 = at-kind .before in
     let form = said-yes (at-if1 .before .is-product-form .ensures) (at-if1 .if1 .left) in
-    c .other-entry4 .ensures ∙ product-tickless _ form _ (at-kind .number-in .ensures) (not-false _ (at-if2 .if2 .left)) _ (at-size .number-in2 .ensures) (not-false _ (at-if3 .if3 .left)) _ (at-tick .number-in3 .ensures) (not-true _ (c .before .if4 .taken))
+    c .other-entry4 .ensures ∙ product-partless _ form _ (at-kind .number-in .ensures) (not-false _ (at-if2 .if2 .left)) _ (at-shares .shares-in .ensures) (not-false _ (at-if3 .if3 .left)) _ (at-part .part-in .ensures) (not-true _ (c .before .if4 .taken))
+
+number-in-requires-2 : tie.Need-number-in-requires-2
+number-in-requires-2 c κs = tt
+
+other-entry-requires-5 : tie.Need-other-entry-requires-5
+other-entry-requires-5 c κs = tt
+
+returns-5 : tie.Need-returns-5
+returns-5 c =
+    let at-tick = c .before .before .before in
+    let at-if4 = at-tick .before in
+    let at-part = at-if4 .before .before in
+    let at-if3 = at-part .before in
+    let at-shares = at-if3 .before .before in
+    let at-if2 = at-shares .before in
+    let at-kind = at-if2 .before .before in
+    let at-if1 = at-kind .before in
+    let form = said-yes (at-if1 .before .is-product-form .ensures) (at-if1 .if1 .left) in
+    c .other-entry5 .ensures ∙ product-tickless _ form _ (at-kind .number-in .ensures) (not-false _ (at-if2 .if2 .left)) _ (at-shares .shares-in .ensures) (not-false _ (at-if3 .if3 .left)) _ (at-part .part-in .ensures) (not-false _ (at-if4 .if4 .left)) _ (at-tick .number-in2 .ensures) (not-true _ (c .before .if5 .taken))
 
 cast-line-record : tie.Need-cast-line-record
 cast-line-record c =
-    let h : c .before .before .before .before .before .before .before .before .before .number-in .result .value ≤ 255 = at-most _ _ _ (c .before .before .before .before .before .before .before .before .before .number-in .ensures) in
+    let h : c .before .before .before .before .before .before .before .before .before .before .before .before .number-in .result .value ≤ 255 = at-most _ _ _ (c .before .before .before .before .before .before .before .before .before .before .before .before .number-in .ensures) in
     omega (arith, h)
 
 cast-line-record-2 : tie.Need-cast-line-record-2
 cast-line-record-2 c =
-    let h : c .before .before .before .before .before .before .before .number-in2 .result .value ≤ 65535 = at-most _ _ _ (c .before .before .before .before .before .before .before .number-in2 .ensures) in
+    let h : c .before .before .before .before .before .before .before .before .before .before .shares-in .result .value ≤ 65535 = shares-most _ _ (c .before .before .before .before .before .before .before .before .before .before .shares-in .ensures) in
     omega (arith, h)
 
 cast-line-record-3 : tie.Need-cast-line-record-3
 cast-line-record-3 c =
-    let h : c .before .before .before .before .before .number-in3 .result .value ≤ 65535 = at-most _ _ _ (c .before .before .before .before .before .number-in3 .ensures) in
+    let h : c .before .before .before .before .before .before .before .before .part-in .result .value ≤ 9999 = part-most _ _ (c .before .before .before .before .before .before .before .before .part-in .ensures) in
+    omega (arith, h)
+
+cast-line-record-4 : tie.Need-cast-line-record-4
+cast-line-record-4 c =
+    let h : c .before .before .before .before .before .before .number-in2 .result .value ≤ 65535 = at-most _ _ _ (c .before .before .before .before .before .before .number-in2 .ensures) in
     omega (arith, h)
 
 line-record-requires : tie.Need-line-record-requires
 line-record-requires c κs = tt
 
-returns-5 : tie.Need-returns-5
-returns-5 c =
-    let at-if4 = c .before .before .before .before in
-    let at-tick = at-if4 .before .before in
-    let at-if3 = at-tick .before in
-    let at-size = at-if3 .before .before in
-    let at-if2 = at-size .before in
+returns-6 : tie.Need-returns-6
+returns-6 c =
+    let at-if5 = c .before .before .before .before .before in
+    let at-tick = at-if5 .before .before in
+    let at-if4 = at-tick .before in
+    let at-part = at-if4 .before .before in
+    let at-if3 = at-part .before in
+    let at-shares = at-if3 .before .before in
+    let at-if2 = at-shares .before in
     let at-kind = at-if2 .before .before in
     let at-if1 = at-kind .before in
     let form = said-yes (at-if1 .before .is-product-form .ensures) (at-if1 .if1 .left) in
-    product-is _ form _ (at-kind .number-in .ensures) (not-false _ (at-if2 .if2 .left)) _ (at-size .number-in2 .ensures) (not-false _ (at-if3 .if3 .left)) _ (at-tick .number-in3 .ensures) (not-false _ (at-if4 .if4 .left)) _ (c .line-record .ensures)
+    product-is _ form _ (at-kind .number-in .ensures) (not-false _ (at-if2 .if2 .left)) _ (at-shares .shares-in .ensures) (not-false _ (at-if3 .if3 .left)) _ (at-part .part-in .ensures) (not-false _ (at-if4 .if4 .left)) _ (at-tick .number-in2 .ensures) (not-false _ (at-if5 .if5 .left)) _ (c .line-record .ensures)
 
 pub product-entry-spec : {M : Type 1} → statement M
 product-entry-spec =
@@ -102,14 +128,18 @@ product-entry-spec =
     number-in-requires
     other-entry-requires-2
     returns-2
-    number-in-requires-2
+    shares-in-requires
     other-entry-requires-3
     returns-3
-    number-in-requires-3
+    part-in-requires
     other-entry-requires-4
     returns-4
+    number-in-requires-2
+    other-entry-requires-5
+    returns-5
     cast-line-record
     cast-line-record-2
     cast-line-record-3
+    cast-line-record-4
     line-record-requires
-    returns-5)
+    returns-6)

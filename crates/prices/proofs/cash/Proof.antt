@@ -1,7 +1,5 @@
 use Rattle.prices.proofs.Answers.{cash-10, cash-19, cash-20, cash-21, cash-22, cash-yes, both-are}
 use Rattle.questions.proofs.Bools.{said-no, said-yes}
-use mir.Syntax.{w64}
-use mir.Facts.{toZ-ofZ}
 use mathlib.Core.Path.{_∙_, sym}
 use Rattle.prices.proofs.cash.Statement.{statement}
 use Rattle.prices.proofs.cash.Tie as tie
@@ -103,8 +101,7 @@ returns-6 c =
     let yes-price-right = said-yes (at-price-right .price-right .ensures) (at-if2 .if2 .left) in
     let yes-is-multiple = said-yes (at-is-multiple .is-multiple .ensures) (at-if3 .if3 .left) in
     let yes-is-future = said-yes (at-is-future .is-future .ensures) (at-if4 .if4 .left) in
-    let amount = toZ-ofZ {w = w64} {z = c .cash .result} (record { sfits = c .cash .ok }) ∙ c .cash .ensures in
-    sym (cash-yes _ _ _ _ yes-is-sound yes-price-right yes-is-multiple yes-is-future (said-yes (both-are (at-final-right .final-right .ensures) (c .before .before .contracts-right .ensures)) (c .before .if5 .left)) _ amount)
+    sym (cash-yes _ _ _ _ yes-is-sound yes-price-right yes-is-multiple yes-is-future (said-yes (both-are (at-final-right .final-right .ensures) (c .before .before .contracts-right .ensures)) (c .before .if5 .left)) _ (c .cash .ensures))
 
 pub cash-spec : {M : Type 1} → statement M
 cash-spec =

@@ -6,62 +6,68 @@ use borrow.Author.Needs.{needs}
 use Rattle.writing.proofs.field_bytes.Statement.{statement}
 use Rattle.writing.proofs.field_bytes.Tie as tie
 
-array-read-t14 : tie.Need-array-read-t14
-array-read-t14 c = search needs
+array-read-t15 : tie.Need-array-read-t15
+array-read-t15 c = search needs
 
-array-read-t17 : tie.Need-array-read-t17
-array-read-t17 c = search needs
+array-read-t18 : tie.Need-array-read-t18
+array-read-t18 c = search needs
 
-array-read-t20 : tie.Need-array-read-t20
-array-read-t20 c = search needs
+array-read-t21 : tie.Need-array-read-t21
+array-read-t21 c = search needs
 
-array-read-t23 : tie.Need-array-read-t23
-array-read-t23 c = search needs
+array-read-t24 : tie.Need-array-read-t24
+array-read-t24 c = search needs
 
-array-read-t26 : tie.Need-array-read-t26
-array-read-t26 c = search needs
+array-read-t27 : tie.Need-array-read-t27
+array-read-t27 c = search needs
 
-array-read-t29 : tie.Need-array-read-t29
-array-read-t29 c = search needs
+array-read-t30 : tie.Need-array-read-t30
+array-read-t30 c = search needs
 
-array-read-t32 : tie.Need-array-read-t32
-array-read-t32 c = search needs
+array-read-t33 : tie.Need-array-read-t33
+array-read-t33 c = search needs
 
-array-read-t35 : tie.Need-array-read-t35
-array-read-t35 c = search needs
+array-read-t36 : tie.Need-array-read-t36
+array-read-t36 c = search needs
 
-array-read-t38 : tie.Need-array-read-t38
-array-read-t38 c = search needs
+array-read-t39 : tie.Need-array-read-t39
+array-read-t39 c = search needs
 
-array-read-t41 : tie.Need-array-read-t41
-array-read-t41 c = search needs
+array-read-t42 : tie.Need-array-read-t42
+array-read-t42 c = search needs
 
-array-read-t44 : tie.Need-array-read-t44
-array-read-t44 c = search needs
+array-read-t45 : tie.Need-array-read-t45
+array-read-t45 c = search needs
 
-array-read-t47 : tie.Need-array-read-t47
-array-read-t47 c = search needs
+array-read-t48 : tie.Need-array-read-t48
+array-read-t48 c = search needs
 
-cast-t49 : tie.Need-cast-t49
-cast-t49 c = search needs
+cast-t50 : tie.Need-cast-t50
+cast-t50 c = search needs
 
-cast-t51 : tie.Need-cast-t51
-cast-t51 c = search needs
+cast-t52 : tie.Need-cast-t52
+cast-t52 c = search needs
 
-cast-t53 : tie.Need-cast-t53
-cast-t53 c = search needs
+cast-t54 : tie.Need-cast-t54
+cast-t54 c = search needs
 
-cast-t55 : tie.Need-cast-t55
-cast-t55 c = search needs
+cast-t56 : tie.Need-cast-t56
+cast-t56 c = search needs
 
-array-read-t58 : tie.Need-array-read-t58
-array-read-t58 c = search needs
+array-read-t59 : tie.Need-array-read-t59
+array-read-t59 c = search needs
 
-array-read-t61 : tie.Need-array-read-t61
-array-read-t61 c = search needs
+array-read-t62 : tie.Need-array-read-t62
+array-read-t62 c = search needs
 
-array-read-t64 : tie.Need-array-read-t64
-array-read-t64 c = search needs
+array-read-t65 : tie.Need-array-read-t65
+array-read-t65 c = search needs
+
+cast-t67 : tie.Need-cast-t67
+cast-t67 c = search needs
+
+cast-t69 : tie.Need-cast-t69
+cast-t69 c = search needs
 
 returns : tie.Need-returns
 unfolding fieldBytes fourBytes threeBytes
@@ -71,23 +77,25 @@ pub field-bytes-spec : {M : Type 1} → statement M
 field-bytes-spec =
     tie.close
     (tie.spec
-    array-read-t14
-    array-read-t17
-    array-read-t20
-    array-read-t23
-    array-read-t26
-    array-read-t29
-    array-read-t32
-    array-read-t35
-    array-read-t38
-    array-read-t41
-    array-read-t44
-    array-read-t47
-    cast-t49
-    cast-t51
-    cast-t53
-    cast-t55
-    array-read-t58
-    array-read-t61
-    array-read-t64
+    array-read-t15
+    array-read-t18
+    array-read-t21
+    array-read-t24
+    array-read-t27
+    array-read-t30
+    array-read-t33
+    array-read-t36
+    array-read-t39
+    array-read-t42
+    array-read-t45
+    array-read-t48
+    cast-t50
+    cast-t52
+    cast-t54
+    cast-t56
+    array-read-t59
+    array-read-t62
+    array-read-t65
+    cast-t67
+    cast-t69
     returns)

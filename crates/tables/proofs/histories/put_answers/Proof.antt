@@ -57,6 +57,21 @@ array-read-put-long-3 c = search needs
 put-long-requires-3 : tie.Need-put-long-requires-3 Inv-loop μ-loop
 put-long-requires-3 c κs = tt
 
+mul-put-long-7 : tie.Need-mul-put-long-7 Inv-loop μ-loop
+mul-put-long-7 c = search needs
+
+add-put-long-3 : tie.Need-add-put-long-3 Inv-loop μ-loop
+add-put-long-3 c = search needs
+
+mul-put-long-8 : tie.Need-mul-put-long-8 Inv-loop μ-loop
+mul-put-long-8 c = search needs
+
+array-read-put-long-4 : tie.Need-array-read-put-long-4 Inv-loop μ-loop
+array-read-put-long-4 c = search needs
+
+put-long-requires-4 : tie.Need-put-long-requires-4 Inv-loop μ-loop
+put-long-requires-4 c κs = tt
+
 end-line-requires : tie.Need-end-line-requires Inv-loop μ-loop
 end-line-requires c κs = tt
 
@@ -94,6 +109,11 @@ put-answers-spec =
     mul-put-long-6
     array-read-put-long-3
     put-long-requires-3
+    mul-put-long-7
+    add-put-long-3
+    mul-put-long-8
+    array-read-put-long-4
+    put-long-requires-4
     end-line-requires
     add-i
     loop-less

@@ -1,6 +1,7 @@
 use mathlib.Core.Path.{_≡_}
-use lib.ListN.{length}
+use lib.ListN.{length, length-set}
 use Prim.Native.Nat.{_-_, _≤_}
+use native.Mathlib.Omega.{arith}
 use borrow.Author.Needs.{needs}
 use Rattle.tables.proofs.histories.read_calls.Statement.{statement}
 use Rattle.tables.proofs.histories.read_calls.Tie as tie
@@ -17,11 +18,11 @@ loop-holds c = search needs
 next-requires : tie.Need-next-requires Inv-loop μ-loop
 next-requires c κs = tt
 
-array-read-kind-of : tie.Need-array-read-kind-of Inv-loop μ-loop
-array-read-kind-of c = search needs
+call-in-requires : tie.Need-call-in-requires Inv-loop μ-loop
+call-in-requires c κs = tt
 
-kind-of-requires : tie.Need-kind-of-requires Inv-loop μ-loop
-kind-of-requires c κs = tt
+array-read-calls : tie.Need-array-read-calls Inv-loop μ-loop
+array-read-calls c = search needs
 
 mul-calls : tie.Need-mul-calls Inv-loop μ-loop
 mul-calls c = search needs
@@ -32,17 +33,8 @@ mul-calls-2 c = search needs
 array-write-calls : tie.Need-array-write-calls Inv-loop μ-loop
 array-write-calls c = search needs
 
-array-read-four : tie.Need-array-read-four Inv-loop μ-loop
-array-read-four c = search needs
-
-array-read-four-2 : tie.Need-array-read-four-2 Inv-loop μ-loop
-array-read-four-2 c = search needs
-
-array-read-four-3 : tie.Need-array-read-four-3 Inv-loop μ-loop
-array-read-four-3 c = search needs
-
-four-requires : tie.Need-four-requires Inv-loop μ-loop
-four-requires c κs = tt
+array-read-calls-2 : tie.Need-array-read-calls-2 Inv-loop μ-loop
+array-read-calls-2 c = search needs
 
 mul-calls-3 : tie.Need-mul-calls-3 Inv-loop μ-loop
 mul-calls-3 c = search needs
@@ -56,6 +48,36 @@ mul-calls-4 c = search needs
 array-write-calls-2 : tie.Need-array-write-calls-2 Inv-loop μ-loop
 array-write-calls-2 c = search needs
 
+array-read-calls-3 : tie.Need-array-read-calls-3 Inv-loop μ-loop
+array-read-calls-3 c = search needs
+
+mul-calls-5 : tie.Need-mul-calls-5 Inv-loop μ-loop
+mul-calls-5 c = search needs
+
+add-calls-2 : tie.Need-add-calls-2 Inv-loop μ-loop
+add-calls-2 c = search needs
+
+mul-calls-6 : tie.Need-mul-calls-6 Inv-loop μ-loop
+mul-calls-6 c = search needs
+
+array-write-calls-3 : tie.Need-array-write-calls-3 Inv-loop μ-loop
+array-write-calls-3 c = search needs
+
+array-read-calls-4 : tie.Need-array-read-calls-4 Inv-loop μ-loop
+array-read-calls-4 c = search needs
+
+mul-calls-7 : tie.Need-mul-calls-7 Inv-loop μ-loop
+mul-calls-7 c = search needs
+
+add-calls-3 : tie.Need-add-calls-3 Inv-loop μ-loop
+add-calls-3 c = search needs
+
+mul-calls-8 : tie.Need-mul-calls-8 Inv-loop μ-loop
+mul-calls-8 c = search needs
+
+array-write-calls-4 : tie.Need-array-write-calls-4 Inv-loop μ-loop
+array-write-calls-4 c = search needs
+
 add-i : tie.Need-add-i Inv-loop μ-loop
 add-i c = search needs
 
@@ -63,7 +85,7 @@ loop-less : tie.Need-loop-less Inv-loop μ-loop
 loop-less c = search needs
 
 loop-again : tie.Need-loop-again Inv-loop μ-loop
-loop-again c = search needs
+loop-again c = (omega arith, simp length-set (omega arith))
 
 returns : tie.Need-returns Inv-loop μ-loop
 returns c = search needs
@@ -76,19 +98,26 @@ read-calls-spec =
     μ-loop
     loop-holds
     next-requires
-    array-read-kind-of
-    kind-of-requires
+    call-in-requires
+    array-read-calls
     mul-calls
     mul-calls-2
     array-write-calls
-    array-read-four
-    array-read-four-2
-    array-read-four-3
-    four-requires
+    array-read-calls-2
     mul-calls-3
     add-calls
     mul-calls-4
     array-write-calls-2
+    array-read-calls-3
+    mul-calls-5
+    add-calls-2
+    mul-calls-6
+    array-write-calls-3
+    array-read-calls-4
+    mul-calls-7
+    add-calls-3
+    mul-calls-8
+    array-write-calls-4
     add-i
     loop-less
     loop-again

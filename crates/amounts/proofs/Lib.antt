@@ -1,0 +1,3 @@
+pub mod CashParts
+pub mod Multiples
+pub mod Rounding

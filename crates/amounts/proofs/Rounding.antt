@@ -1,0 +1,93 @@
+-- Rounding to the nearest, halves upward: by quotient and remainder, and at most half a unit off. What question 29 says of a new size and price.
+-- Assumes nothing.
+use Prim.Native.Nat.{ℕ, _+_, _-_, _*_, _/_, _%_, _≤_, _<_}
+use mathlib.Core.Path.{_≡_, refl, _∙_, sym, ap}
+use mathlib.Core.Bool.{true, false}
+use native.Mathlib.Nat.{div-mul-le-self, lt-div-mul-add, div-add-mod', div-eq-of-lt-le, div-zero, mod-lt, add-mul, mul-assoc, mul-comm, mul-le-mul, le-refl}
+use native.Mathlib.Omega.{arith}
+use lib.Dec.{leb}
+use borrow.Author.Tests.{leb-true}
+use Rattle.questions.proofs.Bools.{and-fst, and-snd}
+use Rattle.product.specs.Fields.{sizeRight}
+use Rattle.amounts.specs.Prices.{nearest, newSize, newPrice, priceRight, measureRight, Kept}
+
+doubled : (n b : ℕ) → n * (2 * b) ≡ 2 * (n * b)
+doubled n b = sym (mul-assoc n 2 b) ∙ ap (λ (m : ℕ). m * b) (mul-comm n 2) ∙ mul-assoc 2 n b
+
+module _ (a b : ℕ) where
+  pub nearest-above : 2 * (nearest a b * b) ≤ 2 * a + b
+  unfolding nearest
+  nearest-above = omega (arith, div-mul-le-self (2 * a + b) (2 * b), doubled ((2 * a + b) / (2 * b)) b)
+
+  pub nearest-under : 1 ≤ b → 2 * a ≤ 2 * (nearest a b * b) + b
+  unfolding nearest
+  nearest-under h = omega (arith, lt-div-mul-add {a = 2 * a + b} {b = 2 * b} (omega arith), doubled ((2 * a + b) / (2 * b)) b)
+
+  -- by quotient and remainder: a remainder below one half is left out, one half and above counts as one
+  quotient : a / b * b + a % b ≡ a
+  quotient = div-add-mod' a b
+
+  pub nearest-down : a % b < b - a % b → nearest a b ≡ a / b
+  unfolding nearest
+  nearest-down h =
+      div-eq-of-lt-le (2 * b)
+      (omega (arith, quotient, doubled (a / b) b))
+      (omega (arith, quotient, doubled (a / b) b, add-mul (a / b) 1 (2 * b)))
+
+  pub nearest-up : b - a % b ≤ a % b → 1 ≤ b → nearest a b ≡ a / b + 1
+  unfolding nearest
+  nearest-up h some =
+      let r : a % b < b = mod-lt a some in
+      div-eq-of-lt-le (2 * b)
+      (omega (arith, quotient, doubled (a / b) b, add-mul (a / b) 1 (2 * b)))
+      (omega (arith, quotient, doubled (a / b) b, add-mul (a / b) 2 (2 * b)))
+
+  pub next-most : b - a % b ≤ a % b → 1 ≤ b → a / b + 1 ≤ a
+  next-most h some =
+      let r : a % b < b = mod-lt a some in
+      omega (arith, quotient, mul-le-mul {n₁ = a / b} {m₁ = 1} {n₂ = a / b} {m₂ = b} (le-refl (a / b)) some)
+
+pub nearest-none : (a b : ℕ) → b ≡ 0 → 0 ≡ nearest a b
+unfolding nearest
+nearest-none a b e = rw e (sym (div-zero (2 * a + 0)))
+
+-- 'differs from the old product by at most half the new size'
+pub value-kept : (price size changed : ℕ) → 1 ≤ changed → Kept price size changed
+unfolding newPrice
+value-kept price size changed h = record { above = nearest-above (price * size) changed; under = nearest-under (price * size) changed h }
+
+-- a size in range fits 32 bits
+pub size-bound : (n : ℕ) → sizeRight n ≡ true → n ≤ 655359999
+size-bound n e = leb-true n 655359999 (and-snd (leb 1 n) (leb n 655359999) e)
+
+-- 29, by its new size
+module _ (size p q price : ℕ) where
+  -- a new size out of range
+  pub measure-no : (n : ℕ) → n ≡ newSize size p q → sizeRight n ≡ false → false ≡ measureRight size p q price
+  unfolding measureRight
+  measure-no n e out = rw (sym e, out)
+
+  -- a new size in range
+  pub measure-is : (n m : ℕ) → n ≡ newSize size p q → sizeRight n ≡ true → m ≡ newPrice price size n → priceRight m ≡ measureRight size p q price
+  unfolding measureRight
+  measure-is n m e in-range o = rw (sym e, in-range, o)
+
+-- the new size and the new price of a measure that 29 passes
+pub record InRange (size p q price : ℕ) : Type 0 where
+  pub size-right : sizeRight (newSize size p q) ≡ true
+  pub size-some : 1 ≤ newSize size p q
+  pub size-most : newSize size p q ≤ 655359999
+  pub price-most : newPrice price size (newSize size p q) ≤ 999999999
+
+pub in-range : (size p q price : ℕ) → measureRight size p q price ≡ true → InRange size p q price
+unfolding measureRight
+in-range size p q price e =
+    let n = newSize size p q in
+    let m = newPrice price size n in
+    let s = and-fst (sizeRight n) (priceRight m) e in
+    record {
+      size-right = s;
+      size-some = leb-true 1 n (and-fst (leb 1 n) (leb n 655359999) s);
+      size-most = size-bound n s;
+      price-most = leb-true m 999999999 (and-snd (leb 1 m) (leb m 999999999) (and-snd (sizeRight n) (priceRight m) e));
+    }

@@ -1,0 +1,66 @@
+use Prim.Native.Nat.{_*_, _/_, _%_, _≤_}
+use native.Mathlib.Omega.{arith}
+use borrow.Author.Needs.{needs}
+use Rattle.questions.proofs.Bools.{said-no, said-yes}
+use Rattle.amounts.specs.Prices.{cashOf}
+use Rattle.amounts.proofs.CashParts.{Bounds, bounds, change-most, whole-most, parts-most, cash-is}
+use Rattle.amounts.proofs.cash.Statement.{statement}
+use Rattle.amounts.proofs.cash.Tie as tie
+
+cash-admitted-requires : tie.Need-cash-admitted-requires
+cash-admitted-requires c κs = tt
+
+returns : tie.Need-returns
+unfolding cashOf
+returns c = rw (said-no (c .before .cash-admitted .ensures) (c .if1 .taken))
+
+apart-requires : tie.Need-apart-requires
+apart-requires c κs = tt
+
+cast-change : tie.Need-cast-change
+cast-change c = search needs
+
+in-bounds : (c : tie.After-apart) → Bounds (c .before .before .before .args .contracts) (c .before .before .before .args .size) (c .before .before .before .args .agreed) (c .before .before .before .args .final-price)
+in-bounds c = bounds _ _ _ _ (said-yes (c .before .before .cash-admitted .ensures) (c .before .if1 .left))
+
+mul-change : tie.Need-mul-change
+mul-change c = rw (c .apart .ensures) (omega (arith, change-most _ _ _ _ (in-bounds c)))
+
+cast-whole : tie.Need-cast-whole
+cast-whole c = search needs
+
+cast-part : tie.Need-cast-part
+cast-part c = search needs
+
+mul-parts : tie.Need-mul-parts
+mul-parts c = rw (c .apart .ensures) (omega (arith, parts-most _ _ _ _ (in-bounds c)))
+
+mul-t11 : tie.Need-mul-t11
+mul-t11 c = rw (c .apart .ensures) (omega (arith, whole-most _ _ _ _ (in-bounds c)))
+
+add-t14 : tie.Need-add-t14
+add-t14 c = rw (c .apart .ensures) (omega (arith, whole-most _ _ _ _ (in-bounds c), parts-most _ _ _ _ (in-bounds c)))
+
+cast-t16 : tie.Need-cast-t16
+cast-t16 c = search needs
+
+returns-2 : tie.Need-returns-2
+unfolding cashOf
+returns-2 c = rw (c .apart .ensures, said-yes (c .before .before .cash-admitted .ensures) (c .before .if1 .left)) (cash-is _ _ _ _ (in-bounds c))
+
+pub cash-spec : {M : Type 1} → statement M
+cash-spec =
+    tie.close
+    (tie.spec
+    cash-admitted-requires
+    returns
+    apart-requires
+    cast-change
+    mul-change
+    cast-whole
+    cast-part
+    mul-parts
+    mul-t11
+    add-t14
+    cast-t16
+    returns-2)

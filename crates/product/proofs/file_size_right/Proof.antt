@@ -1,0 +1,12 @@
+use Prim.Native.Nat.{_≤_}
+use native.Mathlib.Omega.{arith}
+use mathlib.Core.Bool.{and-true}
+use borrow.Author.Tests.{le-leb}
+use Rattle.product.proofs.file_size_right.Statement.{statement}
+use Rattle.product.proofs.file_size_right.Tie as tie
+
+returns : tie.Need-returns
+returns c = let h : c .args .shares ≤ 65535 = omega arith in simp (le-leb _ _ h, and-true)
+
+pub file-size-right-spec : {M : Type 1} → statement M
+file-size-right-spec = tie.close (tie.spec returns)
