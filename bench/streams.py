@@ -1,8 +1,12 @@
 """Six streams of commands with their master files, made from a seed: opens, rolls
-and closes on 3 years with 15 records and on 16 years with 1,000.
+and closes on 3 years with 15 records and on 16 years with 1,000; and three on 16
+years whose closed days are made up (document 02, note 14), by a text that says their
+seed.
 
   python3 bench/streams.py FOLDER    a folder of FOLDER for each stream, with the
-                                     files master.bin and input
+                                     files master.bin and input, and the text
+                                     made-up.txt, from which compose makes the
+                                     master.bin of the last three
 """
 import os
 import random
@@ -12,24 +16,36 @@ ROOT = os.path.dirname(os.path.dirname(os.path.abspath(__file__)))
 sys.path.insert(0, os.path.join(ROOT, 'tests'))
 
 import cases  # noqa: E402
-from second import listing, master, trading  # noqa: E402
+from second import listing, lists, master, trading  # noqa: E402
 from second.terms import day_text  # noqa: E402
 
 SEED = 1
 FIRST_YEAR = 2008
 LINES = 600
 SIZES = ((3, 15), (16, 1000))  # years, records
+MADE_UP_SEED = 14
 
 
-# A file of some years with the closures of the calendar in tests/data. A12 is an
-# option with 12 months, A13 a future, A24 an option with 24 months.
-def file_of(years, records=15):
-    with open(os.path.join(cases.DATA, 'closures-2000-2099.csv')) as lines:
-        calendar = master.calendar_from_csv(lines, FIRST_YEAR, years)
+# So many products by their ids. A12 is an option with 12 months, A13 a future, A24
+# an option with 24 months.
+def products_of(records):
     others = cases.many_products(1680)
     products = [cases.item(b'A12'), cases.item(b'A13', group=b'FR01', kind=0), cases.item(b'A24', kind=2),
                 *others[-records + 3:]]
-    return master.build(calendar, sorted(products, key=lambda one: one.id))
+    return sorted(products, key=lambda one: one.id)
+
+
+# A file of some years with the closures of the calendar in tests/data.
+def file_of(years, records=15):
+    with open(os.path.join(cases.DATA, 'closures-2000-2099.csv')) as lines:
+        calendar = master.calendar_from_csv(lines, FIRST_YEAR, years)
+    return master.build(calendar, products_of(records))
+
+
+# The text of a file like the larger one, with made-up closed days.
+def made_up_text():
+    years, records = SIZES[1]
+    return b'S %d %d %d\n' % (MADE_UP_SEED, FIRST_YEAR, years) + b''.join(map(lists.product_line, products_of(records)))
 
 
 # The days of a file's cover on which the listing of a product is complete.
@@ -95,23 +111,38 @@ def makers(years):
     return ('opens', opens), ('rolls', each(rolls, codes)), ('closes', each(closes, codes))
 
 
-# Each stream: its name, its file, its lines.
+# The streams of a file: name and lines of each.
+def streams_of(file, years):
+    for name, make in makers(years):
+        count = LINES // 10 if (years, name) == (16, 'opens') else LINES
+        rng = random.Random(f'{SEED} {years} {name}')
+        yield name, make(file, rng, count)
+
+
+# Each of the six streams: its name, its file, its lines.
 def streams():
     for years, records in SIZES:
         file = file_of(years, records)
-        for name, make in makers(years):
-            count = LINES // 10 if (years, name) == (16, 'opens') else LINES
-            rng = random.Random(f'{SEED} {years} {name}')
-            yield f'{name}, {years} years, {records:,} records', file, make(file, rng, count)
+        for name, lines in streams_of(file, years):
+            yield f'{name}, {years} years, {records:,} records', file, lines
+
+
+# The same of the file of the text above.
+def made_up_streams(file):
+    years = SIZES[1][0]
+    for name, lines in streams_of(file, years):
+        yield f'{name}, {years} made-up years', file, lines
 
 
 def main():
-    for name, file, lines in streams():
-        folder = os.path.join(sys.argv[1], name.split(' years')[0].replace(', ', '-'))
+    for name, file, lines in (*streams(), *made_up_streams(lists.compose(made_up_text())[0])):
+        folder = os.path.join(sys.argv[1], name.split(' years')[0].replace(', ', '-').replace(' ', '-'))
         os.makedirs(folder, exist_ok=True)
         for part, data in (('master.bin', file), ('input', b''.join(lines))):
             with open(os.path.join(folder, part), 'wb') as out:
                 out.write(data)
+    with open(os.path.join(sys.argv[1], 'made-up.txt'), 'wb') as out:
+        out.write(made_up_text())
 
 
 if __name__ == '__main__':

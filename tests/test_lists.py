@@ -12,7 +12,7 @@ sys.path.insert(0, TESTS)
 import cases  # noqa: E402
 import compare_lists  # noqa: E402
 import texts  # noqa: E402
-from second import lists, master  # noqa: E402
+from second import generated, lists, master  # noqa: E402
 
 SECOND = os.path.join(TESTS, 'second', 'lists.py')
 
@@ -74,10 +74,20 @@ class Texts(unittest.TestCase):
             file, said = lists.compose(texts.text(cover, *texts.many(count)))
             self.assertEqual((65536, b''), (len(file), said))
 
-    # The made texts have faults and have none.
+    # 02, note 14: the file of a seed is the one that its calendar's own text gives.
+    def test_seeds(self):
+        for seed, first, years in ((1, 2008, 3), (26355, 2000, 1), (8256, 2000, 14), (4294967295, 2084, 16)):
+            _, calendar = generated.make(seed, first, years)
+            self.assertTrue(calendar.closed)
+            days = [lists.day_line(b'C', day)[:-1] for day in calendar.closed]
+            file, said = lists.compose(texts.text(b'S %d %d %d' % (seed, first, years), texts.AXA))
+            self.assertEqual((file, said), lists.compose(texts.text(b'Y %d %d' % (first, years), *days, texts.AXA)))
+            self.assertEqual((b'', 0), (said, master.file_refusal(file)))
+
+    # The made texts have faults and have none, with a seed and without one.
     def test_made(self):
-        answers = {lists.compose(data)[1][:3] for data in texts.made(1, 60)}
-        self.assertLessEqual({b'', b'BAD', b'NO '}, answers)
+        answers = {(data[:1], lists.compose(data)[1][:3]) for data in texts.made(1, 120)}
+        self.assertLessEqual({(letter, said) for letter in (b'Y', b'S') for said in (b'', b'BAD', b'NO ')}, answers)
 
 
 class Compare(unittest.TestCase):

@@ -11,6 +11,10 @@ COUNT = 300
 COVER = b'Y 2008 3'
 AXA = b'P AXA FR11 XPAR 1 100 100 EUR'
 WEEK = [b'C 2008-03-%d' % day for day in range(17, 22)]
+MADE_UP = b'S 0 2008 1'
+# 02, note 14: the days of 2008 that seed 0 closes, by hand.
+CLOSED = [b'C 2008-' + day for day in
+          (b'01-21', b'02-04', b'02-13', b'05-30', b'09-04', b'10-03', b'11-18', b'12-09', b'12-23')]
 
 
 # Lines as a text.
@@ -47,6 +51,31 @@ def cover_faults():
     yield 'a day first', text(WEEK[0], COVER, AXA), b'BAD 1\n'
     yield 'two covers', text(COVER, COVER, AXA), b'BAD 2\n'
     yield 'a cover at the end', text(COVER, AXA, b'Y 2009 1'), b'BAD 3\n'
+
+
+def seed_faults():
+    yield 'a seed and no product', text(MADE_UP), b'NO 4\n'
+    for line in (b'S 7 1999 1', b'S 7 1999 3', b'S 7 2090 11', b'S 7 2090 17', b'S 7 2000 17', b'S 7 2008 0',
+                 b'S 7 1999 0', b'S 7 2100 1', b'S 4294967295 65535 65535', b'S 0 0 0', b'S 7 0 1'):
+        yield line.decode(), text(line, AXA), b'NO 4\n'
+    for line in (b'S 4294967296 2008 3', b'S 4294967303 2008 3', b'S 18446744073709551623 2008 3', b'S 7 65536 1',
+                 b'S 7 2008 65536', b'S 2008 3', b'S 7 2008', b'S 7 2008 3 1', b'S  7 2008 3', b'S 7  2008 3',
+                 b'S 7 2008  3', b'S  2008 3', b' S 7 2008 3', b'S 7 2008 3 ', b'S 7 2008 3\r', b's 7 2008 3',
+                 b'SS 7 2008 3', b'S7 2008 3', b'S x 2008 3', b'S 7 x 3', b'S 7 2008 x', b'S -1 2008 3', b'S 7.0 2008 3',
+                 b'S 0x7 2008 3', b'S', b'Y 7 2008 3', b'T 7 2008 3', b'S %s 2008 3' % b'7'.rjust(55, b'0')):
+        yield repr(line), text(line, AXA), b'BAD 1\n'
+    yield 'a seed after a cover', text(COVER, MADE_UP, AXA), b'BAD 2\n'
+    yield 'a cover after a seed', text(MADE_UP, COVER, AXA), b'BAD 2\n'
+    yield 'two seeds', text(MADE_UP, MADE_UP, AXA), b'BAD 2\n'
+    yield 'a seed at the end', text(COVER, AXA, MADE_UP), b'BAD 3\n'
+    for line in (b'C 2008-03-21', b'X 2008-03-21', CLOSED[0], b'X' + CLOSED[0][1:], b'C 2008-03-22', b'C 2009-01-01'):
+        yield f'a seed, then {line!r}', text(MADE_UP, line, AXA), b'BAD 2\n'
+        yield f'a seed, a product, then {line!r}', text(MADE_UP, AXA, line), b'BAD 3\n'
+    yield 'a closed day after a seed whose cover is not right', text(b'S 7 1999 1', AXA, b'C 2008-03-21'), b'BAD 3\n'
+    yield 'a seed, 4 before 7', text(b'S 7 2000 17', changed(7, b'JPY')), b'NO 4\n'
+    yield 'a seed and 7', text(MADE_UP, changed(7, b'JPY')), b'NO 7\n'
+    yield 'a seed and 8', text(MADE_UP, AXA, AXA), b'NO 8\n'
+    yield 'a seed and 25', text(MADE_UP, *many(1906)), b'NO 25\n'
 
 
 def day_faults():
@@ -102,6 +131,7 @@ def order_faults():
 
 def faults():
     yield from cover_faults()
+    yield from seed_faults()
     yield from day_faults()
     yield from product_faults()
     yield from order_faults()
@@ -128,19 +158,39 @@ def other_forms():
     yield 'X and then C', text(COVER, b'X 2008-03-21', WEEK[4], AXA), both
     yield 'days in any order', text(COVER, AXA, WEEK[4], b'X 2010-12-31', WEEK[0], changed(1, b'AXB')), text(
         COVER, WEEK[0], WEEK[4], b'X 2010-12-31', AXA, changed(1, b'AXB'))
+    year = text(b'Y 2008 1', *CLOSED, AXA)
+    yield 'a seed', text(MADE_UP, AXA), year
+    yield 'a seed without a line feed at the end', text(MADE_UP, AXA)[:-1], year
+    yield 'a seed with its cover in 63 characters', text(b'S %s 2008 1' % (54 * b'0'), AXA), year
+    yield 'zeros before a cover', text(b'S 00 02008 001', AXA), year
 
 
 # ---- Texts from a seed ----
 
-# A text of a few years, days and products, with no fault but by chance.
-def random_text(chance):
+# A cover of a few years and some closed days.
+def random_days(chance):
     first, years = chance.randint(2000, 2095), chance.randint(1, 5)
     start, end = dates.day_of(first, 1, 1), dates.day_of(first + years - 1, 12, 31)
     days = [chance.randint(start, end) for _ in range(chance.below(12))]
     closed = [lists.day_line(chance.one_of((b'C', b'X')), day)[:-1] for day in days
               if dates.is_weekday(day) or not chance.below(40)]
+    return [b'Y %d %d' % (first, years), *closed]
+
+
+# A seed and a cover; one cover in a few is not right.
+def random_seed(chance):
+    seed = chance.one_of((0, 1, 26355, 59783, 2**31, 2**32 - 1, chance.below(2**32), chance.below(2**32)))
+    years = chance.randint(0, 17) if not chance.below(6) else chance.randint(1, 16)
+    first = chance.randint(1999, 2100) if not chance.below(6) else chance.randint(2000, 2100 - years)
+    return [b'S %d %d %d' % (seed, first, years)]
+
+
+# A text of a cover, with closed days or a seed, and products, with no fault but by
+# chance.
+def random_text(chance):
+    first = random_seed(chance) if not chance.below(3) else random_days(chance)
     products = [with_part(chance, line) for line in chance.sample(many(300), chance.randint(1, 40))]
-    return [b'Y %d %d' % (first, years), *closed, *(products if not chance.below(20) else sorted(products))]
+    return [*first, *(products if not chance.below(20) else sorted(products))]
 
 
 # A product line, one of three with ten-thousandths of a share.
@@ -153,7 +203,7 @@ def with_part(chance, line):
 
 # A line with one byte taken away, put in or replaced.
 def with_slip(chance, line):
-    at, byte = chance.below(len(line) + 1), bytes([chance.one_of(b' 0129AXYPC-.\n\r\0\xff')])
+    at, byte = chance.below(len(line) + 1), bytes([chance.one_of(b' 0129AXYSPC-.\n\r\0\xff')])
     return chance.one_of((line[:at] + line[at + 1:], line[:at] + byte + line[at:], line[:at] + byte + line[at + 1:]))
 
 
@@ -170,7 +220,7 @@ def with_change(chance, lines):
     elif change == 3:
         lines.insert(chance.below(len(lines)), lines.pop(at))
     else:
-        lines.insert(at, chance.one_of((b'', b'#', b'C 2010-06-01', b'X 2010-06-01', COVER, AXA)))
+        lines.insert(at, chance.one_of((b'', b'#', b'C 2010-06-01', b'X 2010-06-01', COVER, MADE_UP, AXA)))
     return lines or [COVER]
 
 

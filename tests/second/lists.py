@@ -1,4 +1,4 @@
-"""The text of a master file (README, "The text of a master file"; 02, notes 7 and 11).
+"""The text of a master file (README, "The text of a master file"; 02, notes 7, 11 and 14).
 
 python3 tests/second/lists.py compose reads a text from standard input and writes
 the master file to standard output, or `NO n` or `BAD k` to standard error.
@@ -13,16 +13,17 @@ import sys
 if __name__ == '__main__':
     sys.path.insert(0, os.path.dirname(os.path.dirname(os.path.abspath(__file__))))
 
-from second import dates, master, trading, writing  # noqa: E402
+from second import dates, generated, master, trading, writing  # noqa: E402
 from second.product import SHARE, Product  # noqa: E402
 from second.trading import Calendar  # noqa: E402
 
 # README: "no line has more than 63 characters"; "a year, a number of years, a size's
-# shares and a tick are at most 65,535, a kind is at most 255"; "the first 2,048 products
-# are kept".
+# shares and a tick are at most 65,535, a kind is at most 255, a seed at most
+# 4,294,967,295"; "the first 2,048 products are kept".
 CHARACTERS_AT_MOST = 63
 NUMBER_AT_MOST = 65535
 KIND_AT_MOST = 255
+SEED_AT_MOST = 4294967295
 KEPT_AT_MOST = 2048
 
 # README: "single spaces part the words of a line"; "a number is one or more
@@ -30,6 +31,7 @@ KEPT_AT_MOST = 2048
 # but spaces and line feeds"; a size is "a number, perhaps with a point and four digits
 # after it".
 COVER = re.compile(rb'Y ([0-9]+) ([0-9]+)')
+SEED = re.compile(rb'S ([0-9]+) ([0-9]+) ([0-9]+)')
 DAY = re.compile(rb'([CX]) ([0-9]{4})-([0-9]{2})-([0-9]{2})')
 SIZE = rb'([0-9]+)(?:\.([0-9]{4}))?'
 PRODUCT = re.compile(rb'P ([^ ]{1,4}) ([^ ]{4}) ([^ ]{4}) ([0-9]+) ' + SIZE + rb' ([0-9]+) ([^ ]{3})', re.DOTALL)
@@ -49,7 +51,7 @@ def lines_of(text):
 def entry_of(line):
     if len(line) > CHARACTERS_AT_MOST:
         return None
-    return cover_entry(line) or day_entry(line) or product_entry(line)
+    return cover_entry(line) or seed_entry(line) or day_entry(line) or product_entry(line)
 
 
 def cover_entry(line):
@@ -57,6 +59,16 @@ def cover_entry(line):
     if not match or max(map(int, match.groups())) > NUMBER_AT_MOST:
         return None
     return ('Y', *map(int, match.groups()))
+
+
+def seed_entry(line):
+    match = SEED.fullmatch(line)
+    if not match:
+        return None
+    seed, first, years = map(int, match.groups())
+    if seed > SEED_AT_MOST or max(first, years) > NUMBER_AT_MOST:
+        return None
+    return 'S', seed, first, years
 
 
 def day_entry(line):
@@ -83,26 +95,36 @@ def is_in_cover(first, years, day):
     return first <= dates.date_of(day)[0] < first + years
 
 
-# README: "`Y` is the first line, and only that"; "the day of a `C` or `X` is in the
-# cover". Whether an entry may stand on the line with this number.
-def may_stand(entry, number, cover):
+# README: "The first line is a `Y` or an `S`, and no other line is. After an `S` no
+# line is a `C` or an `X`"; "the day of a `C` or `X` is in the cover". Whether an
+# entry may stand on the line with this number, after a first line with this letter.
+def may_stand(entry, number, first_letter, cover):
     if entry is None:
         return False
-    if entry[0] == 'Y' or number == 1:
-        return entry[0] == 'Y' and number == 1
-    return entry[0] == 'P' or is_in_cover(*cover, entry[1])
+    if entry[0] in 'YS' or number == 1:
+        return entry[0] in 'YS' and number == 1
+    return entry[0] == 'P' or first_letter == 'Y' and is_in_cover(*cover, entry[1])
+
+
+# The cover and the closed days that a first line says. 02, note 14, of a seed: "any
+# other cover gets 4 and a calendar of zeros".
+def first_said(entry):
+    if entry[0] == 'Y':
+        return entry[1:], set()
+    _, calendar = generated.make(*entry[1:])
+    return (calendar.first_year, calendar.years), set(calendar.closed)
 
 
 # What a text says: the number of its first line that is none, 0 where each is one;
 # the cover, the closed days, those on which payments run, the products.
 def read(text):
-    cover, closed, exchange, products = (0, 0), set(), set(), []
+    first_letter, cover, closed, exchange, products = '', (0, 0), set(), set(), []
     for number, line in enumerate(lines_of(text), 1):
         entry = entry_of(line)
-        if not may_stand(entry, number, cover):
+        if not may_stand(entry, number, first_letter, cover):
             return number, cover, closed, exchange, products
-        if entry[0] == 'Y':
-            cover = entry[1:]
+        if number == 1:
+            first_letter, (cover, closed) = entry[0], first_said(entry)
         elif entry[0] == 'P':
             products.append(entry[1])
         else:

@@ -15,31 +15,46 @@ use Rattle.lines.specs.declared.DateRead.{DateRead}
 use Rattle.lines.specs.Lines.{dateAt, emptyLine, fed}
 use Rattle.lines.proofs.Feeding.{Fed, Holds, fed-holds, held}
 use Rattle.entries.specs.declared.NumberRead.{NumberRead}
+use Rattle.entries.specs.declared.CoverRead.{CoverRead}
 use Rattle.entries.specs.declared.Entry.{Entry}
 use Rattle.records.specs.Records.{threeBytes, fourBytes}
 use Rattle.writing.specs.Writing.{fieldBytes}
-use Rattle.entries.specs.Entries.{wordAt, numberOf, sharesRead, partRead, otherEntry, idBytes, coverForm, coverEntry, dayForm, dayEntry, productForm, lineRecord, productEntry, entryAt, entryOf, lineEntry}
+use Rattle.entries.specs.Entries.{wordAt, numberOf, sharesRead, partRead, otherEntry, idBytes, letterForm, coverAt, coverEntry, seedEntry, dayForm, dayEntry, productForm, lineRecord, productEntry, entryAt, entryOf, lineEntry}
 
 -- a cover
 module _ (line : List ℕ) where
-  pub cover-formless : coverForm line ≡ false → otherEntry ≡ coverEntry line
+  pub cover-formless : letterForm line 3 ≡ false → otherEntry ≡ coverEntry line
   unfolding coverEntry
   cover-formless e = rw e refl
 
-  module _ (e : coverForm line ≡ true) (first : NumberRead) (p : first ≡ numberOf (wordAt line 1) 65535) where
-    pub cover-yearless : first .there ≡ false → otherEntry ≡ coverEntry line
+  module _ (e : letterForm line 3 ≡ true) (read : CoverRead) (p : read ≡ coverAt line 1 2) where
+    pub cover-none : read .there ≡ false → otherEntry ≡ coverEntry line
     unfolding coverEntry
-    cover-yearless t = rw (e, ← p, t) refl
+    cover-none t = rw (e, ← p, t) refl
 
-    module _ (t : first .there ≡ true) (years : NumberRead) (q : years ≡ numberOf (wordAt line 2) 65535) where
-      pub cover-countless : years .there ≡ false → otherEntry ≡ coverEntry line
-      unfolding coverEntry
-      cover-countless u = rw (e, ← p, t, ← q, u) refl
+    pub cover-is : read .there ≡ true → record { letter = 89; cover = read .cover; seed = 0; day = 0; «record» = replicate 32 0 } ≡ coverEntry line
+    unfolding coverEntry
+    cover-is t = rw (e, ← p, t) refl
 
-      pub cover-is : years .there ≡ true
-          → record { letter = 89; cover = record { «first_year» = first .value; years = years .value }; day = 0; «record» = replicate 32 0 } ≡ coverEntry line
-      unfolding coverEntry
-      cover-is u = rw (e, ← p, t, ← q, u) refl
+-- a seed with a cover
+module _ (line : List ℕ) where
+  pub seed-formless : letterForm line 4 ≡ false → otherEntry ≡ seedEntry line
+  unfolding seedEntry
+  seed-formless e = rw e refl
+
+  module _ (e : letterForm line 4 ≡ true) (seed : NumberRead) (p : seed ≡ numberOf (wordAt line 1) 4294967295) where
+    pub seed-none : seed .there ≡ false → otherEntry ≡ seedEntry line
+    unfolding seedEntry
+    seed-none t = rw (e, ← p, t) refl
+
+    module _ (t : seed .there ≡ true) (read : CoverRead) (q : read ≡ coverAt line 2 3) where
+      pub seed-coverless : read .there ≡ false → otherEntry ≡ seedEntry line
+      unfolding seedEntry
+      seed-coverless u = rw (e, ← p, t, ← q, u) refl
+
+      pub seed-is : read .there ≡ true → record { letter = 83; cover = read .cover; seed = seed .value; day = 0; «record» = replicate 32 0 } ≡ seedEntry line
+      unfolding seedEntry
+      seed-is u = rw (e, ← p, t, ← q, u) refl
 
 -- a closed day
 module _ (f : ℕ → ℕ) (n : ℕ) where
@@ -57,7 +72,7 @@ module _ (f : ℕ → ℕ) (n : ℕ) where
       unfolding dayEntry dayForm
       day-dateless u = rw (eq-eqb n 12 e, t, ← q, u) refl
 
-      pub day-is : r .there ≡ true → record { letter = f 0; cover = record { «first_year» = 0; years = 0 }; day = r .day; «record» = replicate 32 0 } ≡ dayEntry f n
+      pub day-is : r .there ≡ true → record { letter = f 0; cover = record { «first_year» = 0; years = 0 }; seed = 0; day = r .day; «record» = replicate 32 0 } ≡ dayEntry f n
       unfolding dayEntry dayForm
       day-is u = rw (eq-eqb n 12 e, t, ← q, u) refl
 
@@ -88,7 +103,7 @@ module _ (line : List ℕ) where
           product-tickless x = rw (e, ← p, t, ← q, u, ← s, v, ← w, x) refl
 
           pub product-is : tick .there ≡ true → (r : List ℕ) → r ≡ lineRecord line (kind .value) (shares .value) (part .value) (tick .value)
-              → record { letter = 80; cover = record { «first_year» = 0; years = 0 }; day = 0; «record» = r } ≡ productEntry line
+              → record { letter = 80; cover = record { «first_year» = 0; years = 0 }; seed = 0; day = 0; «record» = r } ≡ productEntry line
           unfolding productEntry
           product-is x r y = rw (e, ← p, t, ← q, u, ← s, v, ← w, x, y) refl
 
@@ -114,13 +129,18 @@ module _ (l : Line) where
     begins-y e = rw (lt-ltb (l .length) 64 h, eq-eqb (getD (l .bytes) 0 0) 89 e) refl
 
     module _ (y : getD (l .bytes) 0 0 ≡ 89 → ⊥) where
-      pub begins-p : getD (l .bytes) 0 0 ≡ 80 → productEntry (take (l .length) (l .bytes)) ≡ lineEntry l
+      pub begins-s : getD (l .bytes) 0 0 ≡ 83 → seedEntry (take (l .length) (l .bytes)) ≡ lineEntry l
       unfolding lineEntry entryAt
-      begins-p e = rw (lt-ltb (l .length) 64 h, ne-eqb (getD (l .bytes) 0 0) 89 y, eq-eqb (getD (l .bytes) 0 0) 80 e) refl
+      begins-s e = rw (lt-ltb (l .length) 64 h, ne-eqb (getD (l .bytes) 0 0) 89 y, eq-eqb (getD (l .bytes) 0 0) 83 e) refl
 
-      pub begins-else : (getD (l .bytes) 0 0 ≡ 80 → ⊥) → dayEntry (λ i. getD (l .bytes) i 0) (l .length) ≡ lineEntry l
-      unfolding lineEntry entryAt
-      begins-else e = rw (lt-ltb (l .length) 64 h, ne-eqb (getD (l .bytes) 0 0) 89 y, ne-eqb (getD (l .bytes) 0 0) 80 e) refl
+      module _ (s : getD (l .bytes) 0 0 ≡ 83 → ⊥) where
+        pub begins-p : getD (l .bytes) 0 0 ≡ 80 → productEntry (take (l .length) (l .bytes)) ≡ lineEntry l
+        unfolding lineEntry entryAt
+        begins-p e = rw (lt-ltb (l .length) 64 h, ne-eqb (getD (l .bytes) 0 0) 89 y, ne-eqb (getD (l .bytes) 0 0) 83 s, eq-eqb (getD (l .bytes) 0 0) 80 e) refl
+
+        pub begins-else : (getD (l .bytes) 0 0 ≡ 80 → ⊥) → dayEntry (λ i. getD (l .bytes) i 0) (l .length) ≡ lineEntry l
+        unfolding lineEntry entryAt
+        begins-else e = rw (lt-ltb (l .length) 64 h, ne-eqb (getD (l .bytes) 0 0) 89 y, ne-eqb (getD (l .bytes) 0 0) 83 s, ne-eqb (getD (l .bytes) 0 0) 80 e) refl
 
 -- a line of 64 bytes or more is no entry
 long-entry : (bytes : List ℕ) (n : ℕ) → 64 ≤ n → entryAt bytes n ≡ otherEntry

@@ -1,4 +1,4 @@
--- A line of a list, from which `compose` makes a master file, as an entry (02, notes 7 and 11; README, The text of a master file).
+-- A line of a list, from which `compose` makes a master file, as an entry (02, notes 7, 11 and 14; README, The text of a master file).
 -- Assumes nothing.
 use Prim.Native.Nat.{ℕ, _+_, _-_, _*_}
 use mathlib.Core.Bool.{Bool, true, false, _&&_, _||_, cond}
@@ -10,6 +10,7 @@ use Rattle.writing.specs.Writing.{fieldBytes}
 use Rattle.lines.specs.declared.Line.{Line}
 use Rattle.lines.specs.Lines.{digitValue, dateAt}
 use Rattle.entries.specs.declared.NumberRead.{NumberRead}
+use Rattle.entries.specs.declared.CoverRead.{CoverRead}
 use Rattle.entries.specs.declared.Entry.{Entry}
 
 -- 'Single spaces part the words of a line' (a space is 32): its words, after a word that has begun with some bytes. Between two spaces stands a word of no bytes
@@ -53,19 +54,34 @@ partRead word = cond (pointed word) (numberOf (drop (length word - 4) word) 9999
 
 -- another line: no letter, and zeros
 abbrev pub otherEntry : Entry
-otherEntry = record { letter = 0; cover = record { «first_year» = 0; years = 0 }; day = 0; «record» = replicate 32 0 }
+otherEntry = record { letter = 0; cover = record { «first_year» = 0; years = 0 }; seed = 0; day = 0; «record» = replicate 32 0 }
 
--- '`Y first years`': three words, the first of them one letter
-unfoldable pub coverForm : List ℕ → Bool
-coverForm line = eqb (length (wordsOf line)) 3 && eqb (length (wordAt line 0)) 1
+-- a letter and what follows it: so many words, the first of them one letter
+unfoldable pub letterForm : List ℕ → ℕ → Bool
+letterForm line words = eqb (length (wordsOf line)) words && eqb (length (wordAt line 0)) 1
 
--- the entry of such a line, whose letter is Y, 89: 'a year, a number of years .. are at most 65,535'
+-- the cover that words k and m are: 'a year, a number of years .. are at most 65,535'
+unfoldable pub coverAt : List ℕ → ℕ → ℕ → CoverRead
+coverAt line k m =
+    let first = numberOf (wordAt line k) 65535 in
+    let years = numberOf (wordAt line m) 65535 in
+    record { there = first .there && years .there; cover = record { «first_year» = first .value; years = years .value } }
+
+-- '`Y first years`': the entry of a line whose letter is Y, 89
 unfoldable pub coverEntry : List ℕ → Entry
 coverEntry line =
-    let first = numberOf (wordAt line 1) 65535 in
-    let years = numberOf (wordAt line 2) 65535 in
-    cond (coverForm line && (first .there && years .there))
-    (record { letter = 89; cover = record { «first_year» = first .value; years = years .value }; day = 0; «record» = replicate 32 0 })
+    let read = coverAt line 1 2 in
+    cond (letterForm line 3 && read .there)
+    (record { letter = 89; cover = read .cover; seed = 0; day = 0; «record» = replicate 32 0 })
+    otherEntry
+
+-- '`S seed first years`': the entry of a line whose letter is S, 83; 'a seed at most 4,294,967,295'
+unfoldable pub seedEntry : List ℕ → Entry
+seedEntry line =
+    let seed = numberOf (wordAt line 1) 4294967295 in
+    let read = coverAt line 2 3 in
+    cond (letterForm line 4 && (seed .there && read .there))
+    (record { letter = 83; cover = read .cover; seed = seed .value; day = 0; «record» = replicate 32 0 })
     otherEntry
 
 -- '`C date`', '`X date`': the letter C, 67, or X, 88, a space, 32, and a date, 12 characters in all
@@ -77,7 +93,7 @@ unfoldable pub dayEntry : (ℕ → ℕ) → ℕ → Entry
 dayEntry line n =
     let date = dateAt line 2 in
     cond (dayForm line n && date .there)
-    (record { letter = line 0; cover = record { «first_year» = 0; years = 0 }; day = date .day; «record» = replicate 32 0 })
+    (record { letter = line 0; cover = record { «first_year» = 0; years = 0 }; seed = 0; day = date .day; «record» = replicate 32 0 })
     otherEntry
 
 -- '`P id group market kind size tick currency`': eight words, the first of them one letter; 'an id has 1 to 4 characters, a group and a market 4, a currency 3'
@@ -109,17 +125,19 @@ productEntry line =
     (record {
       letter = 80;
       cover = record { «first_year» = 0; years = 0 };
+      seed = 0;
       day = 0;
       «record» = lineRecord line (kind .value) (shares .value) (part .value) (tick .value);
     })
     otherEntry
 
--- the entry of the first n of some bytes, by its letter: Y, 89, P, 80, or C or X; 'no line has more than 63 characters'
+-- the entry of the first n of some bytes, by its letter: Y, 89, S, 83, P, 80, or C or X; 'no line has more than 63 characters'
 unfoldable pub entryAt : List ℕ → ℕ → Entry
 entryAt bytes n =
     cond (ltb n 64)
     (cond (eqb (getD bytes 0 0) 89) (coverEntry (take n bytes))
-    (cond (eqb (getD bytes 0 0) 80) (productEntry (take n bytes)) (dayEntry (λ i. getD bytes i 0) n)))
+    (cond (eqb (getD bytes 0 0) 83) (seedEntry (take n bytes))
+    (cond (eqb (getD bytes 0 0) 80) (productEntry (take n bytes)) (dayEntry (λ i. getD bytes i 0) n))))
     otherEntry
 
 -- the entry of a line of any length

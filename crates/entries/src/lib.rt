@@ -4,7 +4,7 @@ use lines::Line;
 ghost use mathlib.Core.Path.{_≡_};
 ghost use Prim.Native.Nat.{_≤_};
 ghost use lib.ListN.{length, getD};
-ghost use Rattle.entries.specs.Entries.{wordsOf, wordAt, numberOf, pointed, sharesRead, partRead, otherEntry, coverForm, coverEntry, dayEntry, productForm, idBytes, lineRecord, productEntry, lineEntry};
+ghost use Rattle.entries.specs.Entries.{wordsOf, wordAt, numberOf, pointed, sharesRead, partRead, otherEntry, letterForm, coverAt, coverEntry, seedEntry, dayEntry, productForm, idBytes, lineRecord, productEntry, lineEntry};
 ghost use Rattle.entries.specs.Places.{SpaceFrom};
 
 // Whether there is a number, and which.
@@ -13,10 +13,17 @@ pub struct NumberRead {
     pub value: u32,
 }
 
-// An entry: the letter Y, C, X or P, the cover of a Y, the day of a C or X, the record of a P. Another line has no letter, 0.
+// Whether there is a cover, and which.
+pub struct CoverRead {
+    pub there: bool,
+    pub cover: Cover,
+}
+
+// An entry: the letter Y, S, C, X or P, the cover of a Y or S, the seed of an S, the day of a C or X, the record of a P. Another line has no letter, 0.
 pub struct Entry {
     pub letter: u8,
     pub cover: Cover,
+    pub seed: u32,
     pub day: u16,
     pub record: writing::Record,
 }
@@ -172,39 +179,75 @@ fn other_entry() -> Entry
             first_year: 0,
             years: 0,
         },
+        seed: 0,
         day: 0,
         record: [0; 32],
     }
 }
 
-// Whether a line has the three words of a cover.
-fn is_cover_form(line: &[u8]) -> bool
-    ensures { λ r. ⌜ r ≡ coverForm (now (line .entry)) ⌝ }
+// Whether a line has so many words, the first of them one letter.
+fn is_letter_form(line: &[u8], words: usize) -> bool
+    ensures { λ r. ⌜ r ≡ letterForm (now (line .entry)) words ⌝ }
 {
-    (word_count(line) == 3) & (word_length(line, 0) == 1)
+    (word_count(line) == words) & (word_length(line, 0) == 1)
+}
+
+// The cover that words k and m of a line are, where both are numbers.
+fn cover_at(line: &[u8], k: usize, m: usize) -> CoverRead
+    ensures { λ r. ⌜ r ≡ coverAt (now (line .entry)) k m ⌝ }
+{
+    let first = number_in(line, k, 65535);
+    let years = number_in(line, m, 65535);
+    CoverRead {
+        there: first.there & years.there,
+        cover: Cover {
+            first_year: first.value as u16,
+            years: years.value as u16,
+        },
+    }
 }
 
 // A cover or another line.
 fn cover_entry(line: &[u8]) -> Entry
     ensures { λ r. ⌜ r ≡ coverEntry (now (line .entry)) ⌝ }
 {
-    if !is_cover_form(line) {
+    if !is_letter_form(line, 3) {
         return other_entry();
     }
-    let first = number_in(line, 1, 65535);
-    if !first.there {
+    let read = cover_at(line, 1, 2);
+    if !read.there {
         return other_entry();
     }
-    let years = number_in(line, 2, 65535);
-    if !years.there {
-        return other_entry();
-    }
+    let cover = read.cover;
     Entry {
         letter: b'Y',
-        cover: Cover {
-            first_year: first.value as u16,
-            years: years.value as u16,
-        },
+        cover,
+        seed: 0,
+        day: 0,
+        record: [0; 32],
+    }
+}
+
+// A seed with a cover, or another line.
+fn seed_entry(line: &[u8]) -> Entry
+    ensures { λ r. ⌜ r ≡ seedEntry (now (line .entry)) ⌝ }
+{
+    if !is_letter_form(line, 4) {
+        return other_entry();
+    }
+    let seed = number_in(line, 1, 4294967295);
+    if !seed.there {
+        return other_entry();
+    }
+    let read = cover_at(line, 2, 3);
+    if !read.there {
+        return other_entry();
+    }
+    let cover = read.cover;
+    Entry {
+        letter: b'S',
+        cover,
+        seed: seed.value,
         day: 0,
         record: [0; 32],
     }
@@ -232,6 +275,7 @@ fn day_entry(line: Line) -> Entry
             first_year: 0,
             years: 0,
         },
+        seed: 0,
         day: date.day,
         record: [0; 32],
     }
@@ -319,6 +363,7 @@ fn product_entry(line: &[u8]) -> Entry
             first_year: 0,
             years: 0,
         },
+        seed: 0,
         day: 0,
         record,
     }
@@ -336,6 +381,9 @@ pub fn entry_of(line: Line) -> Entry
     }
     if letter == b'Y' {
         return cover_entry(&bytes[..n]);
+    }
+    if letter == b'S' {
+        return seed_entry(&bytes[..n]);
     }
     if letter == b'P' {
         return product_entry(&bytes[..n]);

@@ -1,7 +1,7 @@
 -- A list line by line and part by part, and what the definition says of the whole.
 -- Assumes nothing.
 use mathlib.Core.Path.{_≡_, refl, sym, ap, _∙_}
-use mathlib.Core.Bool.{Bool, true, false, cond}
+use mathlib.Core.Bool.{Bool, true, false, _||_, cond}
 use mathlib.Core.List.{List, [], _∷_, _++_}
 use Prim.Native.Nat.{ℕ, _+_, _≤_, _<_}
 use native.Mathlib.Numerals.{add-one}
@@ -25,26 +25,27 @@ use Rattle.entries.specs.Entries.{entryOf, lineEntry}
 use Rattle.entries.proofs.Forms.{any-length}
 use Rattle.lists.specs.declared.Taken.{Taken}
 use Rattle.lists.specs.declared.Composed.{Composed}
-use Rattle.lists.specs.Lists.{Content, noContent, nothingTaken, entryFits, calendarAfter, recordsAfter, nextLine, lineTaken, linesTaken, contentOf, restTaken, contentIn, RecordsIn, LineIn, PartIn, EndIn, composed, composedFile}
+use Rattle.lists.specs.Lists.{Content, noContent, nothingTaken, entryFits, calendarAfter, recordsAfter, nextLine, lineTaken, linesTaken, contentOf, restTaken, contentIn, Grown, RecordsIn, LineIn, PartIn, EndIn, composed, composedFile}
+use Rattle.lists.proofs.Storing.{stays, grows-on}
 
 -- ---- one line more
 
 module _ (t : Taken) (l : Line) (before : List ℕ) where
   pub taken-after-bad : (t .bad ≡ 0 → ⊥) → LineIn t l before before t
   unfolding lineTaken
-  taken-after-bad n = record { is = rw (ne-eqb (t .bad) 0 n) refl; long = refl; unchanged = refl }
+  taken-after-bad n = record { is = rw (ne-eqb (t .bad) 0 n) refl; buffer = stays before (t .size) }
 
-  module _ (z : t .bad ≡ 0) (e : Entry) (q : e ≡ lineEntry l) (n : ℕ) (p : n ≡ nextLine (t .lines)) (b : Bool) (s : b ≡ entryFits (t .lines) (t .calendar .cover) e) where
-    pub taken-bad : b ≡ false → LineIn t l before before (record { calendar = t .calendar; size = t .size; lines = n; bad = n })
+  module _ (z : t .bad ≡ 0) (e : Entry) (q : e ≡ lineEntry l) (n : ℕ) (p : n ≡ nextLine (t .lines)) (b : Bool) (s : b ≡ entryFits (t .lines) (t .calendar .cover) (t .made) e) where
+    pub taken-bad : b ≡ false → LineIn t l before before (record { calendar = t .calendar; made = t .made; size = t .size; lines = n; bad = n })
     unfolding lineTaken
-    taken-bad f = record { is = rw (eq-eqb (t .bad) 0 z, ← q, ← s, f, p) refl; long = refl; unchanged = refl }
+    taken-bad f = record { is = rw (eq-eqb (t .bad) 0 z, ← q, ← s, f, p) refl; buffer = stays before (t .size) }
 
     pub taken-good : b ≡ true → (cal : Calendar) → cal ≡ calendarAfter (t .calendar) e → (after : List ℕ) (size : ℕ)
-        → RecordsIn before after size (recordsAfter (length before) (take (t .size) before) e)
-        → LineIn t l before after (record { calendar = cal; size = size; lines = n; bad = 0 })
+        → RecordsIn before after (t .size) size (recordsAfter (length before) (take (t .size) before) e)
+        → LineIn t l before after (record { calendar = cal; made = t .made || eqb (e .letter) 83; size = size; lines = n; bad = 0 })
     unfolding lineTaken
     taken-good f cal g after size r =
-        record { is = rw (eq-eqb (t .bad) 0 z, ← q, ← s, f, p, g, r .is) refl; long = r .long; unchanged = r .unchanged }
+        record { is = rw (eq-eqb (t .bad) 0 z, ← q, ← s, f, p, g, r .is) refl; buffer = r .buffer }
 
 -- ---- part by part
 
@@ -60,11 +61,11 @@ module _ (room : ℕ) (c : Content) (l : Line) where
 -- after the first i bytes of a part
 pub record Going (t : Taken) (l : Line) (part before : List ℕ) (now : Taken) (line : Line) (buffer : List ℕ) (i : ℕ) : Type 0 where
   pub within : i ≤ length part
-  pub long : length buffer ≡ length before
+  pub grown : Grown before buffer (t .size) (now .size)
   pub is : (rest : List ℕ) → restTaken (length before) (contentIn t before) l (part ++ rest) ≡ restTaken (length before) (contentIn now buffer) line (drop i part ++ rest)
 
 pub begins : (t : Taken) (l : Line) (part before : List ℕ) → Going t l part before t l before 0
-begins t l part before = record { within = omega arith; long = refl; is = λ rest. refl }
+begins t l part before = record { within = omega arith; grown = stays before (t .size); is = λ rest. refl }
 
 module _ (t : Taken) (l : Line) (part before : List ℕ) (now : Taken) (line : Line) (buffer : List ℕ) (i : ℕ) (g : Going t l part before now line buffer i) where
   module _ (h : i < length part) where
@@ -75,34 +76,34 @@ module _ (t : Taken) (l : Line) (part before : List ℕ) (now : Taken) (line : L
     goes-byte n next e =
         record {
           within = omega arith;
-          long = g .long;
+          grown = g .grown;
           is = λ rest. g .is rest ∙ rw (part-next rest, e) (rest-byte (length before) (contentIn now buffer) line (getD part i 0) (drop (i + 1) part ++ rest) n);
         }
 
     pub goes-line : getD part i 0 ≡ 10 → (after : List ℕ) (r : Taken) → LineIn now line buffer after r → (next : Line) → next ≡ emptyLine → Going t l part before r next after (i + 1)
     goes-line e after r s next q =
-        let room : length buffer ≡ length before = g .long in
+        let room : length buffer ≡ length before = g .grown .long in
         record {
           within = omega arith;
-          long = s .long ∙ g .long;
+          grown = grows-on (g .grown) (s .buffer);
           is = λ rest. g .is rest ∙ rw (part-next rest, q, s .is, room) (rest-line (length before) (contentIn now buffer) line (getD part i 0) (drop (i + 1) part ++ rest) e);
         }
 
   pub ends : length part ≤ i → PartIn t l part before buffer now line
   ends h =
       let e : i ≡ length part = omega (arith, g .within) in
-      record { is = λ rest. g .is rest ∙ rw (e, drop-length part) refl; long = g .long }
+      record { is = λ rest. g .is rest ∙ rw (e, drop-length part) refl; buffer = g .grown }
 
 -- ---- the end of the list
 
 module _ (t : Taken) (l : Line) (before : List ℕ) where
   pub end-none : l .length ≡ 0 → EndIn t l before before t
   unfolding restTaken
-  end-none e = record { is = rw (eq-eqb (l .length) 0 e) refl; long = refl }
+  end-none e = record { is = rw (eq-eqb (l .length) 0 e) refl; buffer = stays before (t .size) }
 
   pub end-line : (l .length ≡ 0 → ⊥) → (after : List ℕ) (r : Taken) → LineIn t l before after r → EndIn t l before after r
   unfolding restTaken
-  end-line n after r s = record { is = rw (ne-eqb (l .length) 0 n) (s .is); long = s .long }
+  end-line n after r s = record { is = rw (ne-eqb (l .length) 0 n) (s .is); buffer = s .buffer }
 
 -- ---- the whole
 

@@ -1,14 +1,18 @@
--- What a list says: the calendar and the records of a master file (02, note 7; README, The text of a master file).
+-- What a list says: the calendar and the records of a master file (02, notes 7 and 14; README, The text of a master file).
 -- Assumes nothing.
-use Prim.Native.Nat.{ℕ, _+_}
+use Prim.Native.Nat.{ℕ, _+_, _≤_}
 use mathlib.Core.Path.{_≡_}
-use mathlib.Core.Bool.{Bool, false, not, _&&_, _||_, cond}
+use mathlib.Core.Bool.{Bool, true, false, not, _&&_, _||_, cond}
 use mathlib.Core.List.{List, [], _∷_, _++_}
 use lib.Dec.{eqb, leb, ltb}
 use lib.ListN.{length, take, drop}
 use Rattle.calendar.specs.declared.Cover.{Cover}
 use Rattle.calendar.specs.declared.Calendar.{Calendar}
-use Rattle.calendar.specs.Trading.{openCalendar, calendarWith, inCover, closeDay}
+use Rattle.calendar.specs.Trading.{openCalendar, calendarWith, validCover, inCover, closeDay}
+use Rattle.generated.specs.Generated.{madeCall}
+use Rattle.blocks.specs.Blocks.{headersRight}
+use Rattle.years.specs.Calendars.{orderRight, calendarsClean, weeksRight}
+use Rattle.drafts.specs.Drafts.{fileOf}
 use Rattle.writing.specs.Writing.{writeCall, bufferAfter}
 use Rattle.lines.specs.declared.Line.{Line}
 use Rattle.lines.specs.Lines.{emptyLine, extended, linesFrom}
@@ -17,16 +21,17 @@ use Rattle.entries.specs.Entries.{entryOf, lineEntry}
 use Rattle.lists.specs.declared.Taken.{Taken}
 use Rattle.lists.specs.declared.Composed.{Composed}
 
--- what the lines so far say: a calendar and records, 32 bytes each; how many lines there are; and the number of the first, from 1, that is none of those of a list, 0 where each is one
+-- what the lines so far say: a calendar, whether it was made from a seed, and records, 32 bytes each; how many lines there are; and the number of the first, from 1, that is none of those of a list, 0 where each is one
 pub record Content : Type 0 where
   pub calendar : Calendar
+  pub made : Bool
   pub records : List ℕ
   pub lines : ℕ
   pub bad : ℕ
 
 -- before the first line there is no year
 unfoldable pub noContent : Content
-noContent = record { calendar = openCalendar (record { «first_year» = 0; years = 0 }); records = []; lines = 0; bad = 0 }
+noContent = record { calendar = openCalendar (record { «first_year» = 0; years = 0 }); made = false; records = []; lines = 0; bad = 0 }
 
 -- '`X date`: a closed day on which payments and deliveries run': closed, and with its bit in the second map as a closure sets it in the first
 unfoldable pub closeExchangeDay : Calendar → ℕ → Calendar
@@ -37,18 +42,20 @@ closeExchangeDay cal d =
       exchange = closeDay (calendarWith (cal .cover) (cal .exchange)) d .closed;
     }
 
--- '`Y` [89] is the first line, and only that'; 'the day of a `C` or `X` is in the cover'; the other entry is P, 80
-unfoldable pub entryFits : ℕ → Cover → Entry → Bool
-entryFits lines cover e =
+-- 'The first line is a `Y` [89] or an `S` [83], and no other line is. After an `S` no line is a `C` or an `X`'; 'the day of a `C` or `X` is in the cover'; the other entry is P, 80
+unfoldable pub entryFits : ℕ → Cover → Bool → Entry → Bool
+entryFits lines cover made e =
     cond (eqb (e .letter) 0) false
-    (cond (eqb (e .letter) 89) (eqb lines 0) (not (eqb lines 0) && (eqb (e .letter) 80 || inCover cover (e .day))))
+    (cond (eqb (e .letter) 89 || eqb (e .letter) 83) (eqb lines 0)
+    (not (eqb lines 0) && (eqb (e .letter) 80 || (not made && inCover cover (e .day)))))
 
--- the calendar after an entry: Y, 89, C, 67, X, 88; a product leaves it as it is
+-- the calendar after an entry: Y, 89, S, 83, C, 67, X, 88; a product leaves it as it is. 'An `S` whose cover is not 1 to 16 years from 2000 to 2099 says no year': the seed's calendar is then one of zeros
 unfoldable pub calendarAfter : Calendar → Entry → Calendar
 calendarAfter cal e =
     cond (eqb (e .letter) 89) (openCalendar (e .cover))
+    (cond (eqb (e .letter) 83) (madeCall (e .seed) (e .cover) .value)
     (cond (eqb (e .letter) 67) (closeDay cal (e .day))
-    (cond (eqb (e .letter) 88) (closeExchangeDay cal (e .day)) cal))
+    (cond (eqb (e .letter) 88) (closeExchangeDay cal (e .day)) cal)))
 
 -- one record more; where there is no room for it, it is left out
 unfoldable pub withRecord : ℕ → List ℕ → List ℕ → List ℕ
@@ -66,9 +73,15 @@ nextLine n = cond (ltb n 999999999) (n + 1) n
 unfoldable pub lineTaken : ℕ → Content → Entry → Content
 lineTaken room c e =
     cond (eqb (c .bad) 0)
-    (cond (entryFits (c .lines) (c .calendar .cover) e)
-    (record { calendar = calendarAfter (c .calendar) e; records = recordsAfter room (c .records) e; lines = nextLine (c .lines); bad = 0 })
-    (record { calendar = c .calendar; records = c .records; lines = nextLine (c .lines); bad = nextLine (c .lines) }))
+    (cond (entryFits (c .lines) (c .calendar .cover) (c .made) e)
+    (record {
+      calendar = calendarAfter (c .calendar) e;
+      made = c .made || eqb (e .letter) 83;
+      records = recordsAfter room (c .records) e;
+      lines = nextLine (c .lines);
+      bad = 0;
+    })
+    (record { calendar = c .calendar; made = c .made; records = c .records; lines = nextLine (c .lines); bad = nextLine (c .lines) }))
     c
 
 -- the same of some lines, one after the other
@@ -89,33 +102,37 @@ restTaken room c l (byte ∷ rest) =
 -- what the code holds: the records stand at the start of a lent buffer
 abbrev pub contentIn : Taken → List ℕ → Content
 contentIn t buffer =
-    record { calendar = t .calendar; records = take (t .size) buffer; lines = t .lines; bad = t .bad }
+    record { calendar = t .calendar; made = t .made; records = take (t .size) buffer; lines = t .lines; bad = t .bad }
 
 -- before the first line
 unfoldable pub nothingTaken : Taken
-nothingTaken = record { calendar = openCalendar (record { «first_year» = 0; years = 0 }); size = 0; lines = 0; bad = 0 }
+nothingTaken = record { calendar = openCalendar (record { «first_year» = 0; years = 0 }); made = false; size = 0; lines = 0; bad = 0 }
 
--- of a buffer before and after: the records are so many bytes at its start, and after them nothing is changed
-pub record RecordsIn (before after : List ℕ) (size : ℕ) (records : List ℕ) : Type 0 where
-  pub is : take size after ≡ records
+-- of a buffer before and after, with so many bytes of records at its start before and after: they are no fewer, the buffer is as long as it was, and after the records nothing is changed
+pub record Grown (before after : List ℕ) (from size : ℕ) : Type 0 where
+  pub more : from ≤ size
   pub long : length after ≡ length before
   pub unchanged : drop size after ≡ drop size before
+
+-- of a buffer before and after: the records are so many bytes at its start
+pub record RecordsIn (before after : List ℕ) (from size : ℕ) (records : List ℕ) : Type 0 where
+  pub is : take size after ≡ records
+  pub buffer : Grown before after from size
 
 -- of a state and a buffer before and after one line more
 pub record LineIn (t : Taken) (l : Line) (before after : List ℕ) (r : Taken) : Type 0 where
   pub is : contentIn r after ≡ lineTaken (length before) (contentIn t before) (lineEntry l)
-  pub long : length after ≡ length before
-  pub unchanged : drop (r .size) after ≡ drop (r .size) before
+  pub buffer : Grown before after (t .size) (r .size)
 
 -- of a state, a line begun and a buffer before and after a part of the list: whatever the rest of the list is, the whole says what the rest says after the part
 pub record PartIn (t : Taken) (l : Line) (part before after : List ℕ) (r : Taken) (next : Line) : Type 0 where
   pub is : (rest : List ℕ) → restTaken (length before) (contentIn t before) l (part ++ rest) ≡ restTaken (length before) (contentIn r after) next rest
-  pub long : length after ≡ length before
+  pub buffer : Grown before after (t .size) (r .size)
 
 -- of the end of the list
 pub record EndIn (t : Taken) (l : Line) (before after : List ℕ) (r : Taken) : Type 0 where
   pub is : contentIn r after ≡ restTaken (length before) (contentIn t before) l []
-  pub long : length after ≡ length before
+  pub buffer : Grown before after (t .size) (r .size)
 
 -- '`compose` writes the file to standard output', or 'nothing there' and `BAD k` or `NO n` (README, The text of a master file): the number of the first line that is none of a list's, or the refusal, or the file's length
 unfoldable pub composed : Content → ℕ → Composed
@@ -127,3 +144,19 @@ composed c room =
 -- the file in a lent buffer
 unfoldable pub composedFile : Content → List ℕ → List ℕ
 composedFile c before = cond (eqb (c .bad) 0) (bufferAfter (c .calendar) (c .records) before) before
+
+-- 3 to 6 of a file are answered yes, so that only its products and its length can refuse it
+pub record CalendarPasses (f : List ℕ) : Type 0 where
+  pub yes3 : headersRight f ≡ true
+  pub yes4 : orderRight f ≡ true
+  pub yes5 : calendarsClean f ≡ true
+  pub yes6 : weeksRight f ≡ true
+
+-- of a list whose first line says a seed, whatever lines follow
+pub record OfSeed (room : ℕ) (input first : List ℕ) : Type 0 where
+  -- 'all closed days are those of the seed'
+  pub calendar : contentOf room input .calendar ≡ madeCall (entryOf first .seed) (entryOf first .cover) .value
+  -- 'every calendar made this way passes questions 5 and 6, for every seed and every cover of 1 to 16 years from 2000 to 2099' (02, note 14), and so does its file, with some product
+  pub right-cover : validCover (entryOf first .cover) ≡ true → 1 ≤ length (contentOf room input .records) → CalendarPasses (fileOf (contentOf room input .calendar) (contentOf room input .records))
+  -- 'An `S` whose cover is not 1 to 16 years from 2000 to 2099 says no year, so that the file gets 4', where each line is one of a list's
+  pub wrong-cover : validCover (entryOf first .cover) ≡ false → contentOf room input .bad ≡ 0 → (space : ℕ) → composed (contentOf room input) space ≡ record { bad = 0; refusal = 4; length = 0 }

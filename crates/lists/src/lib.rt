@@ -8,9 +8,10 @@ ghost use Prim.Native.Nat.{_≤_};
 ghost use lib.ListN.{length, take};
 ghost use Rattle.lists.specs.Lists.{nothingTaken, closeExchangeDay, entryFits, calendarAfter, withRecord, recordsAfter, nextLine, contentIn, RecordsIn, LineIn, PartIn, EndIn, composed, composedFile};
 
-// What the lines so far say: the calendar, how many bytes of records stand in the buffer, how many lines there are, and the number of the first that is none of a list's, 0 where each is one.
+// What the lines so far say: the calendar, whether it was made from a seed, how many bytes of records stand in the buffer, how many lines there are, and the number of the first that is none of a list's, 0 where each is one.
 pub struct Taken {
     pub calendar: Calendar,
+    pub made: bool,
     pub size: usize,
     pub lines: u32,
     pub bad: u32,
@@ -39,6 +40,7 @@ pub fn nothing_taken() -> Taken
     });
     Taken {
         calendar,
+        made: false,
         size: 0,
         lines: 0,
         bad: 0,
@@ -69,15 +71,15 @@ fn close_exchange_day(cal: Calendar, day: u16) -> Calendar
     }
 }
 
-// Whether an entry may stand after so many lines, under a cover.
-fn entry_fits(lines: u32, cover: Cover, e: Entry) -> bool
-    ensures { λ r. ⌜ r ≡ entryFits lines cover e ⌝ }
+// Whether an entry may stand after so many lines, under a cover, with a calendar that was made from a seed or not.
+fn entry_fits(lines: u32, cover: Cover, made: bool, e: Entry) -> bool
+    ensures { λ r. ⌜ r ≡ entryFits lines cover made e ⌝ }
 {
     let letter = e.letter;
     if letter == 0 {
         return false;
     }
-    if letter == b'Y' {
+    if (letter == b'Y') | (letter == b'S') {
         return lines == 0;
     }
     if lines == 0 {
@@ -85,6 +87,9 @@ fn entry_fits(lines: u32, cover: Cover, e: Entry) -> bool
     }
     if letter == b'P' {
         return true;
+    }
+    if made {
+        return false;
     }
     calendar::in_cover(cover, e.day)
 }
@@ -98,6 +103,12 @@ fn calendar_after(cal: Calendar, e: Entry) -> Calendar
         let cover = e.cover;
         return calendar::open_calendar(cover);
     }
+    if letter == b'S' {
+        let cover = e.cover;
+        let made = generated::make(e.seed, cover);
+        let calendar = made.calendar;
+        return calendar;
+    }
     if letter == b'C' {
         return calendar::close_day(cal, e.day);
     }
@@ -109,7 +120,7 @@ fn calendar_after(cal: Calendar, e: Entry) -> Calendar
 
 // One record more after those at the start of a buffer, where there is room for it, and how many bytes they are then.
 fn store(records: &mut [u8], size: usize, one: writing::Record) -> usize
-    ensures { λ r. ⌜ RecordsIn (now (records .entry)) (now (records .exit)) r (withRecord (length (now (records .entry))) (take size (now (records .entry))) one) ⌝ }
+    ensures { λ r. ⌜ RecordsIn (now (records .entry)) (now (records .exit)) size r (withRecord (length (now (records .entry))) (take size (now (records .entry))) one) ⌝ }
 {
     if records.len() < 32 {
         return size;
@@ -127,7 +138,7 @@ fn store(records: &mut [u8], size: usize, one: writing::Record) -> usize
 
 // The records after an entry, at the start of a buffer, and how many bytes they are.
 fn store_entry(records: &mut [u8], size: usize, e: Entry) -> usize
-    ensures { λ r. ⌜ RecordsIn (now (records .entry)) (now (records .exit)) r (recordsAfter (length (now (records .entry))) (take size (now (records .entry))) e) ⌝ }
+    ensures { λ r. ⌜ RecordsIn (now (records .entry)) (now (records .exit)) size r (recordsAfter (length (now (records .entry))) (take size (now (records .entry))) e) ⌝ }
 {
     if e.letter != b'P' {
         return size;
@@ -157,9 +168,10 @@ pub fn take_line(taken: Taken, line: Line, records: &mut [u8]) -> Taken
     let calendar = taken.calendar;
     let cover = calendar.cover;
     let lines = next_line(taken.lines);
-    if !entry_fits(taken.lines, cover, e) {
+    if !entry_fits(taken.lines, cover, taken.made, e) {
         return Taken {
             calendar,
+            made: taken.made,
             size: taken.size,
             lines,
             bad: lines,
@@ -169,6 +181,7 @@ pub fn take_line(taken: Taken, line: Line, records: &mut [u8]) -> Taken
     let size = store_entry(records, taken.size, e);
     Taken {
         calendar: after,
+        made: taken.made | (e.letter == b'S'),
         size,
         lines,
         bad: 0,

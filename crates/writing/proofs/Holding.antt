@@ -1,10 +1,11 @@
 -- A file that was written holds what was handed in, and loading it gives the counts.
 -- Assumes nothing.
-use Prim.Native.Nat.{ℕ, _+_, _-_, _*_, _/_, _%_, _≤_, _<_}
-use mathlib.Core.Path.{_≡_, refl, _∙_, sym, ap}
+use Prim.Native.Nat.{ℕ, _+_, _-_, _*_, _/_, _%_, _^_, _≤_, _<_}
+use mathlib.Core.Path.{_≡_, refl, _∙_, sym, ap, fun-ext}
 use mathlib.Core.Bool.{Bool, true, false, _&&_}
 use mathlib.Core.Logic.{_⊎_, inl, inr}
 use mathlib.Core.List.{List}
+use native.Mathlib.Nat.{zero-div}
 use native.Mathlib.Omega.{arith}
 use lib.Dec.{eqb}
 use lib.ListN.{length, getD, List·getD-eq-default}
@@ -12,11 +13,13 @@ use lib.Seq.{ext-getD}
 use borrow.Author.Tests.{eqb-true, eq-eqb, le-leb, le-ltb}
 use Rattle.questions.specs.Questions.{firstNo}
 use Rattle.questions.proofs.Bools.{both, and-snd, and-both, clash, lt-or-ge}
-use Rattle.questions.proofs.Search.{every-at}
+use Rattle.questions.specs.Search.{every, some}
+use Rattle.questions.proofs.Search.{every-at, every-all}
 use Rattle.days.proofs.Years.{in-year-below}
 use Rattle.calendar.specs.Bits.{byteBit, bitAt}
-use Rattle.calendar.specs.Trading.{inCover, slotOf, closedOn, inSecondMap, mayBeClosed, bitsClean, cleanSlot, clean}
+use Rattle.calendar.specs.Trading.{coverStart, coverEnd, inCover, slotOf, closedOn, tradingDay, inSecondMap, mayBeClosed, bitsClean, cleanSlot, clean, everyWeek}
 use Rattle.calendar.specs.declared.Calendar.{Calendar}
+use Rattle.calendar.proofs.Clean.{bits-zero}
 use Rattle.calendar.proofs.Covered.{Covered, covered}
 use Rattle.blocks.specs.Blocks.{blockOf, recordsOfBlock, lengthRight}
 use Rattle.records.specs.Records.{productsRight}
@@ -64,6 +67,12 @@ module _ (years : ℕ) (most : years ≤ 16) (map : List ℕ) where
   kept-bit slot h =
       ap (λ (x : ℕ). byteBit x (slot % 8))
       (kept-at (slot / 8) (omega arith) ∙ up-in (λ j. getD map j 0) (46 * years) (slot / 8) (omega arith))
+
+  -- and there is no other
+  no-bit-after : (slot : ℕ) → 368 * years ≤ slot → slot < 5888 → bitAt (yearsOfMap years map) slot ≡ false
+  unfolding bitAt
+  no-bit-after slot h l =
+      simp (kept-at (slot / 8) (omega arith), up-out (λ j. getD map j 0) (46 * years) (slot / 8) (omega arith), zero-div (2 ^ (7 - slot % 8)))
 
   kept-long : length (yearsOfMap years map) ≡ 736
   unfolding yearsOfMap
@@ -113,6 +122,45 @@ module _ (cal : Calendar) (tidy : clean cal ≡ true) (most : cal .cover .years 
         kept-whole (cal .cover .years) most (cal .exchange) (eqb-true _ _ c) (nothing (cal .exchange) d (λ s h l. no-slot s h l .1)),
       )
 
+-- the days of a cover of at most 16 years
+module _ (cal : Calendar) (most : cal .cover .years ≤ 16) where
+  day-slot : (d : ℕ) → inCover (cal .cover) d ≡ true → slotOf (cal .cover) d < 368 * cal .cover .years
+  unfolding slotOf
+  day-slot d e =
+      let v : Covered (cal .cover) d = covered (cal .cover) d e in
+      omega (arith, v .year-low, v .year-high, in-year-below d (v .day))
+
+  -- a day is marked in a map of the file where it is in the map handed in
+  marked : (map : List ℕ) (d : ℕ) → (inCover (cal .cover) d && bitAt (yearsOfMap (cal .cover .years) map) (slotOf (cal .cover) d)) ≡ (inCover (cal .cover) d && bitAt map (slotOf (cal .cover) d))
+  marked map d = go (inCover (cal .cover) d) refl
+    where
+      go : (b : Bool) → inCover (cal .cover) d ≡ b → (b && bitAt (yearsOfMap (cal .cover .years) map) (slotOf (cal .cover) d)) ≡ (b && bitAt map (slotOf (cal .cover) d))
+      go true e = kept-bit (cal .cover .years) most map (slotOf (cal .cover) d) (day-slot d e)
+      go false e = refl
+
+  -- what the file holds of a clean calendar is clean
+  pub within-clean : clean cal ≡ true → clean (withinCover cal) ≡ true
+  unfolding clean withinCover
+  within-clean tidy = every-all (cleanSlot (withinCover cal)) 5888 (λ s h. go s h (lt-or-ge s (368 * cal .cover .years)))
+    where
+      go : (s : ℕ) → s < 5888 → (s < 368 * cal .cover .years) ⊎ (368 * cal .cover .years ≤ s) → cleanSlot (withinCover cal) s ≡ true
+      go s h (inl l) =
+          rw (kept-bit (cal .cover .years) most (cal .closed) s l, kept-bit (cal .cover .years) most (cal .exchange) s l)
+          (every-at (cleanSlot cal) 5888 s tidy h)
+      go s h (inr l) =
+          rw (no-bit-after (cal .cover .years) most (cal .closed) s l h, no-bit-after (cal .cover .years) most (cal .exchange) s l h)
+          (bits-zero (mayBeClosed (cal .cover) s))
+
+  -- its trading days are the calendar's
+  trades-same : (d : ℕ) → tradingDay (withinCover cal) d ≡ tradingDay cal d
+  unfolding tradingDay closedOn withinCover
+  trades-same d = rw (marked (cal .closed) d) refl
+
+  pub within-weeks : everyWeek (withinCover cal) ≡ everyWeek cal
+  unfolding everyWeek withinCover
+  within-weeks =
+      ap (λ (trades : ℕ → Bool). every (coverEnd (cal .cover) - coverStart (cal .cover) - 6) (λ k. some 7 (λ i. trades (coverStart (cal .cover) + k + i)))) (fun-ext trades-same)
+
 -- what is accepted
 module _ (cal : Calendar) (records : List ℕ) (room : ℕ) (w : Writable cal records room) where
   abbrev f : List ℕ
@@ -150,27 +198,13 @@ module _ (cal : Calendar) (records : List ℕ) (room : ℕ) (w : Writable cal re
   unfolding withinCover
   cover = rw calendar-is
 
-  day-slot : (d : ℕ) → inCover (cal .cover) d ≡ true → slotOf (cal .cover) d < 368 * years
-  unfolding slotOf
-  day-slot d e =
-      let v : Covered (cal .cover) d = covered (cal .cover) d e in
-      omega (arith, v .year-low, v .year-high, in-year-below d (v .day))
-
-  -- a day of the cover is marked in a map of the file where it is in the map handed in
-  marked : (map : List ℕ) (d : ℕ) → (inCover (cal .cover) d && bitAt (yearsOfMap years map) (slotOf (cal .cover) d)) ≡ (inCover (cal .cover) d && bitAt map (slotOf (cal .cover) d))
-  marked map d = go (inCover (cal .cover) d) refl
-    where
-      go : (b : Bool) → inCover (cal .cover) d ≡ b → (b && bitAt (yearsOfMap years map) (slotOf (cal .cover) d)) ≡ (b && bitAt map (slotOf (cal .cover) d))
-      go true e = kept-bit years (k .years-most) map (slotOf (cal .cover) d) (day-slot d e)
-      go false e = refl
-
   closed-days : (d : ℕ) → closedOn (calendarOf f) d ≡ closedOn cal d
   unfolding closedOn withinCover
-  closed-days d = rw calendar-is (marked (cal .closed) d)
+  closed-days d = rw calendar-is (marked cal (k .years-most) (cal .closed) d)
 
   second-days : (d : ℕ) → inSecondMap (calendarOf f) d ≡ inSecondMap cal d
   unfolding inSecondMap withinCover
-  second-days d = rw calendar-is (marked (cal .exchange) d)
+  second-days d = rw calendar-is (marked cal (k .years-most) (cal .exchange) d)
 
   abbrev m : ℕ
   m = productBlocks records - 1

@@ -2,7 +2,7 @@ use native.Mathlib.Omega.{arith}
 use mathlib.Core.Path.{_≡_, sym, _∙_}
 use lib.ListN.{length, length-map}
 use lib.Seq.{length-take-le}
-use Rattle.entries.proofs.Forms.{entry-long, begins-y, begins-p, begins-else}
+use Rattle.entries.proofs.Forms.{entry-long, begins-y, begins-s, begins-p, begins-else}
 use Rattle.entries.proofs.entry_of.Statement.{statement}
 use Rattle.entries.proofs.entry_of.Tie as tie
 
@@ -39,23 +39,45 @@ array-share-prefix-bytes-2 c =
     let l : length (start .args .line .bytes) ≡ 64 = simp length-map at (start .good .0 .1 .1 .0 .1 .0 .1) in
     omega (arith, l)
 
+slice-aggregate-seed-entry : tie.Need-slice-aggregate-seed-entry
+slice-aggregate-seed-entry c =
+    let start = c .before .before .before .before .before in
+    let l : length (start .args .line .bytes) ≡ 64 = simp length-map at (start .good .0 .1 .1 .0 .1 .0 .1) in
+    sym (length-take-le (start .args .line .length) (start .args .line .bytes) (omega (arith, l)))
+
+seed-entry-requires : tie.Need-seed-entry-requires
+seed-entry-requires c κs = tt
+
+returns-3 : tie.Need-returns-3
+returns-3 c = c .seed-entry .ensures ∙ begins-s _ (c .before .before .before .before .if1 .left) (c .before .before .before .if2 .left) (c .before .before .if3 .taken)
+
+array-share-prefix-bytes-3 : tie.Need-array-share-prefix-bytes-3
+array-share-prefix-bytes-3 c =
+    let start = c .before .before .before .before .before in
+    let l : length (start .args .line .bytes) ≡ 64 = simp length-map at (start .good .0 .1 .1 .0 .1 .0 .1) in
+    omega (arith, l)
+
 slice-aggregate-product-entry : tie.Need-slice-aggregate-product-entry
 slice-aggregate-product-entry c =
-    let start = c .before .before .before .before .before in
+    let start = c .before .before .before .before .before .before in
     let l : length (start .args .line .bytes) ≡ 64 = simp length-map at (start .good .0 .1 .1 .0 .1 .0 .1) in
     sym (length-take-le (start .args .line .length) (start .args .line .bytes) (omega (arith, l)))
 
 product-entry-requires : tie.Need-product-entry-requires
 product-entry-requires c κs = tt
 
-returns-3 : tie.Need-returns-3
-returns-3 c = c .product-entry .ensures ∙ begins-p _ (c .before .before .before .before .if1 .left) (c .before .before .before .if2 .left) (c .before .before .if3 .taken)
+returns-4 : tie.Need-returns-4
+returns-4 c =
+    let at-if3 = c .before .before .before in
+    c .product-entry .ensures ∙ begins-p _ (at-if3 .before .before .if1 .left) (at-if3 .before .if2 .left) (at-if3 .if3 .left) (c .before .before .if4 .taken)
 
 day-entry-requires : tie.Need-day-entry-requires
 day-entry-requires c κs = tt
 
-returns-4 : tie.Need-returns-4
-returns-4 c = c .day-entry .ensures ∙ begins-else _ (c .before .before .before .if1 .left) (c .before .before .if2 .left) (c .before .if3 .left)
+returns-5 : tie.Need-returns-5
+returns-5 c =
+    let at-if3 = c .before .before in
+    c .day-entry .ensures ∙ begins-else _ (at-if3 .before .before .if1 .left) (at-if3 .before .if2 .left) (at-if3 .if3 .left) (c .before .if4 .left)
 
 pub entry-of-spec : {M : Type 1} → statement M
 entry-of-spec =
@@ -69,8 +91,12 @@ entry-of-spec =
     cover-entry-requires
     returns-2
     array-share-prefix-bytes-2
+    slice-aggregate-seed-entry
+    seed-entry-requires
+    returns-3
+    array-share-prefix-bytes-3
     slice-aggregate-product-entry
     product-entry-requires
-    returns-3
+    returns-4
     day-entry-requires
-    returns-4)
+    returns-5)

@@ -1,5 +1,7 @@
-use mathlib.Core.Path.{refl}
+use mathlib.Core.Path.{refl, ap}
 use borrow.Author.Tests.{eq-eqb, ne-eqb}
+use Rattle.questions.specs.Questions.{Answer}
+use Rattle.calendar.specs.declared.Calendar.{Calendar}
 use Rattle.lists.specs.Lists.{calendarAfter}
 use Rattle.lists.proofs.calendar_after.Statement.{statement}
 use Rattle.lists.proofs.calendar_after.Tie as tie
@@ -11,23 +13,37 @@ returns : tie.Need-returns
 unfolding calendarAfter
 returns c = rw (eq-eqb _ 89 (c .before .before .if1 .taken)) (c .open-calendar .ensures)
 
-close-day-requires : tie.Need-close-day-requires
-close-day-requires c κs = tt
+make-requires : tie.Need-make-requires
+make-requires c κs = tt
 
 returns-2 : tie.Need-returns-2
 unfolding calendarAfter
-returns-2 c = rw (ne-eqb _ 89 (c .before .before .if1 .left), eq-eqb _ 67 (c .before .if2 .taken)) (c .close-day .ensures)
+returns-2 c =
+    let at-make = c .before in
+    let at-if2 = at-make .before .before in
+    rw (ne-eqb _ 89 (at-if2 .before .if1 .left), eq-eqb _ 83 (at-if2 .if2 .taken)) (ap (λ (a : Answer Calendar). a .value) (at-make .make .ensures))
+
+close-day-requires : tie.Need-close-day-requires
+close-day-requires c κs = tt
+
+returns-3 : tie.Need-returns-3
+unfolding calendarAfter
+returns-3 c = rw (ne-eqb _ 89 (c .before .before .before .if1 .left), ne-eqb _ 83 (c .before .before .if2 .left), eq-eqb _ 67 (c .before .if3 .taken)) (c .close-day .ensures)
 
 close-exchange-day-requires : tie.Need-close-exchange-day-requires
 close-exchange-day-requires c κs = tt
 
-returns-3 : tie.Need-returns-3
-unfolding calendarAfter
-returns-3 c = rw (ne-eqb _ 89 (c .before .before .before .if1 .left), ne-eqb _ 67 (c .before .before .if2 .left), eq-eqb _ 88 (c .before .if3 .taken)) (c .close-exchange-day .ensures)
-
 returns-4 : tie.Need-returns-4
 unfolding calendarAfter
-returns-4 c = rw (ne-eqb _ 89 (c .before .before .if1 .left), ne-eqb _ 67 (c .before .if2 .left), ne-eqb _ 88 (c .if3 .left)) refl
+returns-4 c =
+    let at-if2 = c .before .before .before in
+    rw (ne-eqb _ 89 (at-if2 .before .if1 .left), ne-eqb _ 83 (at-if2 .if2 .left), ne-eqb _ 67 (c .before .before .if3 .left), eq-eqb _ 88 (c .before .if4 .taken)) (c .close-exchange-day .ensures)
+
+returns-5 : tie.Need-returns-5
+unfolding calendarAfter
+returns-5 c =
+    let at-if2 = c .before .before in
+    rw (ne-eqb _ 89 (at-if2 .before .if1 .left), ne-eqb _ 83 (at-if2 .if2 .left), ne-eqb _ 67 (c .before .if3 .left), ne-eqb _ 88 (c .if4 .left)) refl
 
 pub calendar-after-spec : {M : Type 1} → statement M
 calendar-after-spec =
@@ -35,8 +51,10 @@ calendar-after-spec =
     (tie.spec
     open-calendar-requires
     returns
-    close-day-requires
+    make-requires
     returns-2
-    close-exchange-day-requires
+    close-day-requires
     returns-3
-    returns-4)
+    close-exchange-day-requires
+    returns-4
+    returns-5)

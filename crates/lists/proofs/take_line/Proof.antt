@@ -33,10 +33,11 @@ same-length c = search needs
 
 returns-3 : tie.Need-returns-3
 returns-3 c =
-    let at-if2 = c .before .before .before .before .before in
+    let at-store = c .before .before .before .before in
+    let at-if2 = at-store .before .before .before in
     let at-entry-of = at-if2 .before .before .before .before .before in
     let start = at-entry-of .before .before .before .before in
-    taken-good (start .args .taken) (start .args .line) _ (at-entry-of .before .if1 .left) _ (at-entry-of .entry-of .ensures) _ (at-if2 .before .before .next-line .ensures) _ (at-if2 .before .entry-fits .ensures) (not-false _ (at-if2 .if2 .left)) _ (c .before .before .before .before .calendar-after .ensures) _ _ (c .before .before .store-entry .ensures)
+    taken-good (start .args .taken) (start .args .line) _ (at-entry-of .before .if1 .left) _ (at-entry-of .entry-of .ensures) _ (at-if2 .before .before .next-line .ensures) _ (at-if2 .before .entry-fits .ensures) (not-false _ (at-if2 .if2 .left)) _ (at-store .before .before .calendar-after .ensures) _ _ (at-store .store-entry .ensures)
 
 pub take-line-spec : {M : Type 1} → statement M
 take-line-spec =

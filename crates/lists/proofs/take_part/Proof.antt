@@ -48,7 +48,7 @@ loop-again-2 c =
     goes-line _ _ _ _ _ _ _ _ (at-test .before .loop .inv) (at-test .loop-test .taken) (at-if1 .if1 .left) _ _ (at-take-line .take-line .ensures) _ (c .empty-line .ensures)
 
 same-length : tie.Need-same-length Inv-loop μ-loop
-same-length c = c .before .loop .inv .long
+same-length c = c .before .loop .inv .grown .long
 
 returns : tie.Need-returns Inv-loop μ-loop
 returns c = ends _ _ _ _ _ _ _ _ (c .before .loop .inv) (c .loop-test .left)

@@ -1,0 +1,68 @@
+use mathlib.Core.Path.{_∙_}
+use Rattle.questions.proofs.Bools.{said-no, said-yes}
+use borrow.Author.Tests.{not-true, not-false}
+use Rattle.entries.proofs.Forms.{seed-formless, seed-none, seed-coverless, seed-is}
+use Rattle.entries.proofs.seed_entry.Statement.{statement}
+use Rattle.entries.proofs.seed_entry.Tie as tie
+
+is-letter-form-requires : tie.Need-is-letter-form-requires
+is-letter-form-requires c κs = tt
+
+other-entry-requires : tie.Need-other-entry-requires
+other-entry-requires c κs = tt
+
+returns : tie.Need-returns
+returns c = c .other-entry .ensures ∙ seed-formless _ (said-no (c .before .before .is-letter-form .ensures) (c .before .if1 .taken))
+
+number-in-requires : tie.Need-number-in-requires
+number-in-requires c κs = tt
+
+other-entry-requires-2 : tie.Need-other-entry-requires-2
+other-entry-requires-2 c κs = tt
+
+returns-2 : tie.Need-returns-2
+returns-2 c =
+    let at-seed = c .before .before .before in
+    let at-if1 = at-seed .before in
+    let form = said-yes (at-if1 .before .is-letter-form .ensures) (at-if1 .if1 .left) in
+    c .other-entry2 .ensures ∙ seed-none _ form _ (at-seed .number-in .ensures) (not-true _ (c .before .if2 .taken))
+
+cover-at-requires : tie.Need-cover-at-requires
+cover-at-requires c κs = tt
+
+other-entry-requires-3 : tie.Need-other-entry-requires-3
+other-entry-requires-3 c κs = tt
+
+returns-3 : tie.Need-returns-3
+returns-3 c =
+    let at-cover = c .before .before .before in
+    let at-if2 = at-cover .before in
+    let at-seed = at-if2 .before .before in
+    let at-if1 = at-seed .before in
+    let form = said-yes (at-if1 .before .is-letter-form .ensures) (at-if1 .if1 .left) in
+    c .other-entry3 .ensures ∙ seed-coverless _ form _ (at-seed .number-in .ensures) (not-false _ (at-if2 .if2 .left)) _ (at-cover .cover-at .ensures) (not-true _ (c .before .if3 .taken))
+
+returns-4 : tie.Need-returns-4
+returns-4 c =
+    let at-if3 = c .before in
+    let at-cover = at-if3 .before .before in
+    let at-if2 = at-cover .before in
+    let at-seed = at-if2 .before .before in
+    let at-if1 = at-seed .before in
+    let form = said-yes (at-if1 .before .is-letter-form .ensures) (at-if1 .if1 .left) in
+    seed-is _ form _ (at-seed .number-in .ensures) (not-false _ (at-if2 .if2 .left)) _ (at-cover .cover-at .ensures) (not-false _ (at-if3 .if3 .left))
+
+pub seed-entry-spec : {M : Type 1} → statement M
+seed-entry-spec =
+    tie.close
+    (tie.spec
+    is-letter-form-requires
+    other-entry-requires
+    returns
+    number-in-requires
+    other-entry-requires-2
+    returns-2
+    cover-at-requires
+    other-entry-requires-3
+    returns-3
+    returns-4)
