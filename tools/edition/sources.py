@@ -3,7 +3,7 @@ import re
 from dataclasses import dataclass
 from pathlib import Path
 
-FUNCTION = re.compile(r'^ *(?:pub(?:\(crate\))? )?(?:fn|const) (\w+)')
+FUNCTION = re.compile(r'^ *(?:pub(?:\(crate\))? )?(?:extern "C" )?(?:fn|const) (\w+)')
 IMPL = re.compile(r'^impl(?:<[^>]*>)? (\w+)')
 DECLARED = re.compile(r'^(?:pub )?(struct|enum) (\w+)')
 THEOREM = re.compile(r'^ *(?:(?:unfoldable|abbrev|opaque) )?(?:pub )?(?:record |data )?([^\s:({]+)[^:]* :')
@@ -64,10 +64,13 @@ class Sources:
         end = number
         while not lines[end].startswith('}') and not lines[end].endswith(('}', ';')):
             end += 1
-        above = number
+        last = number
+        while lines[last - 1].startswith('#['):
+            last -= 1
+        above = last
         while above > 0 and lines[above - 1].startswith('//'):
             above -= 1
-        comment = ' '.join(line[2:].strip() for line in lines[above:number])
+        comment = ' '.join(line[2:].strip() for line in lines[above:last])
         self.declarations[(crate, name)] = Declaration(crate, name, self.relative(path), comment, lines[number:end + 1])
         self.functions.setdefault((crate, name.split()[1]), self.relative(path))
 

@@ -3,6 +3,7 @@ ghost use mathlib.Core.Path.{_≡_};
 ghost use Rattle.amounts.specs.Prices.{priceRight, multipleOf, finalRight, contractsRight, nearest, newSize, newPrice, ratioRight, measureRight, distance, cashAdmitted, cashOf};
 
 // Cash: its sign, which covers both numbers, the amount in 1/10,000 and the rest in 1/100,000,000.
+#[repr(C)]
 pub struct Amount {
     pub negative: bool,
     pub amount: u64,

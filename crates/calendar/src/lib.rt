@@ -6,6 +6,7 @@ ghost use Rattle.calendar.specs.Bits.{bitAt};
 ghost use Rattle.calendar.specs.Trading.{calendarOfMaps, calendarWith, openCalendar, zeroCalendar, validCover, coverStart, coverEnd, inCover, slotOf, closedOn, tradingDay, inSecondMap, exchangeDay, nextExchangeDay, nthExchangeDay, closeDay, reopenDay, closedWeekday};
 
 // A run of whole years.
+#[repr(C)]
 pub struct Cover {
     pub first_year: u16,
     pub years: u16,
@@ -13,6 +14,7 @@ pub struct Cover {
 
 // Two maps: the closed days, and those of them on which payments and deliveries run (02, note 4).
 // In each, year k of the cover has the 46 bytes from 46 · k on, in the bit order of the file.
+#[repr(C)]
 pub struct Calendar {
     pub cover: Cover,
     pub closed: [u8; 736],

@@ -5,6 +5,7 @@ ghost use mathlib.Core.Path.{_≡_};
 ghost use Rattle.generated.specs.Generated.{nextValue, valueAt, calendarAt, madeAnswer, madeCall};
 
 // The refusal, 0 where a calendar was made, and the calendar, zeros with a refusal.
+#[repr(C)]
 pub struct Made {
     pub refusal: u8,
     pub calendar: Calendar,

@@ -16,6 +16,7 @@ ghost use Rattle.master.specs.Load.{loadCall, loadAnswer};
 ghost use Rattle.intake.specs.Intake.{lower, inTurn, dayTrades, daysOf, idleNext, idleThrough, weeksGoOn, blockAsks, withBlock, announcedState, announceCall, plausible, mayTake, takeCall, allTaken, finishCall, finishedAnswer, finishedWith, stateAfter};
 
 // What is carried from block to block: seven numbers and an id, 18 bytes.
+#[repr(C)]
 pub struct Intake {
     // the number of blocks announced, 2 to 128
     pub announced: u16,
@@ -36,12 +37,14 @@ pub struct Intake {
 }
 
 // The refusal of an announcement or of a block, 0 where it is accepted, and the state.
+#[repr(C)]
 pub struct Taken {
     pub refusal: u8,
     pub state: Intake,
 }
 
 // The refusal of the final call, 0 for an accepted file, the counts, zeros with a refusal, and the state as it came.
+#[repr(C)]
 pub struct Finished {
     pub refusal: u8,
     pub counts: Counts,

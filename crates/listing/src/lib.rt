@@ -14,6 +14,7 @@ ghost use Rattle.expiry.specs.LastDays.{weeklyFriday, keyOf, lastTradingDay};
 ghost use Rattle.listing.specs.Months.{monthSets, names2005, inSet, setAt, placesOfKind, countedFor, ruleOf, listingOf, weekIntoCover};
 
 // A listed maturity: its key, which is its month or the day number of its Friday, its last trading day, and how many days that day lies before the anchor. A listing that is not yet numbered has number 0.
+#[repr(C)]
 pub struct Maturity {
     pub key: u16,
     pub day: u16,

@@ -14,12 +14,14 @@ ghost use Rattle.master.specs.Products.{sameId, kindOr, productFrom, pro
 ghost use Rattle.master.specs.Load.{refusedFile, judgeCall, loadCall, loadAnswer, hasId, placeFrom, placeOf, foundAt, findCall, findAnswer};
 
 // The counts of years and of records.
+#[repr(C)]
 pub struct Counts {
     pub years: u16,
     pub records: u16,
 }
 
 // The refusal, 0 for an accepted file, and the counts, zeros with a refusal.
+#[repr(C)]
 pub struct Loaded {
     pub refusal: u8,
     pub counts: Counts,
@@ -121,7 +123,7 @@ pub fn load(file: &[u8]) -> Loaded
 }
 
 // The kind that was looked up; a future where there is none.
-fn kind_or_future(answer: KindAnswer) -> Kind
+pub fn kind_or_future(answer: KindAnswer) -> Kind
     ensures { λ r. ⌜ r ≡ kindOr answer ⌝ }
 {
     match answer {

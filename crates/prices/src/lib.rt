@@ -6,6 +6,7 @@ ghost use mathlib.Core.Path.{_≡_};
 ghost use Rattle.prices.specs.Prices.{cashReply, noCash, tickCall, cashCall};
 
 // The number of a refusal, or 0 and the cash, positive where the seller pays the buyer.
+#[repr(C)]
 pub struct CashReply {
     pub refusal: u8,
     pub cash: Amount,

@@ -8,12 +8,14 @@ ghost use lib.ListN.{take, drop};
 ghost use Rattle.rounds.specs.Rounds.{queued, queuePlaceRight, queueRight, places200, queueOf, indexOf, handled, handleCall, joinCall, leaveCall};
 
 // Numbers of tables, the first to be handled first; the first `count` places are used.
+#[repr(C)]
 pub struct Queue {
     pub tables: [u16; 200],
     pub count: u16,
 }
 
 // A call of the round: its refusal, 0 where it is accepted, the numbers that it took, in their order, and the queue.
+#[repr(C)]
 pub struct Handled {
     pub refusal: u8,
     pub taken: Queue,
@@ -21,6 +23,7 @@ pub struct Handled {
 }
 
 // A joining or leaving: its refusal, 0 where it is accepted, and the queue.
+#[repr(C)]
 pub struct Changed {
     pub refusal: u8,
     pub queue: Queue,

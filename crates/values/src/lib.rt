@@ -5,12 +5,14 @@ ghost use mathlib.Core.Path.{_≡_};
 ghost use Rattle.values.specs.Values.{dayReply, noDay, lastDayReply, noLastDay, lastDayCall, dueCall};
 
 // The number of a refusal, or 0 and a day.
+#[repr(C)]
 pub struct DayReply {
     pub refusal: u8,
     pub day: u16,
 }
 
 // The number of a refusal, or 0 and a last trading day with the days stepped back.
+#[repr(C)]
 pub struct LastDayReply {
     pub refusal: u8,
     pub day: u16,

@@ -13,6 +13,7 @@ ghost use Rattle.drafts.specs.Drafts.{highByte, lowByte, headerByte, calendarBy
 ghost use Rattle.writing.specs.Writing.{writeCall, writeAnswer, bufferAfter, fieldBytes, sharesOf, recordBytes};
 
 // The refusal, 0 where a file was written, and its length, 0 with a refusal.
+#[repr(C)]
 pub struct WrittenFile {
     pub refusal: u8,
     pub length: usize,
@@ -225,7 +226,7 @@ pub fn field_bytes(
 }
 
 // The whole shares of a size; 0 where it is above all that a record can have.
-fn shares_of(size: u32) -> u16
+pub fn shares_of(size: u32) -> u16
     ensures { λ r. ⌜ r ≡ sharesOf size ⌝ }
 {
     if 655359999 < size {

@@ -1,0 +1,526 @@
+/* Contract terms of stock futures and stock options: the proved calls, for C and C++.
+ *
+ * A day is a number from 0, 1 January 2000, to 36,524, 31 December 2099; a month is a number
+ * from 0, January 2000. The key of a maturity is its month, or the day of a weekly option's
+ * Friday. Every call answers with a refusal: 0 for accepted, else the number of the first
+ * question that is answered no, which scullpouch_question has in words (docs/REFUSALS.md).
+ * No call keeps, allocates or frees anything, and none has a state of its own: any number of
+ * threads may call at the same time.
+ *
+ * Tables, calendars, queues and states of a load are plain values: copy them by assignment,
+ * store them, read their fields. (A product has two unused bytes at its end, so tables are
+ * compared field by field, not by memcmp.) Every call judges the table or queue that it is
+ * given and refuses one that is not sound (10), so no value of it is forbidden.
+ *
+ * What the caller owes. A pointer with a length or count names so many elements of one
+ * object, at most PTRDIFF_MAX bytes, aligned, written before, that nobody else writes until
+ * the call returns; it is not null, not even with 0 elements (an empty file is "" with 0). A
+ * buffer overlaps no other argument, and nobody else reads or writes it until the call
+ * returns. A struct has been written before it is passed. Of a call whose caller keeps to
+ * this the promises of crates/scullpouch hold; of another nothing holds.
+ *
+ * 64 KB of stack are enough for every call. Link with -lscullpouch. Linux on x86-64. */
+#ifndef SCULLPOUCH_H
+#define SCULLPOUCH_H
+
+#include <stdbool.h>
+#include <stddef.h>
+#include <stdint.h>
+#include <string.h>
+
+#ifdef __cplusplus
+extern "C" {
+#endif
+
+#define SCULLPOUCH_INTERFACE 1 /* what scullpouch_interface() answers */
+#define SCULLPOUCH_FILE_AT_MOST 65536
+#define SCULLPOUCH_BLOCK 512
+#define SCULLPOUCH_RECORD 32
+#define SCULLPOUCH_PLACES 15
+#define SCULLPOUCH_MAP 736
+#define SCULLPOUCH_TABLES 200
+
+/* ---- Values ---- */
+
+/* 1 to 4 of A-Z and 0-9, then spaces. */
+typedef struct {
+    uint8_t bytes[4];
+} scullpouch_id;
+
+/* The bytes of a product in a master file. */
+typedef struct {
+    uint8_t bytes[SCULLPOUCH_RECORD];
+} scullpouch_record_bytes;
+
+/* kind: 0 a future, 1, 2, 3 an option of 12, 24, 60 months, 4 a future of 2005, 5 a weekly option.
+ * size: in 1/10,000 of a share. tick: in 1/10,000 of the currency. */
+typedef struct {
+    uint8_t id[4];
+    uint8_t group[4];
+    uint8_t market[4];
+    uint8_t kind;
+    uint8_t currency[3];
+    uint32_t size;
+    uint16_t tick;
+} scullpouch_product;
+
+typedef struct {
+    uint16_t first_year;
+    uint16_t years;
+} scullpouch_cover;
+
+/* closed: a bit for each day that is closed; exchange: for each of them on which payments and
+ * deliveries run. Year k of the cover has the 46 bytes from 46 * k on; its first day is the
+ * highest bit of the first of them. */
+typedef struct {
+    scullpouch_cover cover;
+    uint8_t closed[SCULLPOUCH_MAP];
+    uint8_t exchange[SCULLPOUCH_MAP];
+} scullpouch_calendar;
+
+typedef struct {
+    uint16_t key;
+    uint16_t day;    /* the last trading day */
+    uint16_t back;   /* how many days it was moved back */
+    uint16_t number; /* the listing number, from 1 */
+} scullpouch_maturity;
+
+/* The maturities stand first, by rising key; places that are not used are all zeros. */
+typedef struct {
+    scullpouch_product product;
+    scullpouch_calendar calendar;
+    uint16_t date;
+    uint16_t given; /* how many listing numbers were given since the opening */
+    scullpouch_maturity maturities[SCULLPOUCH_PLACES];
+} scullpouch_table;
+
+/* What is carried from block to block of a load. */
+typedef struct {
+    uint16_t announced;
+    uint16_t taken;
+    uint16_t lowest;
+    uint16_t first_year;
+    uint16_t years;
+    uint16_t idle;
+    uint16_t records;
+    uint8_t last_id[4];
+} scullpouch_intake;
+
+/* A queue of tables, by their numbers, the first first. */
+typedef struct {
+    uint16_t tables[SCULLPOUCH_TABLES];
+    uint16_t count;
+} scullpouch_round;
+
+/* amount in 1/10,000 and rest in 1/100,000,000 of the currency, 0 to 9,999; negative covers both. */
+typedef struct {
+    bool negative;
+    uint64_t amount;
+    uint16_t rest;
+} scullpouch_amount;
+
+typedef struct {
+    uint16_t years;
+    uint16_t records;
+} scullpouch_counts;
+
+/* ---- Answers. With a refusal the table, state or queue is the one that was given, and every other value is 0 ---- */
+
+/* Of a refused open the table is all zeros. */
+typedef struct {
+    uint8_t refusal;
+    uint16_t entered;
+    uint16_t left;
+    scullpouch_table table;
+} scullpouch_outcome;
+
+/* price: the settlement price after the measure. */
+typedef struct {
+    uint8_t refusal;
+    uint32_t price;
+    scullpouch_table table;
+} scullpouch_measured;
+
+typedef struct {
+    uint8_t refusal;
+    uint16_t day;
+} scullpouch_day_reply;
+
+typedef struct {
+    uint8_t refusal;
+    uint16_t year;
+    uint16_t month;
+    uint16_t day;
+} scullpouch_date_reply;
+
+typedef struct {
+    uint8_t refusal;
+    uint16_t day;
+    uint16_t back;
+} scullpouch_last_day_reply;
+
+typedef struct {
+    uint8_t refusal;
+    scullpouch_amount cash;
+} scullpouch_cash_reply;
+
+typedef struct {
+    uint8_t refusal;
+    scullpouch_counts counts;
+} scullpouch_loaded;
+
+typedef struct {
+    uint8_t refusal;
+    size_t length;
+} scullpouch_written;
+
+typedef struct {
+    uint8_t refusal;
+    scullpouch_intake state;
+} scullpouch_taken;
+
+typedef struct {
+    uint8_t refusal;
+    scullpouch_counts counts;
+    scullpouch_intake state;
+} scullpouch_finished;
+
+/* same: whether the list is the table's listing; where it is not, key is the smallest that differs. */
+typedef struct {
+    uint8_t refusal;
+    bool same;
+    uint16_t key;
+} scullpouch_verdict;
+
+typedef struct {
+    uint8_t refusal;
+    scullpouch_round taken;
+    scullpouch_round queue;
+} scullpouch_handled;
+
+typedef struct {
+    uint8_t refusal;
+    scullpouch_round queue;
+} scullpouch_changed;
+
+typedef struct {
+    uint8_t refusal;
+    scullpouch_calendar calendar;
+} scullpouch_made;
+
+/* ---- The proved calls, with the questions that each asks, in this order ---- */
+
+uint32_t scullpouch_interface(void);
+
+/* The day of a date, and the date of a day. 23 */
+scullpouch_day_reply scullpouch_day(uint16_t year, uint16_t month, uint16_t day);
+scullpouch_date_reply scullpouch_date(uint16_t day);
+
+/* Judges a master file. 1-8 */
+scullpouch_loaded scullpouch_load(const uint8_t *file, size_t length);
+
+/* Opens a table of a master file's product. 1-9, 11, of a weekly option 24, 16 */
+scullpouch_outcome scullpouch_open(const uint8_t *file, size_t length, scullpouch_id id, uint16_t date);
+
+/* Sets the date: 10, 11, 12, 16. Closes a day: 10, 11, 13-16. Opens a closed day again: 10, 11, 13, 26, 27 */
+scullpouch_outcome scullpouch_roll(scullpouch_table table, uint16_t date);
+scullpouch_outcome scullpouch_close(scullpouch_table table, uint16_t day);
+scullpouch_outcome scullpouch_reopen(scullpouch_table table, uint16_t day);
+
+/* A capital measure on a future, p for q, with the settlement price before it. 10, 19, 21, 28, 29 */
+scullpouch_measured scullpouch_measure(scullpouch_table table, uint16_t p, uint16_t q, uint32_t price);
+
+/* The last trading day of a listed maturity: 10, 18. The day on which what is exercised on a day is due: 10, 11, 17 */
+scullpouch_last_day_reply scullpouch_last_trading_day(scullpouch_table table, uint16_t key);
+scullpouch_day_reply scullpouch_due(scullpouch_table table, uint16_t day);
+
+/* Prices are in 1/10,000 of the currency. Whether one passes: 10, 19, 20. The cash of a future, negative where the
+ * buyer pays the seller: 10, 19-22 */
+uint8_t scullpouch_tick(scullpouch_table table, uint32_t price);
+scullpouch_cash_reply scullpouch_cash(scullpouch_table table, uint32_t contracts, uint32_t agreed,
+                                      uint32_t final_price);
+
+/* Whether a list of keys and last trading days, in turn, count numbers in all, is the table's listing. 10 */
+scullpouch_verdict scullpouch_judge(scullpouch_table table, const uint16_t *list, size_t count);
+
+/* Writes the master file of a calendar and of records, 32 bytes each, into a buffer. 3-8, 25 */
+scullpouch_written scullpouch_write(scullpouch_calendar calendar, const uint8_t *records, size_t length,
+                                    uint8_t *buffer, size_t room);
+
+/* The record of a product, whatever its fields are; write judges it. */
+scullpouch_record_bytes scullpouch_record(scullpouch_product product);
+
+/* Judges a master file block by block: the number of blocks, each block of 512 bytes, then the answer. 1, 1, 1-8 */
+scullpouch_taken scullpouch_announce(uint16_t blocks);
+scullpouch_taken scullpouch_take(scullpouch_intake state, const uint8_t *block, size_t length);
+scullpouch_finished scullpouch_finish(scullpouch_intake state);
+
+/* The morning round: an empty queue. The first b tables, which then stand at the end: 10, 30. A table joins at the
+ * end, or leaves: 10, 30, 31 */
+scullpouch_round scullpouch_queue(void);
+scullpouch_handled scullpouch_handle(scullpouch_round queue, uint16_t b);
+scullpouch_changed scullpouch_join(scullpouch_round queue, uint16_t table);
+scullpouch_changed scullpouch_leave(scullpouch_round queue, uint16_t table);
+
+/* A made-up calendar for load tests. 4 */
+scullpouch_made scullpouch_make(uint32_t seed, scullpouch_cover cover);
+
+/* ---- Refusals in words ---- */
+
+/* The question of a refusal, in UTF-8; "" where there is none. */
+static inline const char *scullpouch_question(unsigned refusal) {
+    switch (refusal) {
+    case 1: return "Is the length a multiple of 512, from 1,024 to 65,536?";
+    case 2: return "Is every check right?";
+    case 3: return "Is every header right?";
+    case 4: return "Do 1 to 16 calendar blocks of consecutive rising years come first, then at least one product block and no other kind?";
+    case 5: return "Is every calendar block clean?";
+    case 6: return "Does every run of seven days in the cover hold a trading day?";
+    case 7: return "Is every record as stated, and all that must be zero zero?";
+    case 8: return "Do the ids strictly rise over the file?";
+    case 9: return "Is the id there?";
+    case 10: return "Is the table sound?";
+    case 11: return "Is the day in the cover?";
+    case 12: return "Is it not before the table's date?";
+    case 13: return "Is it after the table's date?";
+    case 14: return "Is it a trading day?";
+    case 15: return "With it closed, does every seven-day run still hold a trading day?";
+    case 16: return "Are all months of the fresh listing in the cover?";
+    case 17: return "Is the due day in the cover?";
+    case 18: return "Is the month listed?";
+    case 19: return "Is the order or agreed price 1 to 999,999,999?";
+    case 20: return "Is it a multiple of the tick?";
+    case 21: return "Is it a future?";
+    case 22: return "Is the final price 0 to 999,999,999 and are the contracts 1 to 100,000?";
+    case 23: return "Is it a date, or day number, of 2000–2099?";
+    case 24: return "Is the date at least seven days after the cover's first day?";
+    case 25: return "Is the buffer long enough for the file, and the file at most 65,536 bytes?";
+    case 26: return "Is the day a closed Monday to Friday?";
+    case 27: return "Does the front maturity stay the same month or Friday, whatever its day?";
+    case 28: return "Are p and q in range?";
+    case 29: return "Are the new size, 1 ten-thousandth to 65,535.9999 shares, and the new price, 1 to 999,999,999, in range?";
+    case 30: return "Is b from 1 to 200 and the table number 0 to 199?";
+    case 31: return "For joining, is it not yet queued, and for leaving, is it queued?";
+    default: return "";
+    }
+}
+
+/* ---- The same calls by pointers: short C over the proved calls ----
+ * NAME_into writes the table, state, queue or calendar that NAME gives back into the one that is handed in, and the
+ * other values where their pointers are not null, all only where it answers 0. */
+
+/* The id of a text. One of no or more than 4 characters gets an id that no file has, which open refuses (9). */
+static inline scullpouch_id scullpouch_id_of(const char *text) {
+    scullpouch_id id = {{' ', ' ', ' ', ' '}};
+    size_t length = strlen(text);
+    if (length <= 4) memcpy(id.bytes, text, length);
+    return id;
+}
+
+/* How many maturities a table lists. */
+static inline size_t scullpouch_listed(const scullpouch_table *table) {
+    size_t n = 0;
+    while (n < SCULLPOUCH_PLACES && table->maturities[n].number != 0) n++;
+    return n;
+}
+
+static inline unsigned scullpouch_outcome_into(const scullpouch_outcome *o, scullpouch_table *table, uint16_t *entered,
+                                               uint16_t *left) {
+    if (o->refusal != 0) return o->refusal;
+    *table = o->table;
+    if (entered) *entered = o->entered;
+    if (left) *left = o->left;
+    return 0;
+}
+
+static inline unsigned scullpouch_open_into(scullpouch_table *table, const uint8_t *file, size_t length, const char *id,
+                                            uint16_t date, uint16_t *entered, uint16_t *left) {
+    scullpouch_outcome o = scullpouch_open(file, length, scullpouch_id_of(id), date);
+    return scullpouch_outcome_into(&o, table, entered, left);
+}
+
+static inline unsigned scullpouch_roll_into(scullpouch_table *table, uint16_t date, uint16_t *entered, uint16_t *left) {
+    scullpouch_outcome o = scullpouch_roll(*table, date);
+    return scullpouch_outcome_into(&o, table, entered, left);
+}
+
+static inline unsigned scullpouch_close_into(scullpouch_table *table, uint16_t day, uint16_t *entered, uint16_t *left) {
+    scullpouch_outcome o = scullpouch_close(*table, day);
+    return scullpouch_outcome_into(&o, table, entered, left);
+}
+
+static inline unsigned scullpouch_reopen_into(scullpouch_table *table, uint16_t day, uint16_t *entered,
+                                              uint16_t *left) {
+    scullpouch_outcome o = scullpouch_reopen(*table, day);
+    return scullpouch_outcome_into(&o, table, entered, left);
+}
+
+static inline unsigned scullpouch_measure_into(scullpouch_table *table, uint16_t p, uint16_t q, uint32_t price,
+                                               uint32_t *new_price) {
+    scullpouch_measured m = scullpouch_measure(*table, p, q, price);
+    if (m.refusal != 0) return m.refusal;
+    *table = m.table;
+    if (new_price) *new_price = m.price;
+    return 0;
+}
+
+static inline unsigned scullpouch_announce_into(scullpouch_intake *state, uint16_t blocks) {
+    scullpouch_taken t = scullpouch_announce(blocks);
+    if (t.refusal == 0) *state = t.state;
+    return t.refusal;
+}
+
+static inline unsigned scullpouch_take_into(scullpouch_intake *state, const uint8_t *block, size_t length) {
+    scullpouch_taken t = scullpouch_take(*state, block, length);
+    if (t.refusal == 0) *state = t.state;
+    return t.refusal;
+}
+
+/* taken: the numbers of the tables that the call took. */
+static inline unsigned scullpouch_handle_into(scullpouch_round *queue, uint16_t b, scullpouch_round *taken) {
+    scullpouch_handled h = scullpouch_handle(*queue, b);
+    if (h.refusal != 0) return h.refusal;
+    *queue = h.queue;
+    if (taken) *taken = h.taken;
+    return 0;
+}
+
+static inline unsigned scullpouch_join_into(scullpouch_round *queue, uint16_t table) {
+    scullpouch_changed c = scullpouch_join(*queue, table);
+    if (c.refusal == 0) *queue = c.queue;
+    return c.refusal;
+}
+
+static inline unsigned scullpouch_leave_into(scullpouch_round *queue, uint16_t table) {
+    scullpouch_changed c = scullpouch_leave(*queue, table);
+    if (c.refusal == 0) *queue = c.queue;
+    return c.refusal;
+}
+
+static inline unsigned scullpouch_make_into(scullpouch_calendar *calendar, uint32_t seed, scullpouch_cover cover) {
+    scullpouch_made m = scullpouch_make(seed, cover);
+    if (m.refusal == 0) *calendar = m.calendar;
+    return m.refusal;
+}
+
+/* ---- The layout, which every language must share ---- */
+
+#if defined(__cplusplus) && __cplusplus >= 201103L
+#define SCULLPOUCH_IS(fact) static_assert(fact, "scullpouch.h: the layout of the structs")
+#elif defined(__STDC_VERSION__) && __STDC_VERSION__ >= 201112L
+#define SCULLPOUCH_IS(fact) _Static_assert(fact, "scullpouch.h: the layout of the structs")
+#else
+#define SCULLPOUCH_IS(fact) extern char scullpouch_is[(fact) ? 1 : -1]
+#endif
+#define SCULLPOUCH_SIZE(type, size) SCULLPOUCH_IS(sizeof(scullpouch_##type) == size)
+#define SCULLPOUCH_AT(type, field, offset) SCULLPOUCH_IS(offsetof(scullpouch_##type, field) == offset)
+
+SCULLPOUCH_SIZE(id, 4);
+SCULLPOUCH_AT(id, bytes, 0);
+SCULLPOUCH_SIZE(record_bytes, 32);
+SCULLPOUCH_AT(record_bytes, bytes, 0);
+SCULLPOUCH_SIZE(product, 24);
+SCULLPOUCH_AT(product, id, 0);
+SCULLPOUCH_AT(product, group, 4);
+SCULLPOUCH_AT(product, market, 8);
+SCULLPOUCH_AT(product, kind, 12);
+SCULLPOUCH_AT(product, currency, 13);
+SCULLPOUCH_AT(product, size, 16);
+SCULLPOUCH_AT(product, tick, 20);
+SCULLPOUCH_SIZE(cover, 4);
+SCULLPOUCH_AT(cover, first_year, 0);
+SCULLPOUCH_AT(cover, years, 2);
+SCULLPOUCH_SIZE(calendar, 1476);
+SCULLPOUCH_AT(calendar, cover, 0);
+SCULLPOUCH_AT(calendar, closed, 4);
+SCULLPOUCH_AT(calendar, exchange, 740);
+SCULLPOUCH_SIZE(maturity, 8);
+SCULLPOUCH_AT(maturity, key, 0);
+SCULLPOUCH_AT(maturity, day, 2);
+SCULLPOUCH_AT(maturity, back, 4);
+SCULLPOUCH_AT(maturity, number, 6);
+SCULLPOUCH_SIZE(table, 1624);
+SCULLPOUCH_AT(table, product, 0);
+SCULLPOUCH_AT(table, calendar, 24);
+SCULLPOUCH_AT(table, date, 1500);
+SCULLPOUCH_AT(table, given, 1502);
+SCULLPOUCH_AT(table, maturities, 1504);
+SCULLPOUCH_SIZE(outcome, 1632);
+SCULLPOUCH_AT(outcome, refusal, 0);
+SCULLPOUCH_AT(outcome, entered, 2);
+SCULLPOUCH_AT(outcome, left, 4);
+SCULLPOUCH_AT(outcome, table, 8);
+SCULLPOUCH_SIZE(measured, 1632);
+SCULLPOUCH_AT(measured, refusal, 0);
+SCULLPOUCH_AT(measured, price, 4);
+SCULLPOUCH_AT(measured, table, 8);
+SCULLPOUCH_SIZE(day_reply, 4);
+SCULLPOUCH_AT(day_reply, refusal, 0);
+SCULLPOUCH_AT(day_reply, day, 2);
+SCULLPOUCH_SIZE(date_reply, 8);
+SCULLPOUCH_AT(date_reply, refusal, 0);
+SCULLPOUCH_AT(date_reply, year, 2);
+SCULLPOUCH_AT(date_reply, month, 4);
+SCULLPOUCH_AT(date_reply, day, 6);
+SCULLPOUCH_SIZE(last_day_reply, 6);
+SCULLPOUCH_AT(last_day_reply, refusal, 0);
+SCULLPOUCH_AT(last_day_reply, day, 2);
+SCULLPOUCH_AT(last_day_reply, back, 4);
+SCULLPOUCH_SIZE(amount, 24);
+SCULLPOUCH_AT(amount, negative, 0);
+SCULLPOUCH_AT(amount, amount, 8);
+SCULLPOUCH_AT(amount, rest, 16);
+SCULLPOUCH_SIZE(cash_reply, 32);
+SCULLPOUCH_AT(cash_reply, refusal, 0);
+SCULLPOUCH_AT(cash_reply, cash, 8);
+SCULLPOUCH_SIZE(counts, 4);
+SCULLPOUCH_AT(counts, years, 0);
+SCULLPOUCH_AT(counts, records, 2);
+SCULLPOUCH_SIZE(loaded, 6);
+SCULLPOUCH_AT(loaded, refusal, 0);
+SCULLPOUCH_AT(loaded, counts, 2);
+SCULLPOUCH_SIZE(written, 16);
+SCULLPOUCH_AT(written, refusal, 0);
+SCULLPOUCH_AT(written, length, 8);
+SCULLPOUCH_SIZE(intake, 18);
+SCULLPOUCH_AT(intake, announced, 0);
+SCULLPOUCH_AT(intake, taken, 2);
+SCULLPOUCH_AT(intake, lowest, 4);
+SCULLPOUCH_AT(intake, first_year, 6);
+SCULLPOUCH_AT(intake, years, 8);
+SCULLPOUCH_AT(intake, idle, 10);
+SCULLPOUCH_AT(intake, records, 12);
+SCULLPOUCH_AT(intake, last_id, 14);
+SCULLPOUCH_SIZE(taken, 20);
+SCULLPOUCH_AT(taken, refusal, 0);
+SCULLPOUCH_AT(taken, state, 2);
+SCULLPOUCH_SIZE(finished, 24);
+SCULLPOUCH_AT(finished, refusal, 0);
+SCULLPOUCH_AT(finished, counts, 2);
+SCULLPOUCH_AT(finished, state, 6);
+SCULLPOUCH_SIZE(verdict, 4);
+SCULLPOUCH_AT(verdict, refusal, 0);
+SCULLPOUCH_AT(verdict, same, 1);
+SCULLPOUCH_AT(verdict, key, 2);
+SCULLPOUCH_SIZE(round, 402);
+SCULLPOUCH_AT(round, tables, 0);
+SCULLPOUCH_AT(round, count, 400);
+SCULLPOUCH_SIZE(handled, 806);
+SCULLPOUCH_AT(handled, refusal, 0);
+SCULLPOUCH_AT(handled, taken, 2);
+SCULLPOUCH_AT(handled, queue, 404);
+SCULLPOUCH_SIZE(changed, 404);
+SCULLPOUCH_AT(changed, refusal, 0);
+SCULLPOUCH_AT(changed, queue, 2);
+SCULLPOUCH_SIZE(made, 1478);
+SCULLPOUCH_AT(made, refusal, 0);
+SCULLPOUCH_AT(made, calendar, 2);
+
+#undef SCULLPOUCH_AT
+#undef SCULLPOUCH_SIZE
+#undef SCULLPOUCH_IS
+
+#ifdef __cplusplus
+}
+#endif
+#endif

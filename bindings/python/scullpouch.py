@@ -1,0 +1,521 @@
+"""Contract terms of stock futures and stock options: the proved calls, for Python 3.
+
+    table = scullpouch.open(file, 'AXA', scullpouch.day(2008, 3, 20))
+    table.roll(scullpouch.day(2008, 3, 21))
+
+A day is a number from 0, 1 January 2000; a month is a number from 0, January 2000. The key
+of a maturity is its month, or the day of a weekly option's Friday. A call gives its value
+or raises Refused; a table, queue or load that refuses a call is unchanged. A number that
+does not fit its C type is a ValueError.
+
+The shared object is libscullpouch.so.1, or the file that the variable SCULLPOUCH names.
+"""
+
+import ctypes
+import os
+from collections import namedtuple
+from ctypes import c_bool, c_size_t, c_uint8, c_uint16, c_uint32, c_uint64
+from itertools import takewhile
+
+INTERFACE = 1
+FILE_AT_MOST = 65536
+PLACES = 15
+MAP = 736
+TABLES = 200
+
+QUESTIONS = {
+    1: 'Is the length a multiple of 512, from 1,024 to 65,536?',
+    2: 'Is every check right?',
+    3: 'Is every header right?',
+    4: 'Do 1 to 16 calendar blocks of consecutive rising years come first, then at least one product block and no '
+       'other kind?',
+    5: 'Is every calendar block clean?',
+    6: 'Does every run of seven days in the cover hold a trading day?',
+    7: 'Is every record as stated, and all that must be zero zero?',
+    8: 'Do the ids strictly rise over the file?',
+    9: 'Is the id there?',
+    10: 'Is the table sound?',
+    11: 'Is the day in the cover?',
+    12: "Is it not before the table's date?",
+    13: "Is it after the table's date?",
+    14: 'Is it a trading day?',
+    15: 'With it closed, does every seven-day run still hold a trading day?',
+    16: 'Are all months of the fresh listing in the cover?',
+    17: 'Is the due day in the cover?',
+    18: 'Is the month listed?',
+    19: 'Is the order or agreed price 1 to 999,999,999?',
+    20: 'Is it a multiple of the tick?',
+    21: 'Is it a future?',
+    22: 'Is the final price 0 to 999,999,999 and are the contracts 1 to 100,000?',
+    23: 'Is it a date, or day number, of 2000–2099?',
+    24: "Is the date at least seven days after the cover's first day?",
+    25: 'Is the buffer long enough for the file, and the file at most 65,536 bytes?',
+    26: 'Is the day a closed Monday to Friday?',
+    27: 'Does the front maturity stay the same month or Friday, whatever its day?',
+    28: 'Are p and q in range?',
+    29: 'Are the new size, 1 ten-thousandth to 65,535.9999 shares, and the new price, 1 to 999,999,999, in range?',
+    30: 'Is b from 1 to 200 and the table number 0 to 199?',
+    31: 'For joining, is it not yet queued, and for leaving, is it queued?',
+}
+
+
+class Refused(Exception):
+    """The first question that was answered no: its number, and the question in words."""
+
+    def __init__(self, number):
+        super().__init__(number)
+        self.number = number
+        self.question = QUESTIONS.get(number, '')
+
+    def __str__(self):
+        return f'refusal {self.number}: {self.question}'
+
+
+# ---- The structs, as bindings/include/scullpouch.h has them ----
+
+class _Id(ctypes.Structure):
+    _fields_ = [('bytes', c_uint8 * 4)]
+
+
+class _RecordBytes(ctypes.Structure):
+    _fields_ = [('bytes', c_uint8 * 32)]
+
+
+class _Product(ctypes.Structure):
+    _fields_ = [('id', c_uint8 * 4), ('group', c_uint8 * 4), ('market', c_uint8 * 4), ('kind', c_uint8),
+                ('currency', c_uint8 * 3), ('size', c_uint32), ('tick', c_uint16)]
+
+
+class _Cover(ctypes.Structure):
+    _fields_ = [('first_year', c_uint16), ('years', c_uint16)]
+
+
+class _Calendar(ctypes.Structure):
+    _fields_ = [('cover', _Cover), ('closed', c_uint8 * MAP), ('exchange', c_uint8 * MAP)]
+
+
+class _Maturity(ctypes.Structure):
+    _fields_ = [('key', c_uint16), ('day', c_uint16), ('back', c_uint16), ('number', c_uint16)]
+
+
+class _Table(ctypes.Structure):
+    _fields_ = [('product', _Product), ('calendar', _Calendar), ('date', c_uint16), ('given', c_uint16),
+                ('maturities', _Maturity * PLACES)]
+
+
+class _Outcome(ctypes.Structure):
+    _fields_ = [('refusal', c_uint8), ('entered', c_uint16), ('left', c_uint16), ('table', _Table)]
+
+
+class _Measured(ctypes.Structure):
+    _fields_ = [('refusal', c_uint8), ('price', c_uint32), ('table', _Table)]
+
+
+class _DayReply(ctypes.Structure):
+    _fields_ = [('refusal', c_uint8), ('day', c_uint16)]
+
+
+class _DateReply(ctypes.Structure):
+    _fields_ = [('refusal', c_uint8), ('year', c_uint16), ('month', c_uint16), ('day', c_uint16)]
+
+
+class _LastDayReply(ctypes.Structure):
+    _fields_ = [('refusal', c_uint8), ('day', c_uint16), ('back', c_uint16)]
+
+
+class _Amount(ctypes.Structure):
+    _fields_ = [('negative', c_bool), ('amount', c_uint64), ('rest', c_uint16)]
+
+
+class _CashReply(ctypes.Structure):
+    _fields_ = [('refusal', c_uint8), ('cash', _Amount)]
+
+
+class _Counts(ctypes.Structure):
+    _fields_ = [('years', c_uint16), ('records', c_uint16)]
+
+
+class _Loaded(ctypes.Structure):
+    _fields_ = [('refusal', c_uint8), ('counts', _Counts)]
+
+
+class _Written(ctypes.Structure):
+    _fields_ = [('refusal', c_uint8), ('length', c_size_t)]
+
+
+class _Intake(ctypes.Structure):
+    _fields_ = [('announced', c_uint16), ('taken', c_uint16), ('lowest', c_uint16), ('first_year', c_uint16),
+                ('years', c_uint16), ('idle', c_uint16), ('records', c_uint16), ('last_id', c_uint8 * 4)]
+
+
+class _Taken(ctypes.Structure):
+    _fields_ = [('refusal', c_uint8), ('state', _Intake)]
+
+
+class _Finished(ctypes.Structure):
+    _fields_ = [('refusal', c_uint8), ('counts', _Counts), ('state', _Intake)]
+
+
+class _Verdict(ctypes.Structure):
+    _fields_ = [('refusal', c_uint8), ('same', c_bool), ('key', c_uint16)]
+
+
+class _Round(ctypes.Structure):
+    _fields_ = [('tables', c_uint16 * TABLES), ('count', c_uint16)]
+
+
+class _Handled(ctypes.Structure):
+    _fields_ = [('refusal', c_uint8), ('taken', _Round), ('queue', _Round)]
+
+
+class _Changed(ctypes.Structure):
+    _fields_ = [('refusal', c_uint8), ('queue', _Round)]
+
+
+class _Made(ctypes.Structure):
+    _fields_ = [('refusal', c_uint8), ('calendar', _Calendar)]
+
+
+# The layout, which every language must share: the size, and where each field stands.
+_LAYOUT = {
+    _Id: (4, dict(bytes=0)),
+    _RecordBytes: (32, dict(bytes=0)),
+    _Product: (24, dict(id=0, group=4, market=8, kind=12, currency=13, size=16, tick=20)),
+    _Cover: (4, dict(first_year=0, years=2)),
+    _Calendar: (1476, dict(cover=0, closed=4, exchange=740)),
+    _Maturity: (8, dict(key=0, day=2, back=4, number=6)),
+    _Table: (1624, dict(product=0, calendar=24, date=1500, given=1502, maturities=1504)),
+    _Outcome: (1632, dict(refusal=0, entered=2, left=4, table=8)),
+    _Measured: (1632, dict(refusal=0, price=4, table=8)),
+    _DayReply: (4, dict(refusal=0, day=2)),
+    _DateReply: (8, dict(refusal=0, year=2, month=4, day=6)),
+    _LastDayReply: (6, dict(refusal=0, day=2, back=4)),
+    _Amount: (24, dict(negative=0, amount=8, rest=16)),
+    _CashReply: (32, dict(refusal=0, cash=8)),
+    _Counts: (4, dict(years=0, records=2)),
+    _Loaded: (6, dict(refusal=0, counts=2)),
+    _Written: (16, dict(refusal=0, length=8)),
+    _Intake: (18, dict(announced=0, taken=2, lowest=4, first_year=6, years=8, idle=10, records=12, last_id=14)),
+    _Taken: (20, dict(refusal=0, state=2)),
+    _Finished: (24, dict(refusal=0, counts=2, state=6)),
+    _Verdict: (4, dict(refusal=0, same=1, key=2)),
+    _Round: (402, dict(tables=0, count=400)),
+    _Handled: (806, dict(refusal=0, taken=2, queue=404)),
+    _Changed: (404, dict(refusal=0, queue=2)),
+    _Made: (1478, dict(refusal=0, calendar=2)),
+}
+
+_BYTES = (ctypes.c_char_p, c_size_t)
+_SIGNATURES = {
+    'interface': (c_uint32,),
+    'day': (_DayReply, c_uint16, c_uint16, c_uint16),
+    'date': (_DateReply, c_uint16),
+    'load': (_Loaded, *_BYTES),
+    'open': (_Outcome, *_BYTES, _Id, c_uint16),
+    'roll': (_Outcome, _Table, c_uint16),
+    'close': (_Outcome, _Table, c_uint16),
+    'reopen': (_Outcome, _Table, c_uint16),
+    'measure': (_Measured, _Table, c_uint16, c_uint16, c_uint32),
+    'last_trading_day': (_LastDayReply, _Table, c_uint16),
+    'due': (_DayReply, _Table, c_uint16),
+    'tick': (c_uint8, _Table, c_uint32),
+    'cash': (_CashReply, _Table, c_uint32, c_uint32, c_uint32),
+    'judge': (_Verdict, _Table, ctypes.POINTER(c_uint16), c_size_t),
+    'write': (_Written, _Calendar, *_BYTES, ctypes.POINTER(c_uint8), c_size_t),
+    'record': (_RecordBytes, _Product),
+    'announce': (_Taken, c_uint16),
+    'take': (_Taken, _Intake, *_BYTES),
+    'finish': (_Finished, _Intake),
+    'queue': (_Round,),
+    'handle': (_Handled, _Round, c_uint16),
+    'join': (_Changed, _Round, c_uint16),
+    'leave': (_Changed, _Round, c_uint16),
+    'make': (_Made, c_uint32, _Cover),
+}
+
+
+def _layout_of(struct):
+    return ctypes.sizeof(struct), {name: getattr(struct, name).offset for name, *_ in struct._fields_}
+
+
+def _calls_of(path):
+    library = ctypes.CDLL(path)
+    calls = {}
+    for name, (result, *arguments) in _SIGNATURES.items():
+        call = getattr(library, 'scullpouch_' + name, None)
+        if call is None:
+            raise ImportError(f'{path} has no scullpouch_{name}')
+        call.restype, call.argtypes = result, arguments
+        calls[name] = call
+    if calls['interface']() != INTERFACE:
+        raise ImportError(f'{path} has another interface than {INTERFACE}')
+    return calls
+
+
+for _struct, _layout in _LAYOUT.items():
+    if _layout_of(_struct) != _layout:
+        raise ImportError(f'scullpouch: the layout of {_struct.__name__}')
+_call = _calls_of(os.environ.get('SCULLPOUCH', 'libscullpouch.so.1'))
+
+
+# ---- Arguments and answers ----
+
+# ctypes would cut a number that does not fit its C type, so each is held to its range.
+def _fit(number, bits=16):
+    if not 0 <= number < 1 << bits:
+        raise ValueError(f'{number} does not fit {bits} bits')
+    return number
+
+
+# Bytes and their length. They are copied where they could change meanwhile.
+def _lent(data):
+    data = data if isinstance(data, bytes) else bytes(memoryview(data))
+    return data, len(data)
+
+
+def _judged(reply):
+    if reply.refusal:
+        raise Refused(reply.refusal)
+    return reply
+
+
+# The bytes of a code, such as an id, filled up with spaces.
+def _code(text, length=4):
+    code = text.encode('latin-1')
+    if len(code) > length:
+        raise ValueError(f'{text!r} has more than {length} characters')
+    return (c_uint8 * length)(*code.ljust(length))
+
+
+def _text(code):
+    return bytes(code).decode('latin-1').rstrip(' ')
+
+
+Maturity = namedtuple('Maturity', 'key day back number')
+Counts = namedtuple('Counts', 'years records')
+Moved = namedtuple('Moved', 'entered left')
+Cash = namedtuple('Cash', 'negative amount rest')
+
+
+class Product(namedtuple('Product', 'id group market kind currency size tick')):
+    """A product. kind: 0 a future, 1, 2, 3 an option of 12, 24, 60 months, 4 a future of 2005, 5 a weekly option;
+    size in 1/10,000 of a share, tick in 1/10,000 of the currency."""
+
+    def record(self):
+        """Its 32 bytes in a master file, whatever its fields are; write judges them."""
+        held = _Product(_code(self.id), _code(self.group), _code(self.market), _fit(self.kind, 8),
+                        _code(self.currency, 3), _fit(self.size, 32), _fit(self.tick))
+        return bytes(_call['record'](held).bytes)
+
+
+class Calendar(namedtuple('Calendar', 'first_year years closed exchange')):
+    """A cover and two maps of 736 bytes: the closed days, and those of them on which payments and deliveries run.
+    Year k of the cover has the 46 bytes from 46 * k on; its first day is the highest bit of the first of them."""
+
+    def _held(self):
+        maps = (c_uint8 * MAP).from_buffer_copy
+        return _Calendar(_Cover(_fit(self.first_year), _fit(self.years)), maps(self.closed), maps(self.exchange))
+
+
+def _calendar_of(held):
+    return Calendar(held.cover.first_year, held.cover.years, bytes(held.closed), bytes(held.exchange))
+
+
+# ---- Days ----
+
+def day(year, month, day):  # noqa: A002
+    """The day of a date."""
+    return _judged(_call['day'](_fit(year), _fit(month), _fit(day))).day
+
+
+def date(day):
+    """Year, month and day of the month of a day."""
+    reply = _judged(_call['date'](_fit(day)))
+    return reply.year, reply.month, reply.day
+
+
+# ---- Files ----
+
+def load(file):
+    """Judges a master file, bytes: the counts of years and of records."""
+    counts = _judged(_call['load'](*_lent(file))).counts
+    return Counts(counts.years, counts.records)
+
+
+def make(seed, first_year, years):
+    """A made-up calendar for load tests."""
+    return _calendar_of(_judged(_call['make'](_fit(seed, 32), _Cover(_fit(first_year), _fit(years)))).calendar)
+
+
+def write_into(buffer, calendar, records):
+    """Writes the master file of a calendar and of records, 32 bytes each, into a bytearray that nobody else uses
+    meanwhile: the file's length. What stands after the file stays; refused, everything does."""
+    records, length = _lent(records)
+    lent = (c_uint8 * len(buffer)).from_buffer(buffer)
+    reply = _call['write'](calendar._held(), records, length, lent, len(buffer))
+    del lent  # a lent bytearray cannot be made longer, also where the call is refused
+    return _judged(reply).length
+
+
+def write(calendar, records):
+    """The master file of a calendar and of records, 32 bytes each."""
+    buffer = bytearray(FILE_AT_MOST)
+    return bytes(buffer[:write_into(buffer, calendar, records)])
+
+
+class Intake:
+    """A load block by block of a file of so many blocks: announce it, take each 512 bytes, finish."""
+
+    def __init__(self, blocks):
+        self._held = _judged(_call['announce'](_fit(blocks))).state
+
+    def take(self, block):
+        """Takes the next block."""
+        self._held = _judged(_call['take'](self._held, *_lent(block))).state
+
+    def finish(self):
+        """The counts of years and of records, as load gives them."""
+        counts = _judged(_call['finish'](self._held)).counts
+        return Counts(counts.years, counts.records)
+
+
+# ---- Tables ----
+
+def open(file, id, on):  # noqa: A001, A002
+    """The table of a product of a master file on a date."""
+    # no file has an id of spaces
+    known = _code(id) if len(id) <= 4 else _code('')
+    return Table(_judged(_call['open'](*_lent(file), _Id(known), _fit(on))))
+
+
+class Table:
+    """A table of listed maturities. moved: how many entered and left in the last call that moved it."""
+
+    def __init__(self, outcome):
+        self._held = outcome.table
+        self.moved = Moved(outcome.entered, outcome.left)
+
+    def _take(self, outcome):
+        self.__init__(_judged(outcome))
+        return self.moved
+
+    def copy(self):
+        """A table of its own that is as this one is now."""
+        return Table.from_bytes(bytes(self), self.moved)
+
+    def roll(self, date):
+        """Sets the date: how many maturities entered and left."""
+        return self._take(_call['roll'](self._held, _fit(date)))
+
+    def close(self, day):
+        """Closes a day: how many maturities entered and left."""
+        return self._take(_call['close'](self._held, _fit(day)))
+
+    def reopen(self, day):
+        """Opens a closed day again: how many maturities entered and left."""
+        return self._take(_call['reopen'](self._held, _fit(day)))
+
+    def measure(self, p, q, price):
+        """A capital measure on a future, p for q, with the settlement price before it: the price after it."""
+        reply = _judged(_call['measure'](self._held, _fit(p), _fit(q), _fit(price, 32)))
+        self._held = reply.table
+        return reply.price
+
+    def last_trading_day(self, key):
+        """The last trading day of a listed maturity, and how many days it was moved back."""
+        reply = _judged(_call['last_trading_day'](self._held, _fit(key)))
+        return reply.day, reply.back
+
+    def due(self, day):
+        """The day on which what is exercised on a day is due."""
+        return _judged(_call['due'](self._held, _fit(day))).day
+
+    def tick(self, price):
+        """Raises Refused where a price, in 1/10,000 of the currency, does not pass."""
+        refusal = _call['tick'](self._held, _fit(price, 32))
+        if refusal:
+            raise Refused(refusal)
+
+    def cash(self, contracts, agreed, final):
+        """The cash of a future: whether the buyer pays the seller, the amount in 1/10,000 of the currency, and the
+        rest, 0 to 9,999, in 1/100,000,000."""
+        cash = _judged(_call['cash'](self._held, _fit(contracts, 32), _fit(agreed, 32), _fit(final, 32))).cash
+        return Cash(cash.negative, cash.amount, cash.rest)
+
+    def judge(self, numbers):
+        """Whether keys and last trading days, in turn, are the table's listing: None, or the smallest key that
+        differs."""
+        numbers = [_fit(number) for number in numbers]
+        reply = _judged(_call['judge'](self._held, (c_uint16 * len(numbers))(*numbers), len(numbers)))
+        return None if reply.same else reply.key
+
+    @property
+    def product(self):
+        held = self._held.product
+        return Product(_text(held.id), _text(held.group), _text(held.market), held.kind, _text(held.currency),
+                       held.size, held.tick)
+
+    @property
+    def calendar(self):
+        return _calendar_of(self._held.calendar)
+
+    @property
+    def date(self):
+        return self._held.date
+
+    @property
+    def given(self):
+        """How many listing numbers were given since the opening."""
+        return self._held.given
+
+    @property
+    def maturities(self):
+        """The listed maturities by rising key."""
+        places = (Maturity(m.key, m.day, m.back, m.number) for m in self._held.maturities)
+        return list(takewhile(lambda place: place.number, places))
+
+    def __bytes__(self):
+        """The table as C holds it, to be stored; its unused bytes are zeros."""
+        data = bytearray(self._held)
+        data[_Product.tick.offset + 2:_Table.calendar.offset] = bytes(2)
+        return bytes(data)
+
+    @classmethod
+    def from_bytes(cls, data, moved=Moved(0, 0)):
+        """A table that was stored. Calls refuse one that is not sound (10)."""
+        if len(data) != ctypes.sizeof(_Table):
+            raise ValueError(f'a table has {ctypes.sizeof(_Table)} bytes')
+        return cls(_Outcome(0, *moved, _Table.from_buffer_copy(data)))
+
+    def __eq__(self, other):
+        return isinstance(other, Table) and bytes(self) == bytes(other)
+
+    __hash__ = None
+
+
+# ---- The morning round ----
+
+class Queue:
+    """A queue of tables, by their numbers 0 to 199."""
+
+    def __init__(self):
+        self._held = _call['queue']()
+
+    def handle(self, b):
+        """The numbers of the first b tables, which then stand at the end."""
+        reply = _judged(_call['handle'](self._held, _fit(b)))
+        self._held = reply.queue
+        return reply.taken.tables[:reply.taken.count]
+
+    def join(self, table):
+        """A table joins at the end."""
+        self._held = _judged(_call['join'](self._held, _fit(table))).queue
+
+    def leave(self, table):
+        """A table leaves, wherever it stands."""
+        self._held = _judged(_call['leave'](self._held, _fit(table))).queue
+
+    @property
+    def tables(self):
+        """The numbers of the tables, the first first."""
+        return self._held.tables[:self._held.count]

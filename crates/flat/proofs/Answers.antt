@@ -1,0 +1,48 @@
+-- What the code gives, case by case.
+-- Assumes nothing.
+use mathlib.Core.Path.{_≡_, refl}
+use mathlib.Core.Bool.{true, false}
+use Prim.Native.Nat.{ℕ, _%_}
+use borrow.Author.Tests.{eq-eqb, ne-eqb}
+use Rattle.product.specs.Fields.{kindOf, kindRight}
+use Rattle.product.specs.declared.Product.{Product}
+use Rattle.master.specs.Products.{kindOr}
+use Rattle.opening.specs.Opening.{zeroProduct}
+use Rattle.table.specs.declared.Outcome.{Outcome}
+use Rattle.measures.specs.declared.Measured.{Measured}
+use Rattle.writing.specs.Writing.{fieldBytes, sharesOf}
+use Rattle.flat.specs.declared.FlatProduct.{FlatProduct}
+use Rattle.flat.specs.declared.FlatTable.{FlatTable}
+use Rattle.flat.specs.Flat.{unflatProduct, flatOutcome, refusedOn, outcomeOn, flatMeasured, unmeasuredOn, measuredOn, recordFlat}
+
+module _ (t : FlatTable) where
+  pub outcome-no : (o : Outcome) → (o .refusal ≡ 0 → ⊥) → refusedOn t (o .refusal) ≡ outcomeOn t o
+  unfolding outcomeOn
+  outcome-no o no-zero = rw (ne-eqb (o .refusal) 0 no-zero) refl
+
+  pub outcome-yes : (o : Outcome) → o .refusal ≡ 0 → flatOutcome o ≡ outcomeOn t o
+  unfolding outcomeOn
+  outcome-yes o zero = rw (eq-eqb (o .refusal) 0 zero) refl
+
+  pub measured-no : (m : Measured) → (m .refusal ≡ 0 → ⊥) → unmeasuredOn t (m .refusal) ≡ measuredOn t m
+  unfolding measuredOn
+  measured-no m no-zero = rw (ne-eqb (m .refusal) 0 no-zero) refl
+
+  pub measured-yes : (m : Measured) → m .refusal ≡ 0 → flatMeasured m ≡ measuredOn t m
+  unfolding measuredOn
+  measured-yes m zero = rw (eq-eqb (m .refusal) 0 zero) refl
+
+module _ (p : FlatProduct) where
+  pub product-no : kindRight (p .kind) ≡ false → zeroProduct ≡ unflatProduct p
+  unfolding unflatProduct
+  product-no wrong = rw wrong refl
+
+  pub product-yes : kindRight (p .kind) ≡ true
+      → record { id = p .id; group = p .group; market = p .market; kind = kindOr (kindOf (p .kind)); size = p .size; tick = p .tick; currency = p .currency } ≡ unflatProduct p
+  unfolding unflatProduct
+  product-yes right = rw right refl
+
+  pub record-is : (shares : ℕ) → shares ≡ sharesOf (p .size)
+      → fieldBytes (p .id) (p .group) (p .market) (p .kind) shares (p .tick) (p .currency) (p .size % 10000) ≡ recordFlat p
+  unfolding recordFlat
+  record-is shares e = rw e refl

@@ -1,0 +1,68 @@
+-- What a refused call gives back: the table, the state, the queue or the buffer as it came (01, Questions; 02, notes 7, 8, 9, 11 and 13).
+-- Assumes nothing.
+use Prim.Native.Nat.{ℕ}
+use mathlib.Core.Path.{_≡_}
+use mathlib.Core.Bool.{true, false}
+use mathlib.Core.List.{List, []}
+use lib.ListN.{length}
+use Rattle.calendar.specs.declared.Calendar.{Calendar}
+use Rattle.product.specs.Fields.{kindRight}
+use Rattle.table.specs.Table.{sound, zeroTable, openCall, rollCall, closeCall, reopenCall}
+use Rattle.measures.specs.Measures.{measureCall}
+use Rattle.writing.specs.Writing.{writeCall, bufferAfter}
+use Rattle.intake.specs.declared.Intake.{Intake}
+use Rattle.intake.specs.Intake.{takeCall}
+use Rattle.rounds.specs.declared.Queue.{Queue}
+use Rattle.rounds.specs.Rounds.{queueOf, handleCall, joinCall, leaveCall}
+use Rattle.flat.specs.declared.FlatTable.{FlatTable}
+use Rattle.flat.specs.declared.FlatOutcome.{FlatOutcome}
+use Rattle.flat.specs.declared.FlatMeasured.{FlatMeasured}
+use Rattle.flat.specs.Flat.{unflatTable, flatTable, flatOutcome, flatMeasured, outcomeOn, measuredOn}
+
+-- a call that may change a table, with its arguments
+pub data TableCall : Type 0 where
+  roll close reopen : ℕ → TableCall
+  measure : (p q price : ℕ) → TableCall
+
+-- the number that a call on a flat table gives
+abbrev pub refusalOn : FlatTable → TableCall → ℕ
+refusalOn t (roll date) = outcomeOn t (rollCall (unflatTable t) date) .refusal
+refusalOn t (close day) = outcomeOn t (closeCall (unflatTable t) day) .refusal
+refusalOn t (reopen day) = outcomeOn t (reopenCall (unflatTable t) day) .refusal
+refusalOn t (measure p q price) = measuredOn t (measureCall (unflatTable t) p q price) .refusal
+
+-- the flat table that it gives back
+abbrev pub tableAfter : FlatTable → TableCall → FlatTable
+tableAfter t (roll date) = outcomeOn t (rollCall (unflatTable t) date) .table
+tableAfter t (close day) = outcomeOn t (closeCall (unflatTable t) day) .table
+tableAfter t (reopen day) = outcomeOn t (reopenCall (unflatTable t) day) .table
+tableAfter t (measure p q price) = measuredOn t (measureCall (unflatTable t) p q price) .table
+
+-- of a flat table whose number is a kind: what is given back is what the call on the table gives, all of it
+pub record CallsOwn (t : FlatTable) : Type 0 where
+  pub rolled : (date : ℕ) → outcomeOn t (rollCall (unflatTable t) date) ≡ flatOutcome (rollCall (unflatTable t) date)
+  pub closed : (day : ℕ) → outcomeOn t (closeCall (unflatTable t) day) ≡ flatOutcome (closeCall (unflatTable t) day)
+  pub reopened : (day : ℕ) → outcomeOn t (reopenCall (unflatTable t) day) ≡ flatOutcome (reopenCall (unflatTable t) day)
+  pub measured : (p q price : ℕ) → measuredOn t (measureCall (unflatTable t) p q price) ≡ flatMeasured (measureCall (unflatTable t) p q price)
+
+-- of every value of a flat table
+pub record OnFlat (t : FlatTable) : Type 0 where
+  -- 'With it: table calls return the same table ..'
+  pub as-it-came : (c : TableCall) → (refusalOn t c ≡ 0 → ⊥) → tableAfter t c ≡ t
+  pub own : kindRight (t .product .kind) ≡ true → CallsOwn t
+  -- a number that is no kind: the table is not sound, so every call gets 10
+  pub no-kind : kindRight (t .product .kind) ≡ false → sound (unflatTable t) ≡ false
+  pub ten : kindRight (t .product .kind) ≡ false → (c : TableCall) → refusalOn t c ≡ 10
+
+-- of the other calls that carry something
+pub record AsItCame : Type 0 where
+  -- '(open: a table of zeros)'
+  pub opened : (f id : List ℕ) (date : ℕ) → (openCall f id date .refusal ≡ 0 → ⊥) → flatOutcome (openCall f id date) .table ≡ flatTable zeroTable
+  -- 'the state is then as before' (02, note 8)
+  pub state : (s : Intake) (b : List ℕ) → (takeCall s b .refusal ≡ 0 → ⊥) → takeCall s b .state ≡ s
+  -- 'A refused call takes none and returns the queue as it came' (02, note 13)
+  pub handled : (q : Queue) (b : ℕ) → (handleCall q b .refusal ≡ 0 → ⊥) → (handleCall q b .taken ≡ queueOf []) × (handleCall q b .queue ≡ q)
+  pub joined : (q : Queue) (table : ℕ) → (joinCall q table .refusal ≡ 0 → ⊥) → joinCall q table .queue ≡ q
+  pub left : (q : Queue) (table : ℕ) → (leaveCall q table .refusal ≡ 0 → ⊥) → leaveCall q table .queue ≡ q
+  -- 'No refusal writes anything' (02, note 7)
+  pub buffer : (cal : Calendar) (records before : List ℕ) → (writeCall cal records (length before) .refusal ≡ 0 → ⊥) → bufferAfter cal records before ≡ before

@@ -1,0 +1,246 @@
+// The calls for programs in other languages, by C's calling convention: structs by value, and lent bytes as a pointer and a length.
+// Nothing is kept between calls. A refused call gives back the table, the queue or the state as it came.
+use calendar::Calendar;
+use calendar::Cover;
+use flat::DateReply;
+use flat::FlatMeasured;
+use flat::FlatOutcome;
+use flat::FlatProduct;
+use flat::FlatRecord;
+use flat::FlatTable;
+use flat::Id;
+use flat::VerdictReply;
+use generated::Made;
+use intake::Finished;
+use intake::Intake;
+use intake::Taken;
+use master::Loaded;
+use prices::CashReply;
+use rounds::Changed;
+use rounds::Handled;
+use rounds::Queue;
+use values::DayReply;
+use values::LastDayReply;
+use writing::WrittenFile;
+ghost use mathlib.Core.Path.{_≡_};
+ghost use mathlib.Core.List.{[]};
+ghost use lib.ListN.{length};
+ghost use Rattle.days.specs.Dates.{dayCall, dateCall};
+ghost use Rattle.master.specs.Load.{loadAnswer, loadCall};
+ghost use Rattle.table.specs.Table.{openCall, rollCall, closeCall, reopenCall};
+ghost use Rattle.values.specs.Values.{dayReply, lastDayReply, lastDayCall, dueCall};
+ghost use Rattle.prices.specs.Prices.{cashReply, tickCall, cashCall};
+ghost use Rattle.writing.specs.Writing.{writeCall, writeAnswer, bufferAfter};
+ghost use Rattle.intake.specs.Intake.{announceCall, takeCall, finishCall, finishedAnswer};
+ghost use Rattle.rounds.specs.Rounds.{queueOf, handleCall, joinCall, leaveCall};
+ghost use Rattle.generated.specs.Generated.{madeAnswer, madeCall};
+ghost use Rattle.measures.specs.Measures.{measureCall};
+ghost use Rattle.vendor.specs.Vendor.{vendorCall};
+ghost use Rattle.flat.specs.Flat.{unflatTable, flatOutcome, outcomeOn, measuredOn, dateReply, verdictReply, recordFlat};
+
+// The number of this interface: it changes when a struct or a function does.
+#[no_mangle]
+pub extern "C" fn scullpouch_interface() -> u32
+    ensures { λ r. ⌜ r ≡ 1 ⌝ }
+{
+    1
+}
+
+// The day number of a date.
+#[no_mangle]
+pub extern "C" fn scullpouch_day(year: u16, month: u16, day: u16) -> DayReply
+    ensures { λ r. ⌜ dayReply r ≡ dayCall year month day ⌝ }
+{
+    flat::reply_of_day(days::day_of_date(year, month, day))
+}
+
+// The date of a day number.
+#[no_mangle]
+pub extern "C" fn scullpouch_date(day: u16) -> DateReply
+    ensures { λ r. ⌜ dateReply r ≡ dateCall day ⌝ }
+{
+    flat::reply_of_date(days::date_of_day(day))
+}
+
+// Judges a master file: questions 1 to 8.
+#[no_mangle]
+pub extern "C" fn scullpouch_load(file: &[u8]) -> Loaded
+    ensures { λ r. ⌜ loadAnswer r ≡ loadCall (now (file .entry)) ⌝ }
+{
+    master::load(file)
+}
+
+// Opens a table. Refused, the table is all zeros.
+#[no_mangle]
+pub extern "C" fn scullpouch_open(file: &[u8], id: Id, date: u16) -> FlatOutcome
+    ensures { λ r. ⌜ r ≡ flatOutcome (openCall (now (file .entry)) (id .bytes) date) ⌝ }
+{
+    let bytes = id.bytes;
+    let table = table::zero_table();
+    flat::flat_outcome(table.open(file, bytes, date))
+}
+
+// Rolls a table to a date.
+#[no_mangle]
+pub extern "C" fn scullpouch_roll(t: FlatTable, date: u16) -> FlatOutcome
+    ensures { λ r. ⌜ r ≡ outcomeOn t (rollCall (unflatTable t) date) ⌝ }
+{
+    let table = flat::unflat_table(t);
+    flat::outcome_on(t, table.roll(date))
+}
+
+// Closes a day.
+#[no_mangle]
+pub extern "C" fn scullpouch_close(t: FlatTable, day: u16) -> FlatOutcome
+    ensures { λ r. ⌜ r ≡ outcomeOn t (closeCall (unflatTable t) day) ⌝ }
+{
+    let table = flat::unflat_table(t);
+    flat::outcome_on(t, table.close(day))
+}
+
+// Opens a closed day again.
+#[no_mangle]
+pub extern "C" fn scullpouch_reopen(t: FlatTable, day: u16) -> FlatOutcome
+    ensures { λ r. ⌜ r ≡ outcomeOn t (reopenCall (unflatTable t) day) ⌝ }
+{
+    let table = flat::unflat_table(t);
+    flat::outcome_on(t, table.reopen(day))
+}
+
+// A capital measure on a future, p for q, and the settlement price after it.
+#[no_mangle]
+pub extern "C" fn scullpouch_measure(t: FlatTable, p: u16, q: u16, price: u32) -> FlatMeasured
+    ensures { λ r. ⌜ r ≡ measuredOn t (measureCall (unflatTable t) p q price) ⌝ }
+{
+    let table = flat::unflat_table(t);
+    flat::measured_on(t, measures::measure(table, p, q, price))
+}
+
+// The last trading day of a listed maturity, by its key.
+#[no_mangle]
+pub extern "C" fn scullpouch_last_trading_day(t: FlatTable, key: u16) -> LastDayReply
+    ensures { λ r. ⌜ lastDayReply r ≡ lastDayCall (unflatTable t) key ⌝ }
+{
+    values::last_trading_day(flat::unflat_table(t), key)
+}
+
+// The due day of a day of the cover.
+#[no_mangle]
+pub extern "C" fn scullpouch_due(t: FlatTable, day: u16) -> DayReply
+    ensures { λ r. ⌜ dayReply r ≡ dueCall (unflatTable t) day ⌝ }
+{
+    values::due(flat::unflat_table(t), day)
+}
+
+// Whether a price passes.
+#[no_mangle]
+pub extern "C" fn scullpouch_tick(t: FlatTable, price: u32) -> u8
+    ensures { λ r. ⌜ r ≡ tickCall (unflatTable t) price ⌝ }
+{
+    prices::tick(flat::unflat_table(t), price)
+}
+
+// The cash of a future.
+#[no_mangle]
+pub extern "C" fn scullpouch_cash(
+    t: FlatTable,
+    contracts: u32,
+    agreed: u32,
+    final_price: u32,
+) -> CashReply
+    ensures { λ r. ⌜ cashReply r ≡ cashCall (unflatTable t) contracts agreed «final_price» ⌝ }
+{
+    prices::cash(flat::unflat_table(t), contracts, agreed, final_price)
+}
+
+// Writes a master file into a lent buffer. Refused, nothing is written.
+#[no_mangle]
+pub extern "C" fn scullpouch_write(
+    calendar: Calendar,
+    records: &[u8],
+    buffer: &mut [u8],
+) -> WrittenFile
+    ensures { λ r. ⌜ (writeAnswer r ≡ writeCall calendar (now (records .entry)) (length (now (buffer .entry)))) × (now (buffer .exit) ≡ bufferAfter calendar (now (records .entry)) (now (buffer .entry))) ⌝ }
+{
+    writing::write(calendar, records, buffer)
+}
+
+// The record of a product.
+#[no_mangle]
+pub extern "C" fn scullpouch_record(p: FlatProduct) -> FlatRecord
+    ensures { λ r. ⌜ r .bytes ≡ recordFlat p ⌝ }
+{
+    flat::flat_record(p)
+}
+
+// Says the number of blocks of a file that is handed over block by block.
+#[no_mangle]
+pub extern "C" fn scullpouch_announce(blocks: u16) -> Taken
+    ensures { λ r. ⌜ r ≡ announceCall blocks ⌝ }
+{
+    intake::announce(blocks)
+}
+
+// Takes the next block.
+#[no_mangle]
+pub extern "C" fn scullpouch_take(state: Intake, block: &[u8]) -> Taken
+    ensures { λ r. ⌜ r ≡ takeCall state (now (block .entry)) ⌝ }
+{
+    state.take(block)
+}
+
+// The result of the load.
+#[no_mangle]
+pub extern "C" fn scullpouch_finish(state: Intake) -> Finished
+    ensures { λ r. ⌜ (finishedAnswer r ≡ finishCall state) × (r .state ≡ state) ⌝ }
+{
+    state.finish()
+}
+
+// Whether a list, key and day in turn, is the table's fresh listing; else the smallest key that differs.
+#[no_mangle]
+pub extern "C" fn scullpouch_judge(t: FlatTable, list: &[u16]) -> VerdictReply
+    ensures { λ r. ⌜ verdictReply r ≡ vendorCall (unflatTable t) (now (list .entry)) ⌝ }
+{
+    flat::reply_of_verdict(vendor::judge(flat::unflat_table(t), list))
+}
+
+// A queue with no table.
+#[no_mangle]
+pub extern "C" fn scullpouch_queue() -> Queue
+    ensures { λ r. ⌜ r ≡ queueOf [] ⌝ }
+{
+    Queue::empty()
+}
+
+// A call of the morning round: takes the first b tables, or all if fewer, and puts them at the end.
+#[no_mangle]
+pub extern "C" fn scullpouch_handle(queue: Queue, b: u16) -> Handled
+    ensures { λ r. ⌜ r ≡ handleCall queue b ⌝ }
+{
+    queue.handle(b)
+}
+
+// Puts a table at the end of the queue.
+#[no_mangle]
+pub extern "C" fn scullpouch_join(queue: Queue, table: u16) -> Changed
+    ensures { λ r. ⌜ r ≡ joinCall queue table ⌝ }
+{
+    queue.join(table)
+}
+
+// Takes a table out of the queue.
+#[no_mangle]
+pub extern "C" fn scullpouch_leave(queue: Queue, table: u16) -> Changed
+    ensures { λ r. ⌜ r ≡ leaveCall queue table ⌝ }
+{
+    queue.leave(table)
+}
+
+// The made-up calendar of a seed, for load tests.
+#[no_mangle]
+pub extern "C" fn scullpouch_make(seed: u32, cover: Cover) -> Made
+    ensures { λ r. ⌜ madeAnswer r ≡ madeCall seed cover ⌝ }
+{
+    generated::make(seed, cover)
+}

@@ -1,0 +1,501 @@
+"""Scripts of calls for the programs calls of bindings/, made from a seed, and what the
+second program answers to each line (bindings/README.md has the lines).
+
+python3 tests/calls.py SEED FOLDER writes one script: script, expected and the files.
+"""
+
+import os
+import sys
+from types import SimpleNamespace
+
+from mornings import listed, placed, queue_words
+from runs import files
+from runs.case import Chance, write
+from runs.histories import ITEMS
+from second import dates, generated, intake, listing, master, product, rounds, table, trading, vendor, writing
+from second.trading import Calendar
+from tables import damages, moments
+from tables.files import FRACTIONS, by_id, clustered, clustered_weekly
+from tables.script import (BACK, CLOSED, CURRENCY, DATE, DAY, EXCHANGE, FIRST_YEAR, GIVEN, GROUP, ID, KEY, KIND, MARKET,
+                           NUMBER, SIZE, TICK, YEARS, calendar_sums, damage, map_sum)
+from verdicts import numbers_of
+
+COVERS = (1, 2, 3, 5, 16)
+FILL = b'\xa5'
+FIELDS = {ID: 'id', GROUP: 'group', MARKET: 'market', KIND: 'kind', SIZE: 'size', TICK: 'tick', CURRENCY: 'currency',
+          FIRST_YEAR: 'first_year', YEARS: 'years', CLOSED: 'closed', EXCHANGE: 'exchange', DATE: 'date',
+          GIVEN: 'given', KEY: 'key', DAY: 'last', BACK: 'back', NUMBER: 'number'}
+SILENT = ('file', 'set', 'keep', 'restore', 'calendar', 'queue', 'numbers')  # the lines without an answer
+CALLS = {'R': 'roll', 'C': 'close', 'E': 'reopen', 'Z': 'measure'}
+
+
+def words_of(*words):
+    return ' '.join(str(int(word) if isinstance(word, bool) else word) for word in words)
+
+
+# The lines written so far, the answers to them, and what they leave.
+class Script:
+
+    def __init__(self, seed):
+        self.chance = Chance(seed)
+        self.lines = []
+        self.answers = []
+        self.files = {}
+        self.seen = set()
+        self.file = b''
+        self.table = self.kept = table.ZERO_TABLE
+        self.calendar = table.ZERO_TABLE.calendar
+        self.state = None
+        self.places, self.count = placed([]), 0
+
+    # A line that is answered with nothing.
+    def say(self, *words):
+        self.lines.append(words_of(*words))
+
+    # A line and its answer, which begins with a refusal.
+    def ask(self, line, refusal, *rest):
+        self.say(*line)
+        self.answers.append(words_of(refusal, *rest))
+        self.seen.add((line[0], refusal))
+        return refusal
+
+    # The name of a file with these bytes.
+    def name_of(self, data):
+        for name, one in self.files.items():
+            if one == data:
+                return name
+        name = f'{len(self.files)}.bin'
+        self.files[name] = data
+        return name
+
+    # ---- Days and words ----
+
+    def interface(self):
+        self.ask(('interface',), 1)
+
+    def question(self, number, text):
+        self.ask(('question', number), text)
+
+    def day(self, *date):
+        self.ask(('day', *date), *dates.date_to_day(*date))
+
+    def date(self, day):
+        self.ask(('date', day), *dates.day_to_date(day))
+
+    # ---- Files ----
+
+    def use(self, file):
+        self.file = file
+        self.say('file', self.name_of(file))
+
+    def load(self):
+        self.ask(('load',), *master.load(self.file))
+
+    def announce(self, blocks):
+        refusal, state = intake.announce(blocks, intake.Whole)
+        self.state = state or self.state
+        return self.ask(('announce', blocks), refusal)
+
+    def take(self, start, length):
+        refusal, self.state = self.state.take(self.file[start:start + length])
+        return self.ask(('take', start, length), refusal)
+
+    def finish(self):
+        self.ask(('finish',), *self.state.finish())
+
+    def make(self, seed, first_year, years):
+        refusal, made = generated.make(seed, first_year, years)
+        self.calendar = self.calendar if refusal else made
+        self.ask(('make', seed, first_year, years), refusal, self.calendar.first_year, self.calendar.years,
+                 *calendar_sums(self.calendar))
+
+    def write(self, records, room):
+        held = self.calendar
+        draft = writing.Draft(held.first_year, held.years, held.to_map(), held.to_second_map(), records)
+        refusal, length, buffer = writing.write(draft, FILL * room)
+        return self.ask(('write', self.name_of(records), room), refusal, length, map_sum(buffer))
+
+    # ---- Tables ----
+
+    def open(self, code, date):
+        name = code.ljust(4) if len(code) <= 4 else b'    '
+        refusal, held, entered, left = table.open_table(self.file, name, date)
+        self.table = self.table if refusal else held
+        return self.ask(('open', code.decode('ascii'), date), refusal, entered, left)
+
+    def move(self, name, day):
+        refusal, self.table, entered, left = getattr(table, name)(self.table, day)
+        return self.ask((name, day), refusal, entered, left)
+
+    def measure(self, p, q, price):
+        refusal, self.table, after = table.measure(self.table, p, q, price)
+        return self.ask(('measure', p, q, price), refusal, after)
+
+    # A call of a history, by its letter.
+    def call(self, letter, *numbers):
+        return self.measure(*numbers) if letter == 'Z' else self.move(CALLS[letter], *numbers)
+
+    # The whole table, and how many places stand before the first without a number.
+    def show(self):
+        now = self.table
+        item = now.product
+        numbers = [place[3] for place in now.places]
+        self.say('table')
+        self.answers.append(words_of(
+            (item.id + item.group + item.market + item.currency).hex(), item.kind, item.size, item.tick,
+            now.calendar.first_year, now.calendar.years, *calendar_sums(now.calendar), now.date, now.given,
+            *(number for place in now.places for number in place), [*numbers, 0].index(0)))
+
+    def last(self, key):
+        return self.ask(('last', key), *table.last_trading_day(self.table, key))
+
+    def due(self, day):
+        return self.ask(('due', day), *table.due(self.table, day))
+
+    def tick(self, price):
+        return self.ask(('tick', price), table.tick(self.table, price))
+
+    def cash(self, *numbers):
+        return self.ask(('cash', *numbers), *table.cash(self.table, *numbers))
+
+    def judge(self, numbers):
+        refusal, same, key = vendor.judge(self.table, numbers)
+        self.seen.add(('verdict', same, key == 0))
+        return self.ask(('judge', *numbers), refusal, same, key)
+
+    # A larger size than a record holds has no record in the papers.
+    def record(self):
+        if self.table.product.size <= product.SIZE_AT_MOST:
+            self.say('record')
+            self.answers.append(master.record_of(self.table.product).hex())
+
+    def keep(self):
+        self.kept = self.table
+        self.say('keep')
+
+    def restore(self):
+        self.table = self.kept
+        self.say('restore')
+
+    def damage(self, field, place, value):
+        self.table = damage(self.table, field, place, value)
+        self.say('set', FIELDS[field], place, value)
+
+    def take_calendar(self):
+        self.calendar = self.table.calendar
+        self.say('calendar')
+
+    # ---- The round ----
+
+    # A queue of any count and numbers.
+    def numbers(self, count, places):
+        self.places, self.count = placed(list(places)), count
+        self.say('numbers', count, *places)
+
+    def empty(self):
+        self.places, self.count = placed([]), 0
+        self.say('queue')
+
+    def keep_queue(self, refusal, queue):
+        if refusal == 0:
+            self.places, self.count = placed(queue), len(queue)
+
+    def join(self, number):
+        self.join_or_leave('join', number)
+
+    def leave(self, number):
+        self.join_or_leave('leave', number)
+
+    def handle(self, b):
+        refusal, taken, queue = rounds.handle(listed(self.places, self.count), b)
+        self.keep_queue(refusal, queue)
+        self.ask(('handle', b), refusal, queue_words(placed(taken), len(taken)))
+
+    def join_or_leave(self, name, number):
+        refusal, queue = getattr(rounds, name)(listed(self.places, self.count), number)
+        self.keep_queue(refusal, queue)
+        self.ask((name, number), refusal)
+
+    def show_round(self):
+        self.say('round')
+        self.answers.append(queue_words(self.places, self.count))
+
+
+# ---- Parts of a script ----
+
+# The days at the ends, any days, and dates that are none.
+def some_days(script):
+    chance = script.chance
+    for day in (0, 59, 60, dates.DAYS - 1, dates.DAYS, 65535, *(chance.below(40000) for _ in range(6))):
+        script.date(day)
+    for date in ((2000, 1, 1), (2000, 2, 29), (2099, 12, 31), (2100, 1, 1), (1999, 12, 31), (2008, 13, 1), (0, 0, 0),
+                 (65535, 65535, 65535)):
+        script.day(*date)
+    for _ in range(6):
+        script.day(2000 + chance.below(101), chance.below(14), chance.below(33))
+
+
+# An accepted file, one with one or two faults, or one with some bytes changed.
+def some_file(chance):
+    layout = files.some_layout(chance, chance.choice((2, 3, 5, 9, 20)))
+    faults = chance.choice(((), (), *((number,) for number in files.FAULTS), *((number,) for number in files.FAULTS),
+                            (5, 7), (2, 8), (4, 6)))
+    file = files.faulty(chance, layout, faults)
+    if file and chance.below(6) == 0:
+        file = bytearray(file)
+        for _ in range(3):
+            file[chance.below(len(file))] ^= 1 << chance.below(8)
+        file = bytes(file)
+    return layout, file
+
+
+# The blocks of a file handed over, now and then one that is no block or one too many,
+# and the answer asked for too early.
+def some_blocks(script):
+    chance = script.chance
+    blocks = len(script.file) // master.BLOCK
+    script.announce(chance.choice((0, 1, 129, 65535)))
+    if script.announce(blocks):
+        return
+    for k in range(blocks):
+        if chance.below(6) == 0:
+            script.take(master.BLOCK * k, chance.choice((0, 1, 511)))
+            script.finish()
+        script.take(master.BLOCK * k, master.BLOCK)
+    script.finish()
+    script.take(0, master.BLOCK)
+    script.finish()
+
+
+# Files of every sort, loaded whole and by blocks, and opens of some of their products.
+def some_files(script):
+    chance = script.chance
+    for _ in range(8):
+        layout, file = some_file(chance)
+        script.use(file)
+        script.load()
+        some_blocks(script)
+        first, last = trading.first_day(layout.calendar), trading.last_day(layout.calendar)
+        codes = [one.id.rstrip() for one in layout.products]
+        for code in (chance.choice(codes), chance.choice(codes), chance.choice((b'NONE', b'AX', b'TOOLONG'))):
+            script.open(code, chance.choice((first, first + 7, chance.randint(first, last), last, last + 1)))
+            script.show()
+
+
+# A file of every kind of product, of which histories are told.
+def file_of_histories(chance):
+    years = chance.choice(COVERS)
+    last = dates.LAST_YEAR + 1 - years
+    made = chance.choice((clustered, clustered_weekly))
+    calendar = made(chance, chance.choice((2000, 2008, last, chance.randint(2000, last))), years)
+    second = chance.sample(sorted(calendar.closed), len(calendar.closed) // 2)
+    calendar = Calendar(calendar.first_year, years, calendar.closed, frozenset(second))
+    items = by_id(*ITEMS, *FRACTIONS)
+    return calendar, items, master.build(calendar, items)
+
+
+# What tables/moments.py asks of a book.
+def book_of(now):
+    return SimpleNamespace(kind=now.product.kind, group=now.product.group, size=now.product.size,
+                           calendar=now.calendar, date=now.date, maturities=table.maturities(now), given=now.given)
+
+
+# The calls that only read a table.
+def some_values(script):
+    chance, book = script.chance, book_of(script.table)
+    script.last(moments.some_key(chance, book))
+    script.due(moments.some_due_day(chance, book))
+    script.tick(chance.choice((chance.choice(moments.PRICES), 100 * chance.below(9_999_999))))
+    script.cash(*(chance.choice(kind) for kind in (moments.CONTRACTS, moments.PRICES, moments.FINALS)))
+    script.cash(1 + chance.below(100_000), 100 * (1 + chance.below(9_999_999)), chance.below(1_000_000_000))
+    script.judge([min(number, 65535) for number in numbers_of(chance, script.table)])
+
+
+# An open that is accepted, where the file's first days admit one.
+def opened(script, calendar, items):
+    chance = script.chance
+    first, last = trading.first_day(calendar), trading.last_day(calendar)
+    for _ in range(40):
+        item, date = chance.choice(items), chance.randint(first, chance.choice((first + 60, last)))
+        if script.open(item.id.rstrip(), date) == 0:
+            script.show()
+            return True
+    return False
+
+
+# A history: rolls, closes, reopenings and measures that fit the moment, values between.
+def some_history(script, calendar, items, length):
+    if not opened(script, calendar, items):
+        return
+    script.record()
+    for _ in range(length):
+        choose = script.chance.choice((moments.some_calls, moments.some_calls_and_reopenings,
+                                       moments.some_calls_and_measures))
+        for call in choose(script.chance, book_of(script.table)):
+            script.call(*call)
+            script.show()
+        some_values(script)
+
+
+# The last date on which a product's listing is in the cover; None where there is none.
+def last_date(calendar, item):
+    def fits(date):
+        return listing.listing_in_cover(calendar, item.group, item.kind, date)
+    first, last = trading.first_day(calendar) + 7, trading.last_day(calendar)
+    if not fits(first):
+        return None
+    while first < last:
+        middle = (first + last + 1) // 2
+        first, last = (middle, last) if fits(middle) else (first, middle - 1)
+    return first
+
+
+# The front maturity pushed out at the cover's end, where none can enter (16), and rolls there.
+def some_end(script, calendar, items):
+    item = script.chance.choice(items)
+    end = last_date(calendar, item)
+    if end is None or script.open(item.id.rstrip(), max(end - 20, trading.first_day(calendar) + 7)):
+        return
+    for call in (*moments.push_calls(book_of(script.table)), ('R', end), ('R', end + 1), ('R', end + 400)):
+        script.call(*call)
+        script.show()
+
+
+# Fields of a sound table changed, each that fits its C type.
+def some_changes(script):
+    now = script.table
+    changes = [*damages.damages_of(now), *damages.harmless_changes(now), (KIND, 0, 6), (KIND, 0, 255)]
+    if now.calendar.exchange and now.calendar.closed - now.calendar.exchange:
+        changes += [*damages.second_map_damages(now), *damages.harmless_second_maps(now)]
+    fitting = [change for change in changes if change[2] >= 0 and (change[0] == SIZE or change[2] <= 65535)]
+    return script.chance.sample(fitting, min(12, len(fitting)))
+
+
+# Every call, with arguments that the table would accept as it was.
+def every_call(script, now):
+    script.show()
+    for name, day in (('roll', now.date), ('close', now.places[0][1]), ('reopen', damages.day_to_reopen(now))):
+        script.move(name, day)
+    script.measure(3, 2, 123400)
+    script.show()
+    script.last(now.places[0][0])
+    script.due(now.date)
+    script.tick(100)
+    script.cash(3, 123400, 125000)
+    script.judge([number for place in table.maturities(now) for number in place[:2]])
+    script.record()
+
+
+# Every call on tables that no call gave back.
+def some_damages(script, calendar, items):
+    if not opened(script, calendar, items):
+        return
+    script.keep()
+    now = script.table
+    for change in some_changes(script):
+        script.restore()
+        script.damage(*change)
+        every_call(script, now)
+    script.restore()
+    script.show()
+
+
+def some_histories(script):
+    calendar, items, file = file_of_histories(script.chance)
+    script.use(file)
+    for _ in range(3):
+        some_history(script, calendar, items, 8)
+        some_end(script, calendar, items)
+    for _ in range(2):
+        some_damages(script, calendar, items)
+
+
+# Records of products, in order or not, with a byte changed or cut short.
+def some_records(chance):
+    items = chance.sample(files.all_products(), chance.choice((0, 1, 14, 15, 16, 40)))
+    if chance.below(8):
+        items = by_id(*items)
+    records = bytearray(b''.join(map(master.record_of, items)))
+    if records and chance.below(4) == 0:
+        records[chance.below(len(records))] ^= 1 << chance.below(8)
+    if records and chance.below(8) == 0:
+        records = records[:-1 - chance.below(31)]
+    return bytes(records)
+
+
+# Made-up calendars, and files written from them and from the calendars of tables.
+def some_writings(script):
+    chance = script.chance
+    for _ in range(6):
+        years = chance.choice((1, 2, 16, 1, 0, 17))
+        first_year = chance.choice((2000, 2008, 2099 - years, 2100 - years, 2101 - years, 1999))
+        script.make(chance.below(2**32), first_year, years)
+        records = some_records(chance)
+        length = master.BLOCK * (script.calendar.years + -(-len(records) // 480))
+        for room in (length, max(0, length - 1), chance.choice((0, length + 7))):
+            script.write(records, room)
+    script.keep()
+    now = script.table
+    changes = [*damages.calendar_damages(now), (FIRST_YEAR, 0, 2008), (YEARS, 0, 3)] if now.places[1][3] else []
+    for change in chance.sample(changes, min(8, len(changes))):
+        script.restore()
+        script.damage(*change)
+        script.take_calendar()
+        script.write(some_records(chance), 65536)
+
+
+# Joinings, leavings and calls of the round, and queues that no call gave back.
+def some_rounds(script):
+    chance = script.chance
+    script.empty()
+    for _ in range(60):
+        number = chance.choice((chance.below(200), chance.below(6), chance.below(6), 200, 65535))
+        chance.choice((script.join, script.join, script.leave, script.handle))(number)
+        script.show_round()
+    for count, places in ((200, range(200)), (200, [*range(199), 0]), (201, range(200)), (65535, []),
+                          (2, (5, 5)), (2, (5, 200)), (3, (1, 2, 3, 3)), (1, (7, 65535))):
+        script.numbers(count, places)
+        for call in (script.handle, script.join, script.leave):
+            call(chance.choice((1, 7, 199)))
+            script.show_round()
+
+
+PARTS = (some_days, some_files, some_histories, some_writings, some_rounds)
+
+# What the scripts of a set must have: every refusal of every call.
+ANSWERS = {
+    'day': (0, 23), 'date': (0, 23), 'load': range(9), 'open': (*range(10), 11, 16, 24), 'roll': (0, 10, 11, 12, 16),
+    'close': (0, 10, 11, 13, 14, 15, 16), 'reopen': (0, 10, 11, 13, 26, 27), 'measure': (0, 10, 19, 21, 28, 29),
+    'last': (0, 10, 18), 'due': (0, 10, 11, 17), 'tick': (0, 10, 19, 20), 'cash': (0, 10, 19, 20, 21, 22),
+    'judge': (0, 10), 'announce': (0, 1), 'take': (0, 1), 'finish': range(9), 'make': (0, 4),
+    'write': (0, *range(3, 9), 25), 'handle': (0, 10, 30), 'join': (0, 10, 30, 31), 'leave': (0, 10, 30, 31),
+}
+WANTED = frozenset((name, number) for name, numbers in ANSWERS.items() for number in numbers)
+
+
+# A script of a seed: every part of it.
+def script_of(seed):
+    script = Script(f'calls {seed}')
+    script.interface()
+    for part in PARTS:
+        part(script)
+    return script
+
+
+# Writes a script's files into a folder.
+def put(script, folder):
+    for name, data in script.files.items():
+        write(os.path.join(folder, name), data)
+    for name, lines in (('script', script.lines), ('expected', script.answers)):
+        write(os.path.join(folder, name), ''.join(f'{line}\n' for line in lines).encode())
+
+
+def main(arguments):
+    seed, folder = arguments
+    os.makedirs(folder)
+    put(script_of(seed), folder)
+    return 0
+
+
+if __name__ == '__main__':
+    sys.exit(main(sys.argv[1:]))

@@ -1,0 +1,508 @@
+"""Tests of the calls for C, Rust and Python: python3 tests/test_bindings.py
+
+They are installed in a folder of their own by the lines of the README, which needs rt
+and a C compiler (cc); the programs of bindings/ are built over them and compared with
+the second program. What has no tool on the machine (cc, c++, cargo, pkg-config,
+valgrind) is left out, and a line says so.
+
+--seed N repeats the scripts and sessions of a run; without it they are others each time.
+"""
+
+import argparse
+import os
+import re
+import resource
+import shutil
+import subprocess
+import sys
+import tempfile
+import unittest
+from functools import lru_cache
+from itertools import islice
+
+TESTS = os.path.dirname(os.path.abspath(__file__))
+sys.path.insert(0, TESTS)
+
+import calls  # noqa: E402
+import sessions  # noqa: E402
+from runs.case import WHOLE, Chance  # noqa: E402
+from second import terms  # noqa: E402
+
+ROOT = os.path.dirname(TESTS)
+BINDINGS = os.path.join(ROOT, 'bindings')
+EXAMPLES = os.path.join(ROOT, 'examples')
+HEADER = os.path.join('include', 'scullpouch.h')
+CRATE = (ROOT, 'crates', 'scullpouch', 'src', 'lib.rt')
+FIXED_SCRIPTS, SCRIPTS, CHECKED_SCRIPTS, SESSIONS = 10, 4, 4, 20
+SECONDS = 120
+STACK = 65536
+PREFIX_LINE = 'prefix=$HOME/scullpouch'
+WARNINGS = ('-std=c11', '-Wall', '-Wextra', '-Wpedantic', '-Werror')
+SANITIZERS = ('-g', '-fsanitize=address,undefined', '-fno-sanitize-recover=all')
+TOOLS = {'c++': 'the header in C++', 'cargo': 'the crate for Rust', 'pkg-config': "the README's programs",
+         'valgrind': 'reads past the lent bytes in the library itself'}
+
+
+def read(*path):
+    with open(os.path.join(*path), encoding='utf-8') as file:
+        return file.read()
+
+
+# Runs a command, which must succeed: what it printed.
+def run(*command, **ways):
+    ran = subprocess.run(command, stdout=subprocess.PIPE, stderr=subprocess.PIPE, timeout=10 * SECONDS, **ways)
+    if ran.returncode != 0:
+        raise AssertionError(f'{command}: status {ran.returncode}\n{ran.stdout.decode()}{ran.stderr.decode()}')
+    return ran.stdout
+
+
+# Whether the C compiler has the sanitizers.
+@lru_cache(maxsize=1)
+def has_sanitizers():
+    with tempfile.TemporaryDirectory() as folder:
+        tried = subprocess.run(['cc', *SANITIZERS, '-x', 'c', '-', '-o', os.path.join(folder, 'tried')],
+                               input=b'int main(void) { return 0; }\n', stderr=subprocess.DEVNULL)
+    return tried.returncode == 0
+
+
+# ---- The README's section ----
+
+def section():
+    text = read(ROOT, 'README.md')
+    start = text.index('## From C, Rust and Python\n')
+    return text[start:text.index('\n## ', start)]
+
+
+# The fenced parts of a language, in order.
+def fenced(language):
+    return re.findall(rf'^```{language}\n(.*?)^```$', section(), re.M | re.S)
+
+
+# ---- What is built, once for all tests ----
+
+class Built:
+    """A folder with the installed library and the programs over it. copies: folders that stand in for parts of
+    bindings/, by name."""
+
+    def __init__(self, prefix=None, **copies):
+        self.folder = tempfile.mkdtemp(prefix='bindings-')
+        self.prefix = prefix or os.path.join(self.folder, 'prefix')
+        self.copies = copies
+
+    def __enter__(self):
+        return self
+
+    def __exit__(self, *_):
+        shutil.rmtree(self.folder)
+
+    def path(self, *names):
+        return os.path.join(self.folder, *names)
+
+    # A folder of bindings/, or its copy.
+    def source(self, name):
+        return self.copies.get(name, os.path.join(BINDINGS, name))
+
+    @property
+    def library(self):
+        return os.path.join(self.prefix, 'lib', 'libscullpouch.a')
+
+    # The environment in which the programs are built and run.
+    @property
+    def environment(self):
+        return {**os.environ, 'SCULLPOUCH_LIB': os.path.join(self.prefix, 'lib'),
+                'SCULLPOUCH': os.path.join(self.prefix, 'lib', 'libscullpouch.so.1'),
+                'CARGO_TARGET_DIR': self.path('cargo'), 'PYTHONDONTWRITEBYTECODE': '1'}
+
+    # The README's first lines, with this folder for the one in the reader's home.
+    def install(self):
+        lines = fenced('sh')[0]
+        assert PREFIX_LINE in lines
+        run('bash', '-euc', lines.replace(PREFIX_LINE, f'prefix={self.prefix}'), cwd=ROOT)
+
+    # A program in C: its path.
+    def c(self, name, *flags):
+        out = self.path(f'{name}_{len(flags)}')
+        run('cc', *WARNINGS, '-O1', *flags, f'-I{self.source("include")}', os.path.join(BINDINGS, 'c', f'{name}.c'),
+            self.library, '-o', out)
+        return out
+
+    # The programs in Rust: their paths by name.
+    def rust(self, *names, release=False):
+        words = [*(word for name in names for word in ('--example', name)), *(['--release'] if release else [])]
+        run('cargo', 'build', '--offline', '--locked', '--quiet', *words, cwd=self.source('rust'), env=self.environment)
+        return {name: self.path('cargo', 'release' if release else 'debug', 'examples', name) for name in names}
+
+    def python(self, name):
+        return os.path.join(self.source('python'), f'{name}.py')
+
+
+BUILT = None
+SEED = None
+PROGRAMS = {}  # by language: the programs calls and session
+
+
+def setUpModule():
+    global BUILT
+    BUILT = Built()
+    BUILT.install()
+    PROGRAMS['C'] = {name: [BUILT.c(name)] for name in ('calls', 'session')}
+    PROGRAMS['Python'] = {name: [sys.executable, BUILT.python(name)] for name in ('calls', 'session')}
+    if shutil.which('cargo'):
+        PROGRAMS['Rust'] = {name: [path] for name, path in BUILT.rust('calls', 'session').items()}
+
+
+def tearDownModule():
+    shutil.rmtree(BUILT.folder)
+
+
+# What a program prints on an input in a folder; where its status is not 0, that and what it said last.
+def printed(command, folder, data, **ways):
+    ran = subprocess.run(command, cwd=folder, input=data, stdout=subprocess.PIPE, stderr=subprocess.PIPE,
+                         timeout=SECONDS, **{'env': BUILT.environment, **ways})
+    said = ran.stderr.strip().split(b'\n')[-1]
+    return ran.stdout + (b'status %d: %s\n' % (ran.returncode, said) if ran.returncode else b'')
+
+
+# The first line that differs, with the line of the script that asked for it; '' where none does.
+def difference(script, command, **ways):
+    with tempfile.TemporaryDirectory() as folder:
+        calls.put(script, folder)
+        found = printed(command, folder, '\n'.join([*script.lines, '']).encode(), **ways)
+    lines = found.decode(errors='replace').split('\n')
+    asked = [line for line in script.lines if line.split()[0] not in calls.SILENT]
+    for number, expected in enumerate([*script.answers, '']):
+        other = lines[number] if number < len(lines) else 'nothing'
+        if other != expected or number >= len(asked) and len(lines) > number + 1:
+            line = asked[number] if number < len(asked) else 'the end'
+            return f'{line!r}: the second program says {expected!r}, the program {other!r}'
+    return ''
+
+
+# ---- Comparisons ----
+
+# A script that several tests ask for.
+kept_script = lru_cache(maxsize=None)(calls.script_of)
+
+
+# The seeds of this run's scripts.
+def some_seeds(count):
+    return [f'{SEED} {number}' for number in range(count)]
+
+
+# Runs of every family of sessions.py whose input comes at once.
+def some_sessions():
+    makers = list(enumerate(islice(sessions.makers(), sessions.COUNT)))[::sessions.COUNT // SESSIONS]
+    chosen = [maker(Chance(f'{SEED} {number}')) for number, maker in makers]
+    return [case for case in chosen if case.feed == WHOLE]
+
+
+class Same(unittest.TestCase):
+
+    # The stored session, byte for byte as `terms` prints it.
+    def test_session(self):
+        commands, expected = (read(EXAMPLES, name).encode() for name in ('session.txt', 'session.out'))
+        for language, programs in PROGRAMS.items():
+            self.assertEqual(printed(programs['session'], EXAMPLES, commands), expected, language)
+
+    # Sessions of other files and commands, as `terms` is asked them.
+    def test_sessions(self):
+        for case in some_sessions():
+            with tempfile.TemporaryDirectory() as folder:
+                sessions.put(case, folder)
+                expected = terms.answers(terms.read_master(os.path.join(folder, 'master.bin')), case.commands)
+                for language, programs in PROGRAMS.items():
+                    self.assertEqual(printed(programs['session'], folder, case.commands), expected,
+                                     f'{language}, {case.name}, --seed {SEED}')
+
+    # Scripts of every call, on sound tables and others: some that are the same each time and have every refusal, and
+    # others.
+    def test_calls(self):
+        seen = set()
+        for seed in (*(f'fixed {number}' for number in range(FIXED_SCRIPTS)), *some_seeds(SCRIPTS)):
+            script = kept_script(seed)
+            seen |= script.seen if seed.startswith('fixed') else set()
+            for language, programs in PROGRAMS.items():
+                self.assertEqual(difference(script, programs['calls']), '', f'{language}, script {seed}')
+        self.assertEqual(sorted(calls.WANTED - seen), [])
+
+    # The same under the sanitizers of addresses and of undefined behaviour.
+    def test_sanitizers(self):
+        if not has_sanitizers():
+            self.skipTest('no sanitizers')
+        program, session = (BUILT.c(name, *SANITIZERS) for name in ('calls', 'session'))
+        for seed in some_seeds(CHECKED_SCRIPTS):
+            self.assertEqual(difference(kept_script(seed), [program]), '', f'script {seed}')
+        commands, expected = (read(EXAMPLES, name).encode() for name in ('session.txt', 'session.out'))
+        self.assertEqual(printed([session], EXAMPLES, commands), expected)
+
+    # "64 KB of stack are enough for every call", and here for the program around them.
+    def test_stack(self):
+        def limit():
+            resource.setrlimit(resource.RLIMIT_STACK, (STACK, STACK))
+
+        for seed in some_seeds(1):
+            self.assertEqual(difference(kept_script(seed), PROGRAMS['C']['calls'], env={}, preexec_fn=limit), '',
+                             f'script {seed}')
+
+    # The sanitizers do not see what the library itself reads and writes; valgrind does.
+    @unittest.skipUnless(shutil.which('valgrind'), 'no valgrind')
+    def test_valgrind(self):
+        checked = ['valgrind', '--quiet', '--error-exitcode=9', '--leak-check=full', *PROGRAMS['C']['calls']]
+        for seed in some_seeds(1):
+            self.assertEqual(difference(kept_script(seed), checked), '', f'script {seed}')
+
+
+# ---- Words, layouts, names ----
+
+# The questions of docs/REFUSALS.md by number.
+def questions():
+    rows = re.findall(r'^\| (\d+) \| (.*?) \|', read(ROOT, 'docs', 'REFUSALS.md'), re.M)
+    return {int(number): question for number, question in rows}
+
+
+class Words(unittest.TestCase):
+
+    def test_questions(self):
+        asked, known = range(256), questions()
+        self.assertGreater(len(known), 25)
+        data = ''.join(f'question {number}\n' for number in asked).encode()
+        expected = ''.join(f'{known.get(number, "")}\n' for number in asked)
+        for language, programs in PROGRAMS.items():
+            self.assertEqual(printed(programs['calls'], ROOT, data).decode(), expected, language)
+
+
+# Structs of the crates whose name in C is another.
+NAMES = {'FlatProduct': 'product', 'FlatTable': 'table', 'FlatOutcome': 'outcome', 'FlatMeasured': 'measured',
+         'FlatRecord': 'record_bytes', 'VerdictReply': 'verdict', 'WrittenFile': 'written', 'Queue': 'round'}
+NUMBERS = {'u8': 1, 'bool': 1, 'u16': 2, 'u32': 4, 'u64': 8, 'usize': 8}
+
+
+def snake(name):
+    return NAMES.get(name, re.sub('(?<!^)([A-Z])', r'_\1', name).lower())
+
+
+# The fields, name and type, of every #[repr(C)] struct of the crates.
+def structs():
+    found = {}
+    for folder in sorted(os.listdir(os.path.join(ROOT, 'crates'))):
+        path = os.path.join(ROOT, 'crates', folder, 'src', 'lib.rt')
+        text = read(path) if os.path.exists(path) else ''
+        for name, body in re.findall(r'^#\[repr\(C\)\]\npub struct (\w+) \{\n(.*?)^\}', text, re.M | re.S):
+            found[name] = re.findall(r'^    pub (\w+): (.+),$', body, re.M)
+    return found
+
+
+# The size and the alignment of a type by C's rules.
+def size_of(kind, known):
+    array = re.fullmatch(r'\[(\w+); (\d+)\]', kind)
+    if array:
+        size, alignment = size_of(array[1], known)
+        return size * int(array[2]), alignment
+    if kind in NUMBERS:
+        return NUMBERS[kind], NUMBERS[kind]
+    size, alignment, _ = layout_of(kind, known)
+    return size, alignment
+
+
+# The size, the alignment and the offsets of a struct.
+def layout_of(name, known):
+    end, widest, offsets = 0, 1, {}
+    for field, kind in known[name]:
+        size, alignment = size_of(kind, known)
+        offsets[field] = -(-end // alignment) * alignment
+        end, widest = offsets[field] + size, max(widest, alignment)
+    return -(-end // widest) * widest, widest, offsets
+
+
+# The layouts that the header, the crate for Rust and the module for Python assert.
+def header_layouts():
+    text = read(BINDINGS, HEADER)
+    layouts = {name: (int(size), {}) for name, size in re.findall(r'SCULLPOUCH_SIZE\((\w+), (\d+)\);', text)}
+    for name, field, offset in re.findall(r'SCULLPOUCH_AT\((\w+), (\w+), (\d+)\);', text):
+        layouts[name][1][field] = int(offset)
+    return layouts
+
+
+def rust_layouts():
+    text = read(BINDINGS, 'rust', 'src', 'layout.rs')
+    return {snake(name): (int(size), {field: int(offset) for field, offset in re.findall(r'(\w+) (\d+)', fields)})
+            for name, size, fields in re.findall(r'^layout!\((\w+), (\d+), (.*?)\);', text, re.M | re.S)}
+
+
+def python_layouts():
+    text = read(BINDINGS, 'python', 'scullpouch.py')
+    rows = re.findall(r'^    _(\w+): \((\d+), dict\((.*?)\)\),$', text, re.M | re.S)
+    return {snake(name): (int(size), {field: int(offset) for field, offset in re.findall(r'(\w+)=(\d+)', fields)})
+            for name, size, fields in rows}
+
+
+class Interface(unittest.TestCase):
+
+    # Every struct that the crates export, with every field, in each language.
+    def test_layouts(self):
+        known = structs()
+        expected = {snake(name): layout_of(name, known)[::2] for name in known}
+        self.assertGreater(len(expected), 20)
+        for layouts in (header_layouts(), rust_layouts(), python_layouts()):
+            self.assertEqual(layouts, expected)
+
+    # The functions that the crate exports are those of the header, of Rust, of Python and of the shared object.
+    def test_names(self):
+        exported = set(re.findall(r'^pub extern "C" fn scullpouch_(\w+)\(', read(*CRATE), re.M))
+        self.assertGreater(len(exported), 20)
+        header = re.findall(r'^\w+ scullpouch_(\w+)\([^{]*?\);', read(BINDINGS, HEADER), re.M)
+        rust = re.findall(r'pub fn scullpouch_(\w+)\(', read(BINDINGS, 'rust', 'src', 'calls.rs'))
+        signatures = read(BINDINGS, 'python', 'scullpouch.py').split('_SIGNATURES = {')[1].split('\n}')[0]
+        python = re.findall(r"^    '(\w+)': \(", signatures, re.M)
+        for names in (header, rust, python):
+            self.assertEqual(sorted(names), sorted(exported))
+        self.assertEqual(self.symbols('--defined-only'), {f'scullpouch_{name}' for name in exported})
+
+    # Names of the shared object.
+    def symbols(self, which):
+        lines = run('nm', '--dynamic', which, BUILT.environment['SCULLPOUCH']).decode().splitlines()
+        return {line.split()[-1].split('@')[0] for line in lines}
+
+    # No call keeps or allocates anything: the library calls nothing that could, and has no data of its own.
+    def test_nothing_kept(self):
+        self.assertLessEqual({name for name in self.symbols('--undefined-only') if name.startswith('mem')},
+                             {'memcpy', 'memset', 'memmove', 'memcmp'})
+        others = {name for name in self.symbols('--undefined-only') if not name.startswith(('mem', '_'))}
+        self.assertEqual(others, set())
+        _, data, bss, *_ = map(int, re.findall(r'\d+', run('size', '-t', BUILT.library).decode().splitlines()[-1]))
+        self.assertEqual((data, bss), (0, 0))
+
+    def test_versions(self):
+        version = re.search(r'^Version: (.*)$', read(BINDINGS, 'scullpouch.pc.in'), re.M)[1]
+        self.assertIn(f'\nversion = "{version}"\n', read(BINDINGS, 'rust', 'Cargo.toml'))
+        major = version.split('.')[0]
+        self.assertIn(f'#define SCULLPOUCH_INTERFACE {major} ', read(BINDINGS, HEADER))
+        self.assertIn(f'\nINTERFACE = {major}\n', read(BINDINGS, 'python', 'scullpouch.py'))
+        self.assertIn(f'soname,libscullpouch.so.{major} ', read(BINDINGS, 'install'))
+        self.assertIn(f'    {major}\n', read(*CRATE).split('scullpouch_interface')[1])
+
+    # `unsafe` stands only at the calls.
+    def test_unsafe(self):
+        for name in os.listdir(os.path.join(BINDINGS, 'rust', 'src')):
+            text = read(BINDINGS, 'rust', 'src', name)
+            at_calls = re.findall(r'unsafe \{\s*calls::scullpouch_', text)
+            self.assertEqual(len(re.findall(r'\bunsafe\b', text)), len(at_calls), name)
+
+    # The header in older and later C, and in C++.
+    def test_header(self):
+        flags = ('-Wall', '-Wextra', '-Wpedantic', '-Werror', f'-I{os.path.join(BINDINGS, "include")}', '-fsyntax-only')
+        for standard in ('c99', 'c11'):
+            run('cc', f'-std={standard}', *flags, '-x', 'c', '-', input=b'#include <scullpouch.h>\n')
+        if shutil.which('c++'):
+            for standard in ('c++11', 'c++17'):
+                run('c++', f'-std={standard}', *flags, '-x', 'c++', '-', input=b'#include <scullpouch.h>\n')
+
+
+# ---- Planted faults ----
+
+# The part of bindings/, a file of it, what stands there and what stands there instead.
+LAYOUT_FAULTS = (
+    ('include', 'scullpouch.h', '    uint16_t date;\n    uint16_t given;', '    uint16_t given;\n    uint16_t date;'),
+    ('rust', 'src/lib.rs', '    pub date: Day,\n    pub given: u16,', '    pub given: u16,\n    pub date: Day,'),
+    ('python', 'scullpouch.py', "('entered', c_uint16), ('left', c_uint16)",
+     "('left', c_uint16), ('entered', c_uint16)"),
+)
+FAULTS = (
+    ('include', 'scullpouch.h', '    if (o->refusal != 0) return o->refusal;\n    *table = o->table;',
+     '    *table = o->table;\n    if (o->refusal != 0) return o->refusal;'),
+    ('include', 'scullpouch.h', '= scullpouch_reopen(*table, day);', '= scullpouch_close(*table, day);'),
+    ('rust', 'src/lib.rs', '(!r.same).then_some(r.key)', 'r.same.then_some(r.key)'),
+    ('python', 'scullpouch.py', 'Moved(outcome.entered, outcome.left)', 'Moved(outcome.left, outcome.entered)'),
+    ('python', 'scullpouch.py', 'return None if reply.same else reply.key', 'return None'),
+)
+
+
+class Faults(unittest.TestCase):
+
+    # The bindings with one text of one file exchanged for another.
+    def planted(self, part, name, old, new):
+        copy = tempfile.mkdtemp(prefix='fault-')
+        self.addCleanup(shutil.rmtree, copy)
+        shutil.copytree(os.path.join(BINDINGS, part), os.path.join(copy, part), ignore=shutil.ignore_patterns('target'))
+        path = os.path.join(copy, part, name)
+        text = read(path)
+        self.assertEqual(text.count(old), 1, (name, old))
+        with open(path, 'w', encoding='utf-8') as out:
+            out.write(text.replace(old, new))
+        built = Built(BUILT.prefix, **{part: os.path.join(copy, part)})
+        self.addCleanup(shutil.rmtree, built.folder)
+        return built
+
+    # The program calls of the part's language.
+    def program(self, part, built):
+        if part == 'include':
+            return [built.c('calls')]
+        return [built.rust('calls')['calls']] if part == 'rust' else [sys.executable, built.python('calls')]
+
+    def with_tool(self, faults):
+        return [fault for fault in faults if fault[0] != 'rust' or shutil.which('cargo')]
+
+    # What the first of some scripts finds in the program, or '' where none of them does.
+    def found(self, program, built):
+        scripts = (kept_script(f'fixed {number}') for number in range(FIXED_SCRIPTS))
+        return next(filter(None, (difference(script, program, env=built.environment) for script in scripts)), '')
+
+    # Two fields exchanged: the program is not built, or does not start.
+    def test_layouts(self):
+        for fault in self.with_tool(LAYOUT_FAULTS):
+            built = self.planted(*fault)
+            with self.subTest(fault=fault[:3]), self.assertRaisesRegex(AssertionError, 'layout'):
+                self.assertEqual(self.found(self.program(fault[0], built), built), '')
+
+    # Another wrong line: the comparison finds it.
+    def test_comparisons(self):
+        for fault in self.with_tool(FAULTS):
+            built = self.planted(*fault)
+            with self.subTest(fault=fault[:3]):
+                self.assertIn('the second program says', self.found(self.program(fault[0], built), built))
+
+
+# ---- The README's programs ----
+
+@unittest.skipUnless(shutil.which('pkg-config'), 'no pkg-config')
+class Readme(unittest.TestCase):
+
+    # They print what the README says, run by its lines in a folder with the example file.
+    def test_programs(self):
+        install, *lines = fenced('sh')
+        [expected] = fenced('text')
+        parts = dict(zip(('c', 'rust', 'python'), lines, strict=True))
+        with tempfile.TemporaryDirectory() as folder:
+            shutil.copy(os.path.join(EXAMPLES, 'master.bin'), folder)
+            for language, ending in (('c', 'c'), ('rust', 'rs'), ('python', 'py')):
+                with open(os.path.join(folder, f'roll.{ending}'), 'w') as out:
+                    out.write(fenced(language)[0])
+            for language, part in parts.items():
+                if language == 'rust' and not shutil.which('cargo'):
+                    continue
+                exports = install.replace(PREFIX_LINE, f'prefix={BUILT.prefix}').replace('bindings/install', 'true')
+                environment = {**os.environ, 'CARGO_TARGET_DIR': BUILT.path('cargo')}
+                found = run('bash', '-euc', exports + part, cwd=folder, env=environment)
+                self.assertEqual(found.decode(), expected, language)
+
+
+def main(arguments):
+    global SEED
+    parser = argparse.ArgumentParser(description=__doc__, formatter_class=argparse.RawDescriptionHelpFormatter)
+    parser.add_argument('--seed', type=int, default=int.from_bytes(os.urandom(4), 'big'))
+    asked, rest = parser.parse_known_args(arguments)
+    SEED = asked.seed
+    if not shutil.which('cc'):
+        print('bindings: no C compiler (cc), so the calls for C, Rust and Python are left out')
+        return 0
+    for tool, part in TOOLS.items():
+        if not shutil.which(tool):
+            print(f'bindings: no {tool}, so {part} is left out')
+    if not has_sanitizers():
+        print('bindings: cc has no sanitizers, so the runs under them are left out')
+    print(f'bindings: seed {SEED}', flush=True)
+    unittest.main(argv=[__file__, *rest])
+
+
+if __name__ == '__main__':
+    sys.exit(main(sys.argv[1:]))
