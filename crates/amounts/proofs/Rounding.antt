@@ -9,38 +9,41 @@ use lib.Dec.{leb}
 use borrow.Author.Tests.{leb-true}
 use Rattle.questions.proofs.Bools.{and-fst, and-snd}
 use Rattle.product.specs.Fields.{sizeRight}
-use Rattle.amounts.specs.Prices.{nearest, newSize, newPrice, priceRight, measureRight, Kept}
+use Rattle.amounts.specs.Prices.{nearest, Nearest, newSize, newPrice, priceRight, measureRight, Kept}
 
 doubled : (n b : ℕ) → n * (2 * b) ≡ 2 * (n * b)
 doubled n b = sym (mul-assoc n 2 b) ∙ ap (λ (m : ℕ). m * b) (mul-comm n 2) ∙ mul-assoc 2 n b
 
 module _ (a b : ℕ) where
-  pub nearest-above : 2 * (nearest a b * b) ≤ 2 * a + b
+  -- 'nearest to' a / b, 'halves upward': the definition is such a number, and the only one
+  pub nearest-is : 1 ≤ b → Nearest a b (nearest a b)
   unfolding nearest
-  nearest-above = omega (arith, div-mul-le-self (2 * a + b) (2 * b), doubled ((2 * a + b) / (2 * b)) b)
+  nearest-is h =
+      let n = (2 * a + b) / (2 * b) in
+      record {
+        above = omega (arith, div-mul-le-self (2 * a + b) (2 * b), doubled n b);
+        under = omega (arith, lt-div-mul-add {a = 2 * a + b} {b = 2 * b} (omega arith), doubled n b);
+      }
 
-  pub nearest-under : 1 ≤ b → 2 * a ≤ 2 * (nearest a b * b) + b
+  pub nearest-only : (n : ℕ) → Nearest a b n → nearest a b ≡ n
   unfolding nearest
-  nearest-under h = omega (arith, lt-div-mul-add {a = 2 * a + b} {b = 2 * b} (omega arith), doubled ((2 * a + b) / (2 * b)) b)
+  nearest-only n e =
+      div-eq-of-lt-le (2 * b)
+      (omega (arith, e .above, doubled n b))
+      (omega (arith, e .under, doubled n b, add-mul n 1 (2 * b)))
 
   -- by quotient and remainder: a remainder below one half is left out, one half and above counts as one
   quotient : a / b * b + a % b ≡ a
   quotient = div-add-mod' a b
 
   pub nearest-down : a % b < b - a % b → nearest a b ≡ a / b
-  unfolding nearest
-  nearest-down h =
-      div-eq-of-lt-le (2 * b)
-      (omega (arith, quotient, doubled (a / b) b))
-      (omega (arith, quotient, doubled (a / b) b, add-mul (a / b) 1 (2 * b)))
+  nearest-down h = nearest-only (a / b) (record { above = omega (arith, quotient); under = omega (arith, quotient) })
 
   pub nearest-up : b - a % b ≤ a % b → 1 ≤ b → nearest a b ≡ a / b + 1
-  unfolding nearest
   nearest-up h some =
       let r : a % b < b = mod-lt a some in
-      div-eq-of-lt-le (2 * b)
-      (omega (arith, quotient, doubled (a / b) b, add-mul (a / b) 1 (2 * b)))
-      (omega (arith, quotient, doubled (a / b) b, add-mul (a / b) 2 (2 * b)))
+      nearest-only (a / b + 1)
+      (record { above = omega (arith, quotient, add-mul (a / b) 1 b); under = omega (arith, quotient, add-mul (a / b) 1 b) })
 
   pub next-most : b - a % b ≤ a % b → 1 ≤ b → a / b + 1 ≤ a
   next-most h some =
@@ -54,7 +57,9 @@ nearest-none a b e = rw e (sym (div-zero (2 * a + 0)))
 -- 'differs from the old product by at most half the new size'
 pub value-kept : (price size changed : ℕ) → 1 ≤ changed → Kept price size changed
 unfolding newPrice
-value-kept price size changed h = record { above = nearest-above (price * size) changed; under = nearest-under (price * size) changed h }
+value-kept price size changed h =
+    let n = nearest-is (price * size) changed h in
+    record { above = n .above; under = omega (arith, n .under) }
 
 -- a size in range fits 32 bits
 pub size-bound : (n : ℕ) → sizeRight n ≡ true → n ≤ 655359999

@@ -1,6 +1,6 @@
 -- Prices, ticks, sizes and prices after a measure, and cash (01, Due day, tick, cash; Questions, 19, 20 and 22; 02, note 11; 002, 1.6.2 and 1.6.7).
 -- Assumes nothing.
-use Prim.Native.Nat.{ℕ, _+_, _-_, _*_, _/_, _%_, _≤_}
+use Prim.Native.Nat.{ℕ, _+_, _-_, _*_, _/_, _%_, _≤_, _<_}
 use mathlib.Core.Path.{_≡_}
 use mathlib.Core.Bool.{Bool, true, false, _&&_, cond}
 use lib.Dec.{eqb, leb, ltb}
@@ -27,6 +27,11 @@ contractsRight contracts = leb 1 contracts && leb contracts 100000
 -- the whole number 'nearest to' a / b, 'halves upward' (02, note 11); 0 where b is 0
 unfoldable pub nearest : ℕ → ℕ → ℕ
 nearest a b = (2 * a + b) / (2 * b)
+
+-- what the words say of that number, each side doubled: at most one half above a / b, less than one half below; no other number is so
+pub record Nearest (a b n : ℕ) : Type 0 where
+  pub above : 2 * (n * b) ≤ 2 * a + b
+  pub under : 2 * a < 2 * (n * b) + b
 
 -- 'the size nearest to size × p / q in ten-thousandths, halves upward'
 unfoldable pub newSize : ℕ → ℕ → ℕ → ℕ

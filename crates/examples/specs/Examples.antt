@@ -198,7 +198,7 @@ rows =
     isPositive (cashOf 1 333333 100 101) 33 3333 ∷
     -- 'the sign covering both, zero being positive': of one ten-thousandth, from 0.0001 to 0 a negative amount of 0, rest 1; equal prices a positive 0
     isNegative (cashOf 1 1 1 0) 0 1 ∷ isPositive (cashOf 1 1 100 100) 0 0 ∷
-    -- 100,000 contracts of 65,535.9999 shares over the widest change of price: 6,553,599,976,892,800,020 rest 0
+    -- 100,000 contracts of 65,535.9999 shares, agreed 0.0001, final 99,999.9999: 6,553,599,976,892,800,020 rest 0
     isPositive (cashOf 100000 655359999 1 999999999) 6553599976892800020 0 ∷
     -- 'Price 5 with tick 5 passes, 6 gets 20'
     eqb (tickCall futureTable 5) 0 ∷ eqb (tickCall futureTable 6) 20 ∷
