@@ -16,8 +16,8 @@ from second import dates, generated, intake, listing, master, product, rounds, t
 from second.trading import Calendar
 from tables import damages, moments
 from tables.files import FRACTIONS, by_id, clustered, clustered_weekly
-from tables.script import (BACK, CLOSED, CURRENCY, DATE, DAY, EXCHANGE, FIRST_YEAR, GIVEN, GROUP, ID, KEY, KIND, MARKET,
-                           NUMBER, SIZE, TICK, YEARS, calendar_sums, damage, map_sum)
+from tables.script import (BACK, CALLS, CLOSED, CURRENCY, DATE, DAY, EXCHANGE, FIRST_YEAR, GIVEN, GROUP, ID, KEY, KIND,
+                           MARKET, NUMBER, SIZE, TICK, YEARS, calendar_sums, damage, map_sum)
 from verdicts import numbers_of
 
 COVERS = (1, 2, 3, 5, 16)
@@ -26,7 +26,6 @@ FIELDS = {ID: 'id', GROUP: 'group', MARKET: 'market', KIND: 'kind', SIZE: 'size'
           FIRST_YEAR: 'first_year', YEARS: 'years', CLOSED: 'closed', EXCHANGE: 'exchange', DATE: 'date',
           GIVEN: 'given', KEY: 'key', DAY: 'last', BACK: 'back', NUMBER: 'number'}
 SILENT = ('file', 'set', 'keep', 'restore', 'calendar', 'queue', 'numbers')  # the lines without an answer
-CALLS = {'R': 'roll', 'C': 'close', 'E': 'reopen', 'Z': 'measure'}
 
 
 def words_of(*words):
@@ -72,9 +71,6 @@ class Script:
 
     def interface(self):
         self.ask(('interface',), 1)
-
-    def question(self, number, text):
-        self.ask(('question', number), text)
 
     def day(self, *date):
         self.ask(('day', *date), *dates.date_to_day(*date))
@@ -160,7 +156,8 @@ class Script:
 
     def judge(self, numbers):
         refusal, same, key = vendor.judge(self.table, numbers)
-        self.seen.add(('verdict', same, key == 0))
+        if refusal == 0:
+            self.seen.add(('verdict', same))
         return self.ask(('judge', *numbers), refusal, same, key)
 
     # A larger size than a record holds has no record in the papers.
@@ -462,7 +459,7 @@ def some_rounds(script):
 
 PARTS = (some_days, some_files, some_histories, some_writings, some_rounds)
 
-# What the scripts of a set must have: every refusal of every call.
+# What the scripts of a set must have: every refusal of every call, and both verdicts on a list.
 ANSWERS = {
     'day': (0, 23), 'date': (0, 23), 'load': range(9), 'open': (*range(10), 11, 16, 24), 'roll': (0, 10, 11, 12, 16),
     'close': (0, 10, 11, 13, 14, 15, 16), 'reopen': (0, 10, 11, 13, 26, 27), 'measure': (0, 10, 19, 21, 28, 29),
@@ -470,7 +467,8 @@ ANSWERS = {
     'judge': (0, 10), 'announce': (0, 1), 'take': (0, 1), 'finish': range(9), 'make': (0, 4),
     'write': (0, *range(3, 9), 25), 'handle': (0, 10, 30), 'join': (0, 10, 30, 31), 'leave': (0, 10, 30, 31),
 }
-WANTED = frozenset((name, number) for name, numbers in ANSWERS.items() for number in numbers)
+WANTED = frozenset((name, number) for name, numbers in ANSWERS.items() for number in numbers) | {
+    ('verdict', True), ('verdict', False)}
 
 
 # A script of a seed: every part of it.

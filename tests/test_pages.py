@@ -143,7 +143,7 @@ class PagesInABrowser(unittest.TestCase):
     def test_two_columns_in_print(self):
         self.browser.width(PRINT_WIDTH, 'print')
         self.browser.open(FOLDER / 'days-and-months.html')
-        beside = '''[...document.querySelectorAll('.pair')].every((pair) =>
+        beside = '''document.querySelectorAll('.pair').length > 0 && [...document.querySelectorAll('.pair')].every((pair) =>
           pair.querySelector('.l').getBoundingClientRect().right <= pair.querySelector('.r').getBoundingClientRect().left)'''
         self.assertTrue(self.browser.evaluate(beside))
 

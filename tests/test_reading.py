@@ -197,9 +197,6 @@ class Edition(unittest.TestCase):
             missing = [line for part in definition.parts for line in part.lines if line.strip() not in page]
             self.assertEqual(missing, [], definition.key)
 
-    def test_the_same_pages_each_time(self):
-        self.assertEqual(Press(Book(ROOT)).all(), self.pages)
-
     def test_whole_edition_has_every_page(self):
         whole = Press(self.book).one_file('')
         self.assertEqual(whole.count('<h1>'), len(self.pages))

@@ -1,7 +1,7 @@
 -- Rounding to the nearest, halves upward: by quotient and remainder, and at most half a unit off. What question 29 says of a new size and price.
 -- Assumes nothing.
 use Prim.Native.Nat.{ℕ, _+_, _-_, _*_, _/_, _%_, _≤_, _<_}
-use mathlib.Core.Path.{_≡_, refl, _∙_, sym, ap}
+use mathlib.Core.Path.{_≡_, _∙_, sym, ap}
 use mathlib.Core.Bool.{true, false}
 use native.Mathlib.Nat.{div-mul-le-self, lt-div-mul-add, div-add-mod', div-eq-of-lt-le, div-zero, mod-lt, add-mul, mul-assoc, mul-comm, mul-le-mul, le-refl}
 use native.Mathlib.Omega.{arith}

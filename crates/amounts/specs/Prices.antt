@@ -28,7 +28,7 @@ contractsRight contracts = leb 1 contracts && leb contracts 100000
 unfoldable pub nearest : ℕ → ℕ → ℕ
 nearest a b = (2 * a + b) / (2 * b)
 
--- what the words say of that number, each side doubled: at most one half above a / b, less than one half below; no other number is so
+-- what the words say of that number, where b is at least 1, each side times 2 × b: at most one half above a / b, less than one half below. No other number is so (proofs, Rounding: `nearest-only`)
 pub record Nearest (a b n : ℕ) : Type 0 where
   pub above : 2 * (n * b) ≤ 2 * a + b
   pub under : 2 * a < 2 * (n * b) + b

@@ -109,7 +109,7 @@ pub fn cash_admitted(contracts: u32, size: u32, agreed: u32, final_price: u32) -
 }
 
 // Cash, positive where the seller pays the buyer; zeros for numbers that are not admitted.
-// The size is taken apart into shares and ten-thousandths: contracts × size × change does not fit 64 bits.
+// The size is taken apart into shares and ten-thousandths: contracts × size × (final − agreed) does not fit 64 bits.
 pub fn cash(contracts: u32, size: u32, agreed: u32, final_price: u32) -> Amount
     ensures { λ r. ⌜ r ≡ cashOf contracts size agreed «final_price» ⌝ }
 {

@@ -1,7 +1,7 @@
 -- Question 5 of a day's two bits, case by case.
 -- Assumes nothing.
 use mathlib.Core.Path.{_≡_, refl}
-use mathlib.Core.Bool.{Bool, true, false, not, _&&_, _||_}
+use mathlib.Core.Bool.{Bool, true, false, not}
 use Rattle.questions.proofs.Bools.{clash, or-right}
 use Rattle.calendar.specs.Trading.{bitsClean}
 

@@ -1,7 +1,7 @@
 -- Closing a day changes that day alone.
 -- Assumes nothing.
 use mathlib.Core.Path.{_≡_, refl, _∙_, sym, ap}
-use mathlib.Core.Bool.{Bool, true, false, not, _&&_, _||_, cond, and-false}
+use mathlib.Core.Bool.{Bool, true, false, not, _&&_, cond, and-false}
 use mathlib.Core.List.{List}
 use Prim.Native.Nat.{ℕ, _-_, _*_, _/_, _%_, _^_, _≤_}
 use native.Mathlib.Omega.{arith}
@@ -10,7 +10,7 @@ use lib.Bits.{bitOr}
 use lib.ListN.{length, getD, set}
 use lib.Seq.{set-out}
 use borrow.Author.Tests.{eqb-true, eqb-false, not-true}
-use Rattle.questions.proofs.Bools.{clash, both, or-right}
+use Rattle.questions.proofs.Bools.{clash, both}
 use Rattle.questions.proofs.Search.{every-at, every-all}
 use Rattle.days.specs.Gregorian.{weekdayOf}
 use Rattle.calendar.specs.declared.Calendar.{Calendar}

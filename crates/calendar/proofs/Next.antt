@@ -1,7 +1,7 @@
 -- The search for the first exchange day after a day starts with the next day; the n-th is the first after the one before. With a second map of zeros it is the n-th trading day.
 -- Assumes nothing.
 use mathlib.Core.Path.{_≡_, ap, fun-ext}
-use mathlib.Core.Bool.{Bool, true, false, _||_, and-false, or-false}
+use mathlib.Core.Bool.{Bool, false, and-false, or-false}
 use Prim.Native.Nat.{ℕ, _+_, _-_}
 use native.Mathlib.Numerals.{add-one}
 use Rattle.questions.specs.Search.{firstFrom}

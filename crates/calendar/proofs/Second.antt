@@ -1,4 +1,4 @@
--- The second map takes no part in trading days and in questions 6, 14 and 15, and a closure leaves it as it was (02, note 4: 'Last trading days and listings don't change').
+-- The second map takes no part in trading days and in questions 6, 14 and 15 (02, note 4: 'Last trading days and listings don't change').
 -- Assumes nothing.
 use mathlib.Core.Path.{_≡_, refl, _∙_, sym}
 use mathlib.Core.Bool.{true, false, _&&_}
@@ -22,10 +22,6 @@ module _ (cal : Calendar) (second : List ℕ) where
   pub weeks-second : everyWeek (withSecond cal second) ≡ everyWeek cal
   unfolding everyWeek tradingDay closedOn
   weeks-second = refl
-
-  pub close-second : (d : ℕ) → closeDay (withSecond cal second) d ≡ withSecond (closeDay cal d) second
-  unfolding closeDay
-  close-second d = refl
 
   -- 15
   pub weeks-closed-second : (d : ℕ) → everyWeek (closeDay (withSecond cal second) d) ≡ everyWeek (closeDay cal d)

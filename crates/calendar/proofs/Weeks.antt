@@ -3,21 +3,17 @@
 use mathlib.Core.Path.{_≡_, refl, _∙_, sym, ap}
 use mathlib.Core.Bool.{Bool, true, false, not, _&&_, cond}
 use mathlib.Core.Logic.{_⊎_, inl, inr}
-use Prim.Native.Nat.{ℕ, _+_, _-_, _*_, _/_, _%_, _≤_, _<_}
+use Prim.Native.Nat.{ℕ, _+_, _-_, _*_, _≤_, _<_}
 use mathlib.Core.List.{List}
-use lib.Dec.{eqb, ltb}
-use lib.ListN.{length, getD}
-use borrow.Author.Tests.{eqb-true, eq-eqb, lt-ltb, le-ltb}
+use lib.Dec.{eqb}
+use borrow.Author.Tests.{eqb-true, eq-eqb}
 use native.Mathlib.Nat.{le-refl, eq-or-lt-of-le}
 use native.Mathlib.Omega.{arith}
 use Rattle.questions.specs.Search.{every, some, latest}
 use Rattle.questions.proofs.Bools.{clash, is-false, lt-or-ge}
 use Rattle.questions.proofs.Search.{every-at, every-all, every-not, some-at, some-one, latest-ge}
-use Rattle.days.specs.Gregorian.{weekdayOf}
 use Rattle.calendar.specs.declared.Calendar.{Calendar}
-use Rattle.calendar.specs.Bits.{byteBit, bitAt}
-use Rattle.calendar.proofs.Bits.{bit-past}
-use Rattle.calendar.specs.Trading.{coverStart, coverEnd, inCover, slotOf, closedOn, tradingDay, someTrades, everyWeek}
+use Rattle.calendar.specs.Trading.{coverStart, coverEnd, tradingDay, someTrades, everyWeek}
 
 -- the runs of seven days that begin on a day s or later and end before a day e hold a trading day
 abbrev pub weeksIn : Calendar → ℕ → ℕ → Bool

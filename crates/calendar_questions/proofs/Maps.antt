@@ -14,7 +14,7 @@ use Rattle.questions.proofs.Bools.{same-test, lt-or-ge}
 use Rattle.questions.proofs.Search.{every-at, every-all, every-add, every-not, every-one}
 use Rattle.days.specs.Gregorian.{weekdayOf}
 use Rattle.days.specs.Dates.{yearStart}
-use Rattle.days.proofs.Years.{year-start-is, year-start-before, year-start-past, year-start-le}
+use Rattle.days.proofs.Years.{year-start-is, year-start-past, year-start-le}
 use Rattle.calendar.specs.declared.Cover.{Cover}
 use Rattle.calendar.specs.declared.Calendar.{Calendar}
 use Rattle.calendar.specs.Bits.{bitAt}

@@ -3,7 +3,7 @@
 use mathlib.Core.Path.{_≡_, refl, sym, ap, _∙_}
 use mathlib.Core.Bool.{Bool, true, false, cond}
 use mathlib.Core.List.{List, [], _∷_, _++_, append-nil, append-assoc}
-use Prim.Native.Nat.{ℕ, zero, suc, _+_, _<_}
+use Prim.Native.Nat.{ℕ, suc, _+_, _<_}
 use native.Mathlib.Omega.{arith}
 use lib.Dec.{eqb}
 use lib.ListN.{length, getD}
@@ -113,7 +113,3 @@ module _ (file : List ℕ) (h : Kept) (l : Line) where
   pub text-end : restText file h l [] ≡ cond (eqb (l .length) 0) [] (answerText file h (lineCommand l))
   unfolding restText
   text-end = refl
-
-  pub kept-end : restKept file h l [] ≡ cond (eqb (l .length) 0) h (keptAfter file h (lineCommand l))
-  unfolding restKept
-  kept-end = refl

@@ -1,6 +1,6 @@
 -- No line of the text has 64 bytes.
 -- Assumes nothing.
-use mathlib.Core.Path.{_≡_, refl, sym, ap, _∙_}
+use mathlib.Core.Path.{_≡_, refl}
 use mathlib.Core.Bool.{Bool, true, false, cond}
 use mathlib.Core.List.{List, [], _∷_, _++_}
 use mathlib.Core.Logic.{_⊎_, inl, inr}
@@ -16,7 +16,7 @@ use Rattle.calendar.specs.Trading.{coverStart, closedOn, inSecondMap}
 use Rattle.blocks.specs.Blocks.{blockOf, numberAt}
 use Rattle.records.specs.Records.{recordOf, threeBytes, fourBytes}
 use Rattle.ids.specs.Ids.{isRecord}
-use Rattle.printing.specs.Text.{lastDigit, inTwoDigits, inFourDigits, decimal, yearMonth, dateText, dayText, spaced, refusalText}
+use Rattle.printing.specs.Text.{inTwoDigits, inFourDigits, decimal, yearMonth, dateText, dayText, spaced, refusalText}
 use Rattle.printing.specs.Buffer.{roomy, Printed}
 use Rattle.printing.proofs.Texts.{decimal-1, decimal-2, decimal-3, decimal-4, decimal-5}
 use Rattle.contents.specs.Contents.{coverText, markedText, idText, partText, productText, dayLine, placeLine, coverDays, lineText}

@@ -6,18 +6,15 @@ use mathlib.Core.Bool.{Bool, _&&_, cond}
 use mathlib.Core.List.{List, [], _∷_, _++_}
 use lib.Dec.{eqb, leb, ltb}
 use lib.ListN.{length, getD, take, drop}
-use Rattle.questions.specs.Questions.{firstNo}
 use Rattle.calendar.specs.declared.Cover.{Cover}
 use Rattle.calendar.specs.declared.Calendar.{Calendar}
 use Rattle.calendar.specs.Trading.{coverStart, coverEnd, closedOn, inSecondMap}
 use Rattle.blocks.specs.Blocks.{blockOf, numberAt}
 use Rattle.records.specs.Records.{recordOf, threeBytes, fourBytes}
 use Rattle.ids.specs.Ids.{placeCount, isRecord}
-use Rattle.years.specs.Calendars.{calendarOf}
-use Rattle.master.specs.Load.{loadAsks}
 use Rattle.lines.specs.declared.Line.{Line}
 use Rattle.lines.specs.Lines.{fed}
-use Rattle.printing.specs.Text.{inFourDigits, dayText, spaced, refusalText}
+use Rattle.printing.specs.Text.{inFourDigits, dayText, spaced}
 use Rattle.contents.specs.declared.Progress.{Progress}
 
 -- of a line before and after: it has a text more
@@ -82,11 +79,6 @@ lineCount cal f = 1 + (coverDays (cal .cover) + placeCount f)
 unfoldable pub linesText : Calendar → List ℕ → ℕ → List ℕ
 linesText cal f zero = []
 linesText cal f (suc n) = linesText cal f n ++ lineText cal f n
-
--- '`decompose` reads a master file .. and prints its text, or `NO n`'
-unfoldable pub decomposeText : List ℕ → List ℕ
-decomposeText f =
-    cond (eqb (firstNo (loadAsks f)) 0) (linesText (calendarOf f) f (lineCount (calendarOf f) f)) (refusalText (firstNo (loadAsks f)))
 
 -- there is a line more, and room for it: none has 64 bytes
 unfoldable pub another : ℕ → ℕ → List ℕ → ℕ → Bool

@@ -1,7 +1,7 @@
 -- A window of 64 days that moves over the closed days of a calendar: where it has no seven idle days in a row, every run in it trades.
 -- Assumes nothing.
 use mathlib.Core.Path.{_≡_, refl, _∙_, sym, ap}
-use mathlib.Core.Bool.{Bool, true, false, not, _&&_, _||_}
+use mathlib.Core.Bool.{Bool, true, false, not, _||_}
 use mathlib.Core.Logic.{_⊎_, inl, inr}
 use Prim.Native.Nat.{ℕ, _+_, _-_, _*_, _/_, _^_, _≤_, _<_}
 use native.Mathlib.Omega.{arith}
@@ -9,7 +9,6 @@ use lib.Bits.{bitOr}
 use lib.Dec.{ltb}
 use lib.Pow.{shr-lt}
 use borrow.Author.Tests.{le-leb, lt-ltb}
-use Rattle.questions.specs.Search.{some, every}
 use Rattle.questions.proofs.Bools.{clash, is-false, and-both, lt-or-ge}
 use Rattle.questions.proofs.Search.{some-at, every-all}
 use Rattle.days.specs.Gregorian.{weekdayOf}

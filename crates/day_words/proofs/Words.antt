@@ -11,7 +11,7 @@ use lib.Bits.{bitOr, bitAnd, or-shr, or-mod, and-shr, and-mod, and-le-l, and-zer
 use lib.Dec.{eqb, leb, ltb}
 use lib.ListN.{getD}
 use lib.Pow.{pow-pos, pow-add, shr-shr, shr-lt, field, mod-mod-pow, high, low, shl-shr, pow-lt}
-use borrow.Author.Tests.{eqb-true, eq-eqb, eqb-false}
+use borrow.Author.Tests.{eqb-true, eq-eqb}
 use Rattle.questions.specs.Search.{every}
 use Rattle.questions.proofs.Bools.{clash, both, and-fst, and-snd, and-both, same-test, lt-or-ge}
 use Rattle.questions.proofs.Search.{every-at, every-all}

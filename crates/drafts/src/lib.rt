@@ -7,8 +7,7 @@ ghost use Prim.Native.Nat.{_+_, _*_, _/_, _%_, _≤_, _<_};
 ghost use lib.Dec.{leb};
 ghost use lib.ListN.{length};
 ghost use Rattle.questions.specs.Questions.{firstNo};
-ghost use Rattle.ids.specs.Ids.{idRises};
-ghost use Rattle.drafts.specs.Drafts.{listRecord, listId, blocksIn, fileOf, fits, writeAsks, yearsRight, countsRight, yearsOfMap, withinCover, listRight, listRises};
+ghost use Rattle.drafts.specs.Drafts.{listRecord, listId, blocksIn, writeAsks, yearsRight, countsRight, yearsOfMap, withinCover, listRight, listRises};
 
 // Question 3, by the years of the cover.
 fn years_right(cover: Cover) -> bool

@@ -1,4 +1,4 @@
--- A line of a list, from which `compose` makes a master file, as an entry (02, notes 7, 11 and 14; README, The text of a master file).
+-- A line of a list, from which `compose` makes a master file, as an entry (README, The text of a master file, from which the quotations are; 02, notes 7, 11 and 14).
 -- Assumes nothing.
 use Prim.Native.Nat.{ℕ, _+_, _-_, _*_}
 use mathlib.Core.Bool.{Bool, true, false, _&&_, _||_, cond}
@@ -56,11 +56,11 @@ partRead word = cond (pointed word) (numberOf (drop (length word - 4) word) 9999
 abbrev pub otherEntry : Entry
 otherEntry = record { letter = 0; cover = record { «first_year» = 0; years = 0 }; seed = 0; day = 0; «record» = replicate 32 0 }
 
--- a letter and what follows it: so many words, the first of them one letter
+-- so many words, the letter among them, and the first of them has one byte; which letter it is, `entryAt` asks
 unfoldable pub letterForm : List ℕ → ℕ → Bool
 letterForm line words = eqb (length (wordsOf line)) words && eqb (length (wordAt line 0)) 1
 
--- the cover that words k and m are: 'a year, a number of years .. are at most 65,535'
+-- the cover whose first year is word k and whose number of years is word m, where both are numbers: 'a year, a number of years .. are at most 65,535'. Whether it is right is question 4
 unfoldable pub coverAt : List ℕ → ℕ → ℕ → CoverRead
 coverAt line k m =
     let first = numberOf (wordAt line k) 65535 in
@@ -96,14 +96,13 @@ dayEntry line n =
     (record { letter = line 0; cover = record { «first_year» = 0; years = 0 }; seed = 0; day = date .day; «record» = replicate 32 0 })
     otherEntry
 
--- '`P id group market kind size tick currency`': eight words, the first of them one letter; 'an id has 1 to 4 characters, a group and a market 4, a currency 3'
+-- '`P id group market kind size tick currency`': eight words; 'an id has 1 to 4 characters, a group and a market 4, a currency 3'
 unfoldable pub productForm : List ℕ → Bool
 productForm line =
-    eqb (length (wordsOf line)) 8
-    && (eqb (length (wordAt line 0)) 1
+    letterForm line 8
     && (leb 1 (length (wordAt line 1))
     && (leb (length (wordAt line 1)) 4
-    && (eqb (length (wordAt line 2)) 4 && (eqb (length (wordAt line 3)) 4 && eqb (length (wordAt line 7)) 3)))))
+    && (eqb (length (wordAt line 2)) 4 && (eqb (length (wordAt line 3)) 4 && eqb (length (wordAt line 7)) 3))))
 
 -- '0–3 product id, 1 to 4 of A–Z and 0–9, then spaces' (01, Master file): the four bytes of an id
 unfoldable pub idBytes : List ℕ → List ℕ

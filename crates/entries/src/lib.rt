@@ -185,7 +185,7 @@ fn other_entry() -> Entry
     }
 }
 
-// Whether a line has so many words, the first of them one letter.
+// Whether a line has so many words, the letter among them, and the first of them has one byte.
 fn is_letter_form(line: &[u8], words: usize) -> bool
     ensures { λ r. ⌜ r ≡ letterForm (now (line .entry)) words ⌝ }
 {
@@ -286,12 +286,11 @@ fn is_product_form(line: &[u8]) -> bool
     ensures { λ r. ⌜ r ≡ productForm (now (line .entry)) ⌝ }
 {
     let id = word_length(line, 1);
-    (word_count(line) == 8)
-        & ((word_length(line, 0) == 1)
-            & ((1 <= id)
-                & ((id <= 4)
-                    & ((word_length(line, 2) == 4)
-                        & ((word_length(line, 3) == 4) & (word_length(line, 7) == 3))))))
+    is_letter_form(line, 8)
+        & ((1 <= id)
+            & ((id <= 4)
+                & ((word_length(line, 2) == 4)
+                    & ((word_length(line, 3) == 4) & (word_length(line, 7) == 3)))))
 }
 
 // Byte i of an id, or a space after its last.

@@ -9,7 +9,6 @@ use native.Mathlib.Nat.{zero-div}
 use native.Mathlib.Omega.{arith}
 use lib.ListN.{getD, replicate, getD-replicate, length-replicate, List·getD-eq-default}
 use borrow.Author.Tests.{lt-ltb, le-leb}
-use Rattle.questions.specs.Search.{every}
 use Rattle.questions.proofs.Asks.{no-asks, first-yes, accepted}
 use Rattle.questions.proofs.Bools.{and-both, lt-or-ge}
 use Rattle.questions.proofs.Search.{every-all, some-at}

@@ -25,7 +25,7 @@ valueAt day value = cond (ltb (weekdayOf day) 5) (nextValue value) value
 abbrev pub drawn : ℕ → Bool
 drawn value = ltb (value / 16777216) 8
 
--- '.. unless that would leave a seven-day run without a trading day. Days not yet visited count as open'
+-- '.. unless that would leave a seven-day run without a trading day'
 unfoldable pub closesAt : Calendar → ℕ → ℕ → Bool
 closesAt cal day value = ltb (weekdayOf day) 5 && (drawn value && everyWeek (closeDay cal day))
 
@@ -38,7 +38,7 @@ unfoldable pub made : ℕ → ℕ → ℕ → Calendar → Calendar
 made zero day value cal = cal
 made (suc n) day value cal = made n (suc day) (valueAt day value) (calendarAt cal day (valueAt day value))
 
--- all days of the cover; the first value is the one after the seed
+-- all days of the cover; the first value is the one after the seed. 'Days not yet visited count as open'
 abbrev pub madeFrom : ℕ → Cover → Calendar
 madeFrom seed cover = made (coverEnd cover - coverStart cover) (coverStart cover) seed (openCalendar cover)
 
@@ -54,7 +54,7 @@ madeCall seed cover = answer (madeAsks cover) zeroCalendar (madeFrom seed cover)
 abbrev pub madeAnswer : Made → Answer Calendar
 madeAnswer m = record { refusal = m .refusal; value = m .calendar }
 
--- 'every calendar made this way passes questions 5 and 6, for every seed and every cover of 1 to 16 years from 2000 to 2099'
+-- 'every calendar made this way passes questions 5 and 6, for every seed and every cover of 1 to 16 years from 2000 to 2099': of a valid cover (proofs, Passing)
 pub record Passes (seed : ℕ) (cover : Cover) : Type 0 where
   pub accepted : madeCall seed cover .refusal ≡ 0
   pub cover-kept : madeCall seed cover .value .cover ≡ cover

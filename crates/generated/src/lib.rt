@@ -1,4 +1,4 @@
-// Made-up calendars for load tests: from the same seed the same closed days.
+// Made-up calendars for load tests: from the same seed and cover the same closed days.
 use calendar::Calendar;
 use calendar::Cover;
 ghost use mathlib.Core.Path.{_≡_};

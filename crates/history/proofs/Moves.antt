@@ -18,7 +18,7 @@ use Rattle.listing.proofs.Places.{before-none}
 use Rattle.listing.proofs.Lawful.{Lawful, inListing, front-most, fresh-is, key-of, keys-stay}
 use Rattle.places.specs.Numbering.{isListed, numberOf, missing, renumbered}
 use Rattle.places.specs.Laws.{only, MissingLaw}
-use Rattle.listing.proofs.Counting.{count-add, count-most, count-window, count-balance, count-less, length-sift}
+use Rattle.listing.proofs.Counting.{count-add, count-window, count-balance, count-less, length-sift}
 use Rattle.places.proofs.Rising.{listing-rises}
 use Rattle.places.proofs.Renumbering.{missing-law}
 use Rattle.history.proofs.Numbers.{but, next, number-of, listed-is, renumbered-is, Numbers, next-keeps, next-numbers}

@@ -8,7 +8,6 @@ use lib.Dec.{eqb}
 use lib.ListN.{length}
 use borrow.Author.Tests.{eq-eqb}
 use Rattle.questions.specs.Search.{oneOf}
-use Rattle.questions.specs.Questions.{firstNo}
 use Rattle.questions.proofs.Bools.{or-left, or-right}
 use Rattle.questions.proofs.Asks.{none-no}
 use Rattle.calendar.specs.declared.Calendar.{Calendar}

@@ -1,7 +1,7 @@
 -- The weekly Fridays before a day, by arithmetic: a Friday for every seven days, less the third Fridays.
 -- Assumes nothing.
 use mathlib.Core.Path.{_≡_, refl, sym, ap, _∙_, fun-ext}
-use mathlib.Core.Bool.{Bool, true, false, not, _&&_, cond}
+use mathlib.Core.Bool.{Bool, true, false, not, _&&_}
 use mathlib.Core.Logic.{_⊎_, inl, inr}
 use Prim.Native.Nat.{ℕ, zero, suc, _+_, _-_, _/_, _%_, _≤_, _<_}
 use native.Mathlib.Nat.{zero-add}
@@ -10,7 +10,7 @@ use lib.Dec.{eqb, ltb}
 use borrow.Author.Tests.{eqb-true, eqb-false, lt-ltb, le-ltb}
 use Rattle.questions.proofs.Bools.{lt-or-ge}
 use Rattle.days.specs.Gregorian.{weekdayOf, firstDay}
-use Rattle.days.specs.Dates.{firstOf, monthOf}
+use Rattle.days.specs.Dates.{monthOf}
 use Rattle.days.proofs.Months.{length-bounds, first-suc, first-zero, first-to, month-is, month-past, Holds, month-holds}
 use Rattle.expiry.specs.LastDays.{thirdFriday, weeklyFriday}
 use Rattle.expiry.proofs.Fridays.{third-is}

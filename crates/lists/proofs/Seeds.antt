@@ -58,24 +58,24 @@ product-kept cal e p = rw p refl
 -- what is said after a seed, and after each line that follows
 record Seeded (cal : Calendar) (c : Content) : Type 0 where
   calendar : c .calendar ≡ cal
-  made : c .made ≡ true
+  seeded : c .seeded ≡ true
   some : c .lines ≡ 0 → ⊥
 
 module _ (room : ℕ) (cal : Calendar) where
   seeded-line : (c : Content) (e : Entry) → Seeded cal c → Seeded cal (lineTaken room c e)
   unfolding lineTaken
-  seeded-line c e s = go (eqb (c .bad) 0) (entryFits (c .lines) (c .calendar .cover) (c .made) e) refl
+  seeded-line c e s = go (eqb (c .bad) 0) (entryFits (c .lines) (c .calendar .cover) (c .seeded) e) refl
     where
-      go : (a b : Bool) → entryFits (c .lines) (c .calendar .cover) (c .made) e ≡ b
+      go : (a b : Bool) → entryFits (c .lines) (c .calendar .cover) (c .seeded) e ≡ b
           → Seeded cal
           (cond a
           (cond b
-          (record { calendar = calendarAfter (c .calendar) e; made = c .made || eqb (e .letter) 83; records = recordsAfter room (c .records) e; lines = nextLine (c .lines); bad = 0 })
-          (record { calendar = c .calendar; made = c .made; records = c .records; lines = nextLine (c .lines); bad = nextLine (c .lines) }))
+          (record { calendar = calendarAfter (c .calendar) e; seeded = c .seeded || eqb (e .letter) 83; records = recordsAfter room (c .records) e; lines = nextLine (c .lines); bad = 0 })
+          (record { calendar = c .calendar; seeded = c .seeded; records = c .records; lines = nextLine (c .lines); bad = nextLine (c .lines) }))
           c)
       go false b q = s
-      go true false q = record { calendar = s .calendar; made = s .made; some = next-some (c .lines) (s .some) }
-      go true true q = record { calendar = product-kept (c .calendar) e (product-only (c .lines) (c .calendar .cover) e (s .some) (rw (s .made) at q)) ∙ s .calendar; made = rw (s .made) refl; some = next-some (c .lines) (s .some) }
+      go true false q = record { calendar = s .calendar; seeded = s .seeded; some = next-some (c .lines) (s .some) }
+      go true true q = record { calendar = product-kept (c .calendar) e (product-only (c .lines) (c .calendar .cover) e (s .some) (rw (s .seeded) at q)) ∙ s .calendar; seeded = rw (s .seeded) refl; some = next-some (c .lines) (s .some) }
 
   seeded-lines : (c : Content) (lines : List (List ℕ)) → Seeded cal c → Seeded cal (linesTaken room c lines)
   unfolding linesTaken
@@ -86,7 +86,7 @@ module _ (room : ℕ) (cal : Calendar) where
 module _ (room : ℕ) (e : Entry) (p : e .letter ≡ 83) where
   seed-first : Seeded (madeCall (e .seed) (e .cover) .value) (lineTaken room noContent e)
   unfolding lineTaken noContent entryFits calendarAfter nextLine
-  seed-first = rw p (record { calendar = refl; made = refl; some = λ h. omega arith })
+  seed-first = rw p (record { calendar = refl; seeded = refl; some = λ h. omega arith })
 
 -- a calendar of zeros has no year that could be wrong, and no calendar block
 no-year : yearsRight (zeroCalendar .cover) ≡ true

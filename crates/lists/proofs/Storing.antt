@@ -3,10 +3,9 @@
 use mathlib.Core.Path.{_≡_, refl, sym, ap, _∙_}
 use mathlib.Core.List.{List, _++_}
 use mathlib.Core.Logic.{_⊎_, inl, inr}
-use Prim.Native.Nat.{ℕ, suc, _+_, _-_, _≤_, _<_}
+use Prim.Native.Nat.{ℕ, _+_, _-_, _≤_, _<_}
 use native.Mathlib.Numerals.{add-one}
 use native.Mathlib.Omega.{arith}
-use lib.Dec.{eqb}
 use lib.ListN.{length, getD, take, drop, set}
 use lib.Seq.{length-take-le, take-all, drop-drop, paste, paste-suc, length-paste, take-paste, drop-paste}
 use borrow.Author.Tests.{le-leb, lt-leb, eq-eqb, ne-eqb}
@@ -16,7 +15,7 @@ use Rattle.lists.specs.Lists.{withRecord, recordsAfter, Grown, RecordsIn
 
 -- nothing stored
 pub stays : (b : List ℕ) (size : ℕ) → Grown b b size size
-stays b size = record { more = omega arith; long = refl; unchanged = refl }
+stays b size = record { more = omega arith; within = λ h. h; long = refl; unchanged = refl }
 
 -- once more
 pub grows-on : {a b c : List ℕ} {n m k : ℕ} → Grown a b n m → Grown b c m k → Grown a c n k
@@ -25,6 +24,7 @@ grows-on {a = a} {b = b} {m = m} {k = k} g h =
     let from : (l : List ℕ) → drop k l ≡ drop (k - m) (drop m l) = λ l. rw (drop-drop (k - m) m l, more) refl in
     record {
       more = omega (arith, g .more, h .more);
+      within = λ w. h .within (g .within w);
       long = h .long ∙ g .long;
       unchanged = h .unchanged ∙ from b ∙ ap (drop (k - m)) (g .unchanged) ∙ sym (from a);
     }
@@ -64,6 +64,7 @@ module _ (b : List ℕ) (size : ℕ) (one : List ℕ) where
         buffer =
             record {
               more = omega arith;
+              within = λ _. omega (arith, h, length-paste b size one 32 h (omega (arith, l)));
               long = length-paste b size one 32 h (omega (arith, l));
               unchanged = drop-paste b size one 32 (omega arith) (omega (arith, l));
             };

@@ -1,6 +1,6 @@
 -- A list line by line and part by part, and what the definition says of the whole.
 -- Assumes nothing.
-use mathlib.Core.Path.{_≡_, refl, sym, ap, _∙_}
+use mathlib.Core.Path.{_≡_, refl, _∙_}
 use mathlib.Core.Bool.{Bool, true, false, _||_, cond}
 use mathlib.Core.List.{List, [], _∷_, _++_}
 use Prim.Native.Nat.{ℕ, _+_, _≤_, _<_}
@@ -35,14 +35,14 @@ module _ (t : Taken) (l : Line) (before : List ℕ) where
   unfolding lineTaken
   taken-after-bad n = record { is = rw (ne-eqb (t .bad) 0 n) refl; buffer = stays before (t .size) }
 
-  module _ (z : t .bad ≡ 0) (e : Entry) (q : e ≡ lineEntry l) (n : ℕ) (p : n ≡ nextLine (t .lines)) (b : Bool) (s : b ≡ entryFits (t .lines) (t .calendar .cover) (t .made) e) where
-    pub taken-bad : b ≡ false → LineIn t l before before (record { calendar = t .calendar; made = t .made; size = t .size; lines = n; bad = n })
+  module _ (z : t .bad ≡ 0) (e : Entry) (q : e ≡ lineEntry l) (n : ℕ) (p : n ≡ nextLine (t .lines)) (b : Bool) (s : b ≡ entryFits (t .lines) (t .calendar .cover) (t .seeded) e) where
+    pub taken-bad : b ≡ false → LineIn t l before before (record { calendar = t .calendar; seeded = t .seeded; size = t .size; lines = n; bad = n })
     unfolding lineTaken
     taken-bad f = record { is = rw (eq-eqb (t .bad) 0 z, ← q, ← s, f, p) refl; buffer = stays before (t .size) }
 
     pub taken-good : b ≡ true → (cal : Calendar) → cal ≡ calendarAfter (t .calendar) e → (after : List ℕ) (size : ℕ)
         → RecordsIn before after (t .size) size (recordsAfter (length before) (take (t .size) before) e)
-        → LineIn t l before after (record { calendar = cal; made = t .made || eqb (e .letter) 83; size = size; lines = n; bad = 0 })
+        → LineIn t l before after (record { calendar = cal; seeded = t .seeded || eqb (e .letter) 83; size = size; lines = n; bad = 0 })
     unfolding lineTaken
     taken-good f cal g after size r =
         record { is = rw (eq-eqb (t .bad) 0 z, ← q, ← s, f, p, g, r .is) refl; buffer = r .buffer }

@@ -8,10 +8,10 @@ ghost use Prim.Native.Nat.{_≤_};
 ghost use lib.ListN.{length, take};
 ghost use Rattle.lists.specs.Lists.{nothingTaken, closeExchangeDay, entryFits, calendarAfter, withRecord, recordsAfter, nextLine, contentIn, RecordsIn, LineIn, PartIn, EndIn, composed, composedFile};
 
-// What the lines so far say: the calendar, whether it was made from a seed, how many bytes of records stand in the buffer, how many lines there are, and the number of the first that is none of a list's, 0 where each is one.
+// What the lines so far say: the calendar, whether the first line was an `S`, how many bytes of records stand in the buffer, how many lines were taken, up to the first that is none of a list's, and the number of that one, 0 where there is none.
 pub struct Taken {
     pub calendar: Calendar,
-    pub made: bool,
+    pub seeded: bool,
     pub size: usize,
     pub lines: u32,
     pub bad: u32,
@@ -34,13 +34,10 @@ pub struct Composed {
 pub fn nothing_taken() -> Taken
     ensures { λ r. ⌜ r ≡ nothingTaken ⌝ }
 {
-    let calendar = calendar::open_calendar(Cover {
-        first_year: 0,
-        years: 0,
-    });
+    let calendar = calendar::zero_calendar();
     Taken {
         calendar,
-        made: false,
+        seeded: false,
         size: 0,
         lines: 0,
         bad: 0,
@@ -71,9 +68,9 @@ fn close_exchange_day(cal: Calendar, day: u16) -> Calendar
     }
 }
 
-// Whether an entry may stand after so many lines, under a cover, with a calendar that was made from a seed or not.
-fn entry_fits(lines: u32, cover: Cover, made: bool, e: Entry) -> bool
-    ensures { λ r. ⌜ r ≡ entryFits lines cover made e ⌝ }
+// Whether an entry may stand after so many lines, under a cover, where the first line was an `S` or not.
+fn entry_fits(lines: u32, cover: Cover, seeded: bool, e: Entry) -> bool
+    ensures { λ r. ⌜ r ≡ entryFits lines cover seeded e ⌝ }
 {
     let letter = e.letter;
     if letter == 0 {
@@ -88,7 +85,7 @@ fn entry_fits(lines: u32, cover: Cover, made: bool, e: Entry) -> bool
     if letter == b'P' {
         return true;
     }
-    if made {
+    if seeded {
         return false;
     }
     calendar::in_cover(cover, e.day)
@@ -157,7 +154,7 @@ fn next_line(lines: u32) -> u32
     lines
 }
 
-// One line more. A product for which the buffer has no room is left out: 65,536 bytes hold more than a file does.
+// One line more. A product for which the buffer has no room is left out: where the buffer has 60,992 bytes or more, such a list has no file.
 pub fn take_line(taken: Taken, line: Line, records: &mut [u8]) -> Taken
     ensures { λ r. ⌜ LineIn taken line (now (records .entry)) (now (records .exit)) r ⌝ }
 {
@@ -168,10 +165,10 @@ pub fn take_line(taken: Taken, line: Line, records: &mut [u8]) -> Taken
     let calendar = taken.calendar;
     let cover = calendar.cover;
     let lines = next_line(taken.lines);
-    if !entry_fits(taken.lines, cover, taken.made, e) {
+    if !entry_fits(taken.lines, cover, taken.seeded, e) {
         return Taken {
             calendar,
-            made: taken.made,
+            seeded: taken.seeded,
             size: taken.size,
             lines,
             bad: lines,
@@ -181,7 +178,7 @@ pub fn take_line(taken: Taken, line: Line, records: &mut [u8]) -> Taken
     let size = store_entry(records, taken.size, e);
     Taken {
         calendar: after,
-        made: taken.made | (e.letter == b'S'),
+        seeded: taken.seeded | (e.letter == b'S'),
         size,
         lines,
         bad: 0,

@@ -11,7 +11,7 @@ ghost use Prim.Native.Nat.{_+_, _*_, _≤_, _<_};
 ghost use Rattle.blocks.specs.Blocks.{blockCount};
 ghost use Rattle.years.specs.Calendars.{orderRight, calendarOf, calendarAnswer, calendarsClean};
 ghost use Rattle.master.specs.Products.{sameId, kindOr, productFrom, productAt};
-ghost use Rattle.master.specs.Load.{refusedFile, judgeCall, loadCall, loadAnswer, hasId, placeFrom, placeOf, foundAt, findCall, findAnswer};
+ghost use Rattle.master.specs.Load.{judgeCall, loadCall, loadAnswer, hasId, placeFrom, placeOf, foundAt, findCall, findAnswer};
 
 // The counts of years and of records.
 #[repr(C)]
@@ -54,46 +54,35 @@ fn calendars_clean(file: &[u8], cal: Calendar) -> bool
     calendar_questions::is_clean(cal) & years::tails_zero(file, cal.cover.years as usize)
 }
 
-// The refusal of a file, and no calendar.
-fn refused_file(number: u8) -> FileCalendar
-    ensures { λ r. ⌜ r ≡ refusedFile number ⌝ }
-{
-    let calendar = calendar::zero_calendar();
-    FileCalendar {
-        refusal: number,
-        calendar,
-    }
-}
-
 // Questions 1 to 8, and the file's calendar, which is made once, for 5 and 6 and for what follows.
 pub fn judge(file: &[u8]) -> FileCalendar
     ensures { λ r. ⌜ calendarAnswer r ≡ judgeCall (now (file .entry)) ⌝ }
 {
     if !blocks::length_right(file) {
-        return refused_file(1);
+        return years::refused_file(1);
     }
     if !blocks::checks_right(file) {
-        return refused_file(2);
+        return years::refused_file(2);
     }
     if !blocks::headers_right(file) {
-        return refused_file(3);
+        return years::refused_file(3);
     }
     let ordered = years::ordered_calendar(file);
     if ordered.refusal != 0 {
-        return refused_file(4);
+        return years::refused_file(4);
     }
     let cal = ordered.calendar;
     if !calendars_clean(file, cal) {
-        return refused_file(5);
+        return years::refused_file(5);
     }
     if !calendar_questions::every_week_trades(cal) {
-        return refused_file(6);
+        return years::refused_file(6);
     }
     if !records::products_right(file) {
-        return refused_file(7);
+        return years::refused_file(7);
     }
     if !ids::ids_rise(file) {
-        return refused_file(8);
+        return years::refused_file(8);
     }
     ordered
 }

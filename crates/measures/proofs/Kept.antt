@@ -1,16 +1,17 @@
 -- A measure keeps the contract's value and leaves a sound table sound; a refused one gives the table back as it came.
 -- Assumes nothing.
 use mathlib.Core.Path.{_≡_, refl, ap}
-use mathlib.Core.Bool.{Bool, true, _&&_}
+use mathlib.Core.Bool.{true}
 use mathlib.Core.List.{[]}
 use Prim.Native.Nat.{ℕ, zero, suc}
 use native.Mathlib.Omega.{arith}
 use Rattle.questions.specs.Questions.{firstNo}
-use Rattle.questions.proofs.Bools.{both, and-both, and-fst}
+use Rattle.questions.proofs.Bools.{both, and-both}
 use Rattle.questions.proofs.Asks.{none-no}
 use Rattle.product.specs.declared.Kind.{Kind}
 use Rattle.product.specs.declared.Product.{Product}
-use Rattle.product.specs.Fields.{idRight, groupRight, marketRight, kindRight, sizeRight, tickRight, currencyRight, kindNumber, isFuture, fieldsRight, productRight}
+use Rattle.product.specs.Fields.{sizeRight, isFuture, productRight}
+use Rattle.product.proofs.RightFields.{fields-with-size}
 use Rattle.amounts.specs.Prices.{priceRight, newSize, ratioRight, measureRight}
 use Rattle.amounts.proofs.Rounding.{value-kept, InRange, in-range}
 use Rattle.table.specs.declared.Table.{Table}
@@ -30,21 +31,8 @@ asked-range kind size p q price e =
 
 -- a product with another size in range is right (7)
 pub right-size : (p : Product) (size : ℕ) → productRight p ≡ true → sizeRight size ≡ true → productRight (withSize p size) ≡ true
-unfolding productRight fieldsRight
-right-size p size e s =
-    let (a, currency) = both to-tick (currencyRight (p .currency)) e in
-    let (b, tick) = both to-size (tickRight (p .tick)) a in
-    let c = and-fst to-kind (sizeRight (p .size)) b in
-    and-both {a = to-kind && sizeRight size && tickRight (p .tick)} (and-both {a = to-kind && sizeRight size} (and-both {a = to-kind} c s) tick) currency
-  where
-    to-kind : Bool
-    to-kind = idRight (p .id) && groupRight (p .group) (kindNumber (p .kind)) && marketRight (p .market) && kindRight (kindNumber (p .kind))
-
-    to-size : Bool
-    to-size = to-kind && sizeRight (p .size)
-
-    to-tick : Bool
-    to-tick = to-size && tickRight (p .tick)
+unfolding productRight
+right-size p size e s = fields-with-size _ _ _ _ _ _ _ e size s
 
 -- so is the table (10)
 pub resized-sound : (t : Table) (size : ℕ) → sound t ≡ true → sizeRight size ≡ true → sound (resized t size) ≡ true

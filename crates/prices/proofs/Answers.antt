@@ -7,7 +7,8 @@ use Rattle.questions.specs.Questions.{firstNo}
 use Rattle.questions.proofs.Asks.{accepted, refused}
 use Rattle.questions.proofs.Bools.{and-fst, and-snd, and-both}
 use Rattle.product.specs.declared.Product.{Product}
-use Rattle.product.specs.Fields.{idRight, groupRight, marketRight, kindRight, sizeRight, tickRight, currencyRight, kindNumber, fieldsRight, productRight, isFuture}
+use Rattle.product.specs.Fields.{sizeRight, productRight, isFuture}
+use Rattle.product.proofs.RightFields.{size-of-fields}
 use Rattle.amounts.specs.declared.Amount.{Amount}
 use Rattle.amounts.specs.Prices.{priceRight, multipleOf, finalRight, contractsRight, cashAmount, cashParts, noAmount, cashAdmitted, cashOf}
 use Rattle.amounts.proofs.CashParts.{whole-size}
@@ -38,17 +39,8 @@ module _ (t : Table) (price : ℕ) where
 
 -- the contract size of a right product is in its range
 size-in-range : (p : Product) → productRight p ≡ true → sizeRight (p .size) ≡ true
-unfolding productRight fieldsRight
-size-in-range p e = and-snd to-kind (sizeRight (p .size)) (and-fst to-size (tickRight (p .tick)) (and-fst to-tick (currencyRight (p .currency)) e))
-  where
-    to-kind : Bool
-    to-kind = idRight (p .id) && groupRight (p .group) (kindNumber (p .kind)) && marketRight (p .market) && kindRight (kindNumber (p .kind))
-
-    to-size : Bool
-    to-size = to-kind && sizeRight (p .size)
-
-    to-tick : Bool
-    to-tick = to-size && tickRight (p .tick)
+unfolding productRight
+size-in-range p e = size-of-fields _ _ _ _ _ _ _ e
 
 -- two tests of the code are those of the definition
 pub both-are : {a b x y : Bool} → a ≡ x → b ≡ y → (a && b) ≡ (x && y)

@@ -1,6 +1,6 @@
 -- Closures on one date move the front by one maturity at most: the argument for months and for weekly Fridays alike.
 -- Assumes nothing.
-use mathlib.Core.Path.{_≡_, refl, ap}
+use mathlib.Core.Path.{_≡_, ap}
 use mathlib.Core.Bool.{true}
 use mathlib.Core.List.{List}
 use mathlib.Core.Logic.{_⊎_, inl, inr}
@@ -16,7 +16,7 @@ use Rattle.expiry.proofs.Fridays.{last-is}
 use Rattle.listing.specs.Rules.{Rule, lastDayOf, widest, front}
 use Rattle.listing.specs.Months.{coverRule, weekIntoCover}
 use Rattle.listing.proofs.Lawful.{Lawful, front-most, front-passes, day-past, day-ahead, day-anchor}
-use Rattle.listing.proofs.OfKinds.{rule-lawful, rule-begins, rule-deep, rule-apart}
+use Rattle.listing.proofs.OfKinds.{rule-begins, rule-deep, rule-apart}
 use Rattle.reach.specs.Reach.{Spaced}
 
 -- the rule of every kind is spaced on a date of the cover that passes 24

@@ -37,8 +37,8 @@ indexOf [] x = 0
 indexOf (y ∷ ys) x = cond (eqb x y) 0 (suc (indexOf ys x))
 
 -- 30 'is b from 1 to 200 ..'
-abbrev pub sizeRight : ℕ → Bool
-sizeRight b = leb 1 b && leb b 200
+abbrev pub roundRight : ℕ → Bool
+roundRight b = leb 1 b && leb b 200
 
 -- 30 '.. and the table number 0 to 199?'
 abbrev pub tableNumberRight : ℕ → Bool
@@ -46,7 +46,7 @@ tableNumberRight table = leb table 199
 
 -- a call of the round: 'A queue that breaks this gets 10, first', then 30
 abbrev pub handleAsks : Queue → ℕ → List Ask
-handleAsks q b = ask 10 (queueRight q) ∷ ask 30 (sizeRight b) ∷ []
+handleAsks q b = ask 10 (queueRight q) ∷ ask 30 (roundRight b) ∷ []
 
 -- 'A call takes the first b, or all if fewer, returns their numbers in that order, and puts them at the end in the same order'
 abbrev pub handled : List ℕ → ℕ → Handled

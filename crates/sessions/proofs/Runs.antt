@@ -1,7 +1,7 @@
 -- All that a run of the program hands out is the text of the definition, however its input arrives.
 -- Assumes nothing.
 use mathlib.Core.Path.{_≡_, refl, sym, ap, _∙_}
-use mathlib.Core.List.{List, [], _∷_, _++_, append-nil, append-assoc}
+use mathlib.Core.List.{List, [], _++_, append-assoc}
 use Prim.Native.Nat.{ℕ, _≤_}
 use lib.ListN.{length, take, drop, drop-of-length-le}
 use Rattle.lines.specs.declared.Line.{Line}

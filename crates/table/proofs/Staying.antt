@@ -1,25 +1,25 @@
 -- A roll whose front stays keeps its listing.
 -- Assumes nothing.
-use mathlib.Core.Path.{_≡_, refl, _∙_, sym, ap, ap₂}
+use mathlib.Core.Path.{_≡_, refl, _∙_, sym, ap}
 use mathlib.Core.Bool.{Bool, true, false, _&&_, _||_, cond}
 use mathlib.Core.Logic.{_⊎_, inl, inr}
 use mathlib.Core.List.{List, [], _∷_, _++_, map}
 use Prim.Native.Nat.{ℕ, zero, suc, _+_, _-_, _≤_, _<_}
 use native.Mathlib.Omega.{arith}
 use native.Mathlib.Nat.{add-zero}
-use lib.Dec.{eqb, leb, ltb}
-use lib.ListN.{length, getD, take, replicate, length-map, length-append, length-replicate, getD-replicate, List·getD-map, List·getD-append}
+use lib.Dec.{eqb, ltb}
+use lib.ListN.{length, getD, replicate, length-map, length-append, length-replicate, getD-replicate, List·getD-map, List·getD-append}
 use lib.Seq.{ext-getD, getD-take, length-take-le, getD-append-add}
-use borrow.Author.Tests.{eqb-true, eq-eqb, ne-eqb, ltb-true, le-ltb, lt-ltb}
-use Rattle.questions.specs.Search.{firstFrom, every}
-use Rattle.questions.proofs.Bools.{clash, both, or-left, or-right, lt-or-ge}
+use borrow.Author.Tests.{eqb-true, eq-eqb, ne-eqb, ltb-true, le-ltb}
+use Rattle.questions.specs.Search.{firstFrom}
+use Rattle.questions.proofs.Bools.{both, or-left, or-right, lt-or-ge}
 use Rattle.questions.proofs.Search.{every-at, search-none}
 use Rattle.calendar.specs.declared.Calendar.{Calendar}
 use Rattle.product.specs.declared.Kind.{Kind}
 use Rattle.listing.specs.declared.Maturity.{Maturity}
 use Rattle.listing.specs.Rules.{Rule, front, nextOf, taken, freshKeys, complete, maturity, unused, places15}
 use Rattle.listing.specs.Months.{placesOfKind, coverRule, ruleOf, freshOf, allInCover}
-use Rattle.listing.proofs.Fresh.{places-most, fresh-listed}
+use Rattle.listing.proofs.Fresh.{places-most}
 use Rattle.places.specs.Numbering.{isListed, numberOf, missing, withNumber, unnumbered, renumbered, placeRight}
 use Rattle.places.proofs.Unique.{same-maturity}
 use Rattle.table.specs.declared.Table.{Table}

@@ -1,6 +1,6 @@
 -- The table, its soundness, and the calls that open it, roll it, close a day and open it again (01, The table; Questions, in order; 02, notes 2, 3 and 9).
 -- Assumes nothing.
-use Prim.Native.Nat.{ℕ, zero, _+_, _-_}
+use Prim.Native.Nat.{ℕ, _+_, _-_}
 use mathlib.Core.Bool.{Bool, _&&_, cond}
 use mathlib.Core.List.{List, [], _∷_}
 use lib.Dec.{leb, ltb, eqb}

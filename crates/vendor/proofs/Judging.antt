@@ -1,17 +1,17 @@
 -- A list gets yes exactly when it is the fresh listing in another order; a no names the smallest key that differs.
 -- Assumes nothing.
 use Prim.Native.Nat.{ℕ, zero, suc, _+_, _-_, _≤_, _<_}
-use mathlib.Core.Path.{_≡_, refl, _∙_, sym, ap, ap₂}
+use mathlib.Core.Path.{_≡_, refl, _∙_, sym, ap}
 use mathlib.Core.Bool.{Bool, true, false, not, _&&_, _||_, cond}
-use mathlib.Core.Logic.{_⊎_, inl, inr, _↔_}
+use mathlib.Core.Logic.{_⊎_, inl, inr}
 use mathlib.Core.List.{List, [], _∷_}
-use native.Mathlib.Nat.{le-refl, zero-add, eq-or-lt-of-le}
+use native.Mathlib.Nat.{le-refl, zero-add}
 use native.Mathlib.Omega.{arith}
-use lib.Dec.{eqb, leb, ltb}
-use borrow.Author.Tests.{eqb-true, eqb-false, eq-eqb, ne-eqb, leb-true, leb-false, le-leb, lt-leb}
+use lib.Dec.{eqb, leb}
+use borrow.Author.Tests.{eqb-true, eqb-false, eq-eqb, ne-eqb, le-leb}
 use Rattle.questions.specs.Search.{firstFrom}
 use Rattle.listing.proofs.Lawful.{Found, first-found, first-least}
-use Rattle.questions.proofs.Bools.{clash, both, and-both, or-left, or-right, or-either, is-false, lt-or-ge}
+use Rattle.questions.proofs.Bools.{clash, and-both, or-left, or-right, is-false, lt-or-ge}
 use Rattle.vendor.specs.Vendor.{Entry, times, timesWith, dayIn, differs, smallest, Judgement, judgement, Reordered, Short, Judged}
 
 -- how often a key stands, by its days

@@ -5,17 +5,17 @@ use mathlib.Core.Path.{_≡_, refl, _∙_, sym, ap}
 use mathlib.Core.Bool.{Bool, true, false, not, _&&_, _||_, cond}
 use mathlib.Core.Logic.{_⊎_, inl, inr}
 use mathlib.Core.List.{List, [], _∷_, map}
-use native.Mathlib.Nat.{le-refl, zero-add, add-zero}
+use native.Mathlib.Nat.{le-refl, zero-add}
 use native.Mathlib.Omega.{arith}
-use lib.Dec.{eqb, leb, ltb}
-use borrow.Author.Tests.{eqb-true, eqb-false, eq-eqb, ne-eqb, ltb-true, ltb-false, not-true}
+use lib.Dec.{eqb, ltb}
+use borrow.Author.Tests.{eqb-true, eq-eqb, ltb-true, ltb-false, not-true}
 use Rattle.questions.specs.Search.{firstFrom}
 use Rattle.questions.proofs.Bools.{clash, both, and-both, or-left, or-right, or-either, is-false, lt-or-ge}
 use Rattle.questions.proofs.Search.{first-is}
 use Rattle.listing.proofs.Lawful.{Found, first-found}
 use Rattle.listing.specs.declared.Maturity.{Maturity}
 use Rattle.places.specs.Numbering.{isListed}
-use Rattle.vendor.proofs.Judging.{Alike, neither, both-once, alike, alike-not, no-day}
+use Rattle.vendor.proofs.Judging.{Alike, neither, both-once, alike, alike-not}
 use Rattle.vendor.specs.Vendor.{Entry, entryOf, times, dayIn, differs, smallest}
 use Rattle.vendor.specs.Passes.{standsOnce, lesser, leastListed, leastOther}
 

@@ -1,11 +1,10 @@
 -- Lines fed byte by byte, what is read in them, and what they are taken for.
 -- Assumes nothing.
 use mathlib.Core.Path.{_≡_, refl, _∙_, sym, ap}
-use mathlib.Core.Bool.{Bool, true, false, not, _||_, _&&_, cond}
+use mathlib.Core.Bool.{Bool, true, false, not, _&&_}
 use mathlib.Core.List.{List, [], _∷_, _++_, append-assoc}
 use Prim.Native.Nat.{ℕ, _+_, _≤_, _<_}
 use native.Mathlib.Numerals.{add-one}
-use native.Mathlib.Omega.{arith}
 use lib.Dec.{eqb}
 use lib.ListN.{length, getD, take, drop, drop-of-length-le}
 use lib.Seq.{drop-cons}
@@ -14,7 +13,7 @@ use Rattle.days.specs.Dates.{monthOf}
 use Rattle.table.specs.Table.{openCall, rollCall, closeCall}
 use Rattle.lines.specs.declared.Line.{Line}
 use Rattle.lines.specs.declared.Command.{Command}
-use Rattle.lines.specs.Lines.{emptyLine, extended, fed, lineCommand, commandOf}
+use Rattle.lines.specs.Lines.{extended, fed, lineCommand, commandOf}
 use Rattle.lines.proofs.Feeding.{any-length, fed-more}
 use Rattle.vendor_lines.specs.Lines.{rollBegun, dateIn, monthIn, noEntry, entryFrom, monthEntry, fridayEntry, entryIn, afterCall, afterEntry, readFirst, readLine}
 use Rattle.vendor_lines.specs.declared.Reading.{Reading}

@@ -11,10 +11,11 @@ use lib.ListN.{length, take, drop, getD, replicate, length-drop, getD-replicate,
 use lib.Seq.{ext-getD, length-take-le, getD-take, getD-drop}
 use Rattle.questions.specs.Search.{every}
 use borrow.Author.Tests.{le-leb, lt-leb}
-use Rattle.questions.proofs.Bools.{and-fst, and-snd, lt-or-ge}
-use Rattle.product.specs.Fields.{kindNumber, kindOf, kindRight, fileSizeRight, fieldsRight, productRight, idRight, groupRight, marketRight}
+use Rattle.questions.proofs.Bools.{lt-or-ge}
+use Rattle.product.specs.Fields.{kindNumber, kindOf, kindRight, fileSizeRight, fieldsRight, productRight}
 use Rattle.product.specs.declared.Product.{Product}
 use Rattle.product.proofs.KindNumbers.{kind-of-number, kind-found}
+use Rattle.product.proofs.RightFields.{kind-of-fields}
 use Rattle.blocks.specs.Blocks.{numberAt, zeros}
 use Rattle.records.specs.Records.{threeBytes, fourBytes, sizeAt, recordRight}
 use Rattle.records.proofs.Parts.{RecordParts, record-parts}
@@ -179,10 +180,7 @@ module _ (r : List ℕ) (long : length r ≡ 32) (bytes : areBytes r ≡ true) (
   parts = record-parts r right
 
   kind-right : kindRight (getD r 12 0) ≡ true
-  unfolding fieldsRight
-  kind-right =
-      and-snd (idRight (fourBytes r 0) && groupRight (fourBytes r 4) (getD r 12 0) && marketRight (fourBytes r 8)) (kindRight (getD r 12 0))
-      (and-fst _ _ (and-fst _ _ (and-fst _ _ (parts .fields))))
+  kind-right = kind-of-fields _ _ _ _ _ _ _ (parts .fields)
 
   kind-again : kindNumber (kindOr (kindOf (getD r 12 0))) ≡ getD r 12 0
   kind-again = let k = kind-found (getD r 12 0) kind-right in rw (k .found) (k .has-number)

@@ -9,7 +9,7 @@ ghost use lib.ListN.{length, drop, set};
 ghost use lib.Seq.{paste};
 ghost use Rattle.calendar.specs.Trading.{calendarOfMaps};
 ghost use Rattle.blocks.specs.Blocks.{weightedSum};
-ghost use Rattle.drafts.specs.Drafts.{highByte, lowByte, headerByte, calendarByte, recordsWithin, productByte, blockByte, blockFor, blocksFor, blocksIn};
+ghost use Rattle.drafts.specs.Drafts.{highByte, lowByte, headerByte, calendarByte, recordsWithin, productByte, blockByte, blockFor, blocksFor};
 ghost use Rattle.writing.specs.Writing.{writeCall, writeAnswer, bufferAfter, fieldBytes, sharesOf, recordBytes};
 
 // The refusal, 0 where a file was written, and its length, 0 with a refusal.

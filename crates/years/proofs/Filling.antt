@@ -33,9 +33,6 @@ listed-is n value l long each =
     ext-getD 0 l (listed 0 n value) (long ∙ sym (listed-length 0 n value))
     (λ k h. each k (omega arith) ∙ sym (listed-at n value k (omega arith)))
 
-pub listed-zeros : (n : ℕ) → replicate n 0 ≡ listed 0 n (λ i. 0)
-listed-zeros n = listed-is n (λ i. 0) (replicate n 0) (length-replicate n 0) (λ k h. getD-replicate n k 0 0 h)
-
 -- of n places the first i have been filled
 pub record Filled (value : ℕ → ℕ) (n i : ℕ) (l : List ℕ) : Type 0 where
   pub long : length l ≡ n

@@ -14,14 +14,14 @@ use Rattle.questions.specs.Search.{every}
 use Rattle.questions.proofs.Bools.{both, and-snd, and-both, or-right, same-test, lt-or-ge}
 use Rattle.questions.proofs.Search.{every-at, every-all}
 use Rattle.calendar.specs.Bits.{bitAt}
-use Rattle.calendar.specs.Trading.{inCover, slotOf, closedOn, inSecondMap, mayBeClosed, bitsClean, cleanSlot, clean}
+use Rattle.calendar.specs.Trading.{zeroCalendar, inCover, slotOf, closedOn, inSecondMap, mayBeClosed, cleanSlot, clean}
 use Rattle.calendar.proofs.Bits.{bit-past}
 use Rattle.calendar.proofs.Clean.{bits-zero}
 use Rattle.calendar.proofs.Covered.{Covered, covered}
 use Rattle.days.specs.Dates.{yearOf, dayInYear}
 use Rattle.days.proofs.Years.{in-year-below}
 use Rattle.blocks.specs.Blocks.{blockCount, blockOf, zeros, isCalendar, isProducts, yearOfBlock}
-use Rattle.years.specs.Calendars.{yearCount, yearInOrder, inOrder, orderRight, mapBit, dayClean, blockClean, calendarsClean, upTo, mapByte, mapsFrom, calendarBlocks, noCalendar, calendarOf, oldFile}
+use Rattle.years.specs.Calendars.{yearCount, yearInOrder, inOrder, orderRight, mapBit, dayClean, blockClean, calendarsClean, upTo, mapByte, mapsFrom, calendarBlocks, calendarOf, oldFile}
 use Rattle.years.proofs.Filling.{listed-at, listed-length, up-in, up-out}
 
 module _ (f : List ℕ) (years : ℕ) (e : years ≡ yearCount f) where
@@ -29,7 +29,7 @@ module _ (f : List ℕ) (years : ℕ) (e : years ≡ yearCount f) where
   unfolding calendarOf
   calendar-in t = rw (rw e at t)
 
-  pub calendar-out : (leb 1 years && leb years 16) ≡ false → calendarOf f ≡ noCalendar
+  pub calendar-out : (leb 1 years && leb years 16) ≡ false → calendarOf f ≡ zeroCalendar
   unfolding calendarOf
   calendar-out t = rw (rw e at t)
 

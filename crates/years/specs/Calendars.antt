@@ -72,22 +72,17 @@ calendarBlocks f =
       exchange = mapsFrom 62 f (yearCount f);
     }
 
--- no year, and nothing in the maps
-abbrev pub noCalendar : Calendar
-noCalendar =
-    record {
-      cover = record { «first_year» = 0; years = 0 };
-      closed = listed 0 736 (λ i. 0);
-      exchange = listed 0 736 (λ i. 0);
-    }
-
 -- 'the file's calendar'; a file that has not 1 to 16 calendar blocks has no year
 unfoldable pub calendarOf : List ℕ → Calendar
-calendarOf f = cond (leb 1 (yearCount f) && leb (yearCount f) 16) (calendarBlocks f) noCalendar
+calendarOf f = cond (leb 1 (yearCount f) && leb (yearCount f) 16) (calendarBlocks f) zeroCalendar
 
 -- the number and the value that an answer with the file's calendar stands for
 abbrev pub calendarAnswer : FileCalendar → Answer Calendar
 calendarAnswer r = record { refusal = r .refusal; value = r .calendar }
+
+-- with a refusal: its number, and no calendar
+abbrev pub refusedFile : ℕ → FileCalendar
+refusedFile number = record { refusal = number; calendar = zeroCalendar }
 
 -- question 4 and, where it is answered yes, the file's calendar
 unfoldable pub orderCall : List ℕ → Answer Calendar

@@ -6,7 +6,7 @@ ghost use Prim.Native.Nat.{_≤_, _<_};
 ghost use Rattle.questions.specs.Search.{every};
 ghost use Rattle.calendar.specs.Trading.{mayClose, bitsClean};
 ghost use Rattle.blocks.specs.Blocks.{blockCount, blockOf, numberAt, zeros};
-ghost use Rattle.years.specs.Calendars.{yearCount, inOrder, orderRight, mapBit, dayClean, blockClean, mapsFrom, calendarBlocks, calendarOf, calendarAnswer, orderCall};
+ghost use Rattle.years.specs.Calendars.{yearCount, inOrder, orderRight, mapBit, dayClean, blockClean, mapsFrom, calendarBlocks, calendarOf, calendarAnswer, refusedFile, orderCall};
 
 // A refusal, or 0 and the file's calendar.
 pub struct FileCalendar {
@@ -15,7 +15,7 @@ pub struct FileCalendar {
 }
 
 // How many calendar blocks the file has.
-pub fn year_count(file: &[u8]) -> usize
+fn year_count(file: &[u8]) -> usize
     ensures { λ r. ⌜ (r ≡ yearCount (now (file .entry))) × (r ≤ blockCount (now (file .entry))) ⌝ }
 {
     let blocks = file.len() / 512;
@@ -158,15 +158,17 @@ pub fn calendar_of(file: &[u8]) -> Calendar
     if (1 <= years) & (years <= 16) {
         return calendar_blocks(file, years);
     }
-    let closed = [0u8; 736];
-    let exchange = [0u8; 736];
-    Calendar {
-        cover: Cover {
-            first_year: 0,
-            years: 0,
-        },
-        closed,
-        exchange,
+    calendar::zero_calendar()
+}
+
+// The refusal of a file, and no calendar.
+pub fn refused_file(number: u8) -> FileCalendar
+    ensures { λ r. ⌜ r ≡ refusedFile number ⌝ }
+{
+    let calendar = calendar::zero_calendar();
+    FileCalendar {
+        refusal: number,
+        calendar,
     }
 }
 
@@ -176,11 +178,7 @@ pub fn ordered_calendar(file: &[u8]) -> FileCalendar
 {
     let years = year_count(file);
     if !order_right(file, years) {
-        let calendar = calendar::zero_calendar();
-        return FileCalendar {
-            refusal: 4,
-            calendar,
-        };
+        return refused_file(4);
     }
     let calendar = calendar_blocks(file, years);
     FileCalendar {

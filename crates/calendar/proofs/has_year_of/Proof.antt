@@ -2,7 +2,6 @@ use Rattle.calendar.proofs.Covered.{covers-past, covers-early, covers-i
 use Rattle.calendar.specs.declared.Cover.{Cover}
 use lib.Dec.{ltb}
 use Prim.Native.Nat.{ℕ, _-_}
-use native.Mathlib.Omega.{arith}
 use mathlib.Core.Path.{_∙_, sym, ap}
 use Rattle.calendar.proofs.has_year_of.Statement.{statement}
 use Rattle.calendar.proofs.has_year_of.Tie as tie

@@ -3,7 +3,7 @@ use Rattle.questions.proofs.Bools.{said-no, said-yes}
 use Rattle.calendar.specs.Bits.{bitAt}
 use Prim.Native.Nat.{_-_}
 use native.Mathlib.Omega.{arith}
-use mathlib.Core.Path.{_≡_, sym}
+use mathlib.Core.Path.{sym}
 use borrow.Author.Needs.{needs}
 use Rattle.calendar.proofs.is_marked.Statement.{statement}
 use Rattle.calendar.proofs.is_marked.Tie as tie

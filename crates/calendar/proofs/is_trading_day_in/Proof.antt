@@ -5,7 +5,7 @@ use Rattle.calendar.specs.Trading.{closedOn, slotOf, tradingDay}
 use borrow.Author.Tests.{lt-ltb, le-ltb}
 use Prim.Native.Nat.{_-_}
 use native.Mathlib.Omega.{arith}
-use mathlib.Core.Path.{_≡_, sym}
+use mathlib.Core.Path.{sym}
 use borrow.Author.Needs.{needs}
 use Rattle.calendar.proofs.is_trading_day_in.Statement.{statement}
 use Rattle.calendar.proofs.is_trading_day_in.Tie as tie

@@ -2,7 +2,6 @@ use Rattle.calendar.proofs.Covered.{start-end}
 use Rattle.calendar.specs.Trading.{everyWeek}
 use Prim.Native.Nat.{_-_}
 use native.Mathlib.Omega.{arith}
-use mathlib.Core.Path.{_∙_}
 use Rattle.calendar_questions.proofs.all_weeks_trade.Statement.{statement}
 use Rattle.calendar_questions.proofs.all_weeks_trade.Tie as tie
 

@@ -1,7 +1,6 @@
 use Rattle.calendar_questions.proofs.Maps.{both-clean}
 use mathlib.Core.Bool.{_&&_}
 use mathlib.Core.Path.{_∙_, ap₂}
-use borrow.Author.Needs.{needs}
 use Rattle.calendar_questions.proofs.maps_are_clean.Statement.{statement}
 use Rattle.calendar_questions.proofs.maps_are_clean.Tie as tie
 use Rattle.calendar_questions.proofs.first_is_clean.Reads as first-is-clean-reads

@@ -1,5 +1,4 @@
 use Rattle.day_words.proofs.Windows.{shows-part, part-below}
-use native.Mathlib.Omega.{arith}
 use borrow.Author.Needs.{needs}
 use Rattle.calendar_questions.proofs.rest_days.Statement.{statement}
 use Rattle.calendar_questions.proofs.rest_days.Tie as tie

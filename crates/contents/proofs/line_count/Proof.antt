@@ -1,4 +1,3 @@
-use native.Mathlib.Omega.{arith}
 use borrow.Author.Needs.{needs}
 use Rattle.contents.specs.Contents.{lineCount}
 use Rattle.contents.proofs.line_count.Statement.{statement}

@@ -1,4 +1,3 @@
-use borrow.Author.Needs.{needs}
 use Rattle.contents.proofs.Building.{nothing, place-held, place-none}
 use mathlib.Core.Path.{sym, _∙_}
 use Rattle.contents.proofs.place_line.Statement.{statement}

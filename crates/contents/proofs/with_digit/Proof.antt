@@ -1,4 +1,3 @@
-use native.Mathlib.Omega.{arith}
 use borrow.Author.Needs.{needs}
 use Rattle.contents.proofs.Building.{one}
 use Rattle.contents.proofs.with_digit.Statement.{statement}

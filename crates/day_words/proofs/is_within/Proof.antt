@@ -1,6 +1,5 @@
 use Rattle.day_words.proofs.Bytes.{all-within}
 use mathlib.Core.Path.{_∙_}
-use borrow.Author.Needs.{needs}
 use Rattle.day_words.proofs.is_within.Statement.{statement}
 use Rattle.day_words.proofs.is_within.Tie as tie
 use Rattle.day_words.proofs.all_beyond.Reads as all-beyond-reads

@@ -3,7 +3,6 @@ use Rattle.days.proofs.Months.{month-past}
 use Prim.Native.Nat.{ℕ, _-_}
 use native.Mathlib.Omega.{arith}
 use mathlib.Core.Path.{sym, ap}
-use borrow.Author.Needs.{needs}
 use Rattle.days.proofs.month_of.Statement.{statement}
 use Rattle.days.proofs.month_of.Tie as tie
 use Rattle.days.proofs.day_in_year.Reads as day-in-year-reads

@@ -1,6 +1,5 @@
 use native.Mathlib.Omega.{arith}
 use borrow.Author.Needs.{needs}
-use Prim.Native.Nat.{_≤_}
 use Rattle.contents.proofs.Lengths.{refusal-fits}
 use Rattle.decompose.proofs.answer.Statement.{statement}
 use Rattle.decompose.proofs.answer.Tie as tie

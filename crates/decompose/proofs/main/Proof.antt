@@ -1,4 +1,3 @@
-use native.Mathlib.Omega.{arith}
 use borrow.Author.Needs.{needs}
 use Rattle.decompose.proofs.main.Statement.{statement}
 use Rattle.decompose.proofs.main.Tie as tie

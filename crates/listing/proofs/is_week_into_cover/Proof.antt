@@ -1,6 +1,5 @@
 use Rattle.questions.proofs.Bools.{said-no, said-yes}
 use Rattle.listing.specs.Months.{weekIntoCover}
-use Prim.Native.Nat.{_+_}
 use native.Mathlib.Omega.{arith}
 use Rattle.listing.proofs.is_week_into_cover.Statement.{statement}
 use Rattle.listing.proofs.is_week_into_cover.Tie as tie

@@ -3,16 +3,16 @@ use Rattle.lists.specs.Lists.{nothingTaken}
 use Rattle.lists.proofs.nothing_taken.Statement.{statement}
 use Rattle.lists.proofs.nothing_taken.Tie as tie
 
-open-calendar-requires : tie.Need-open-calendar-requires
-open-calendar-requires c κs = tt
+zero-calendar-requires : tie.Need-zero-calendar-requires
+zero-calendar-requires c κs = tt
 
 returns : tie.Need-returns
 unfolding nothingTaken
-returns c = rw (c .open-calendar .ensures) refl
+returns c = rw (c .zero-calendar .ensures) refl
 
 pub nothing-taken-spec : {M : Type 1} → statement M
 nothing-taken-spec =
     tie.close
     (tie.spec
-    open-calendar-requires
+    zero-calendar-requires
     returns)

@@ -2,7 +2,7 @@ use Rattle.opening.proofs.Opened.{find-there, find-product, find-none, 
 use Rattle.master.proofs.Answers.{judged-refusal, judged-calendar}
 use Rattle.listing.proofs.Fresh.{complete-is}
 use Rattle.questions.proofs.Bools.{said-no, said-yes}
-use mathlib.Core.Path.{refl, _∙_, sym}
+use mathlib.Core.Path.{_∙_, sym}
 use borrow.Author.Needs.{needs}
 use Rattle.opening.proofs.opening_of.Statement.{statement}
 use Rattle.opening.proofs.opening_of.Tie as tie

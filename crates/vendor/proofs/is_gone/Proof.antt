@@ -1,10 +1,10 @@
 use Rattle.vendor.specs.Passes.{entryCount}
 use Rattle.vendor.proofs.Entries.{times-next, not-gone, gone}
-use Rattle.vendor.specs.Vendor.{entriesOf, times, dayIn}
+use Rattle.vendor.specs.Vendor.{entriesOf, times}
 use mathlib.Core.Path.{_≡_, refl, _∙_, sym}
-use Prim.Native.Nat.{_+_, _-_, _*_, _≤_}
+use Prim.Native.Nat.{_-_, _*_, _≤_}
 use native.Mathlib.Omega.{arith}
-use lib.ListN.{length, getD, take, drop}
+use lib.ListN.{drop}
 use Rattle.vendor.proofs.is_gone.Statement.{statement}
 use Rattle.vendor.proofs.is_gone.Tie as tie
 

@@ -2,7 +2,6 @@ use Rattle.vendor.proofs.Tables.{least-most, vendor-said, vendor-10}
 use Rattle.questions.proofs.Bools.{said-no, said-yes}
 use mathlib.Core.Path.{_≡_, _∙_, sym}
 use lib.ListN.{length, length-map}
-use native.Mathlib.Omega.{arith}
 use borrow.Author.Needs.{needs}
 use Rattle.vendor.proofs.judge.Statement.{statement}
 use Rattle.vendor.proofs.judge.Tie as tie

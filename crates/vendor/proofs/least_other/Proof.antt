@@ -1,12 +1,11 @@
-use Rattle.vendor.specs.Passes.{entryCount, lesser, leastOther}
+use Rattle.vendor.specs.Passes.{entryCount, leastOther}
 use Rattle.listing.specs.Months.{placesOfKind}
-use Rattle.places.specs.Numbering.{isListed}
 use Rattle.vendor.proofs.Entries.{other-next, other-done}
-use Rattle.vendor.specs.Vendor.{entriesOf, times, dayIn}
+use Rattle.vendor.specs.Vendor.{entriesOf}
 use mathlib.Core.Path.{_≡_, refl, _∙_, sym}
-use Prim.Native.Nat.{_+_, _-_, _*_, _≤_}
+use Prim.Native.Nat.{_-_, _*_, _≤_}
 use native.Mathlib.Omega.{arith}
-use lib.ListN.{length, getD, take, drop}
+use lib.ListN.{take, drop}
 use Rattle.vendor.proofs.least_other.Statement.{statement}
 use Rattle.vendor.proofs.least_other.Tie as tie
 

@@ -1,10 +1,10 @@
-use Rattle.vendor.specs.Passes.{entryCount, standsOnce}
+use Rattle.vendor.specs.Passes.{entryCount}
 use Rattle.vendor.proofs.Entries.{times-next, day-next, once-not, once-if, once-none}
 use Rattle.vendor.specs.Vendor.{entriesOf, times, dayIn}
 use mathlib.Core.Path.{_≡_, refl, _∙_, sym}
-use Prim.Native.Nat.{_+_, _-_, _*_, _≤_, _<_}
+use Prim.Native.Nat.{_-_, _*_, _≤_, _<_}
 use native.Mathlib.Omega.{arith}
-use lib.ListN.{length, getD, take, drop}
+use lib.ListN.{getD, drop}
 use Rattle.vendor.proofs.stands_once.Statement.{statement}
 use Rattle.vendor.proofs.stands_once.Tie as tie
 

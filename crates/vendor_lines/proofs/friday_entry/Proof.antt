@@ -1,9 +1,7 @@
-use mathlib.Core.Path.{_≡_, _∙_, sym, ap}
+use mathlib.Core.Path.{_∙_, sym}
 use denote.Ref.{now}
 use native.Mathlib.Omega.{arith}
-use lib.ListN.{length, getD}
 use lib.Seq.{length-take-le}
-use Rattle.vendor_lines.specs.Lines.{entryFrom}
 use Rattle.vendor_lines.proofs.Names.{friday-short, friday-unspaced, friday-there}
 use borrow.Author.Needs.{needs}
 use Rattle.vendor_lines.proofs.friday_entry.Statement.{statement}

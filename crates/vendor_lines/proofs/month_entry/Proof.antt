@@ -1,8 +1,7 @@
-use mathlib.Core.Path.{_≡_, _∙_, sym, ap}
+use mathlib.Core.Path.{_∙_, sym, ap}
 use Prim.Native.Nat.{ℕ}
 use denote.Ref.{now}
 use native.Mathlib.Omega.{arith}
-use lib.ListN.{length, getD}
 use lib.Seq.{length-take-le}
 use Rattle.vendor_lines.specs.Lines.{entryFrom}
 use Rattle.vendor_lines.proofs.Names.{month-short, month-unspaced, month-there}

@@ -14,13 +14,13 @@ year-count-requires c κs = tt
 order-right-requires : tie.Need-order-right-requires
 order-right-requires c κs = c .year-count .ensures .0
 
-zero-calendar-requires : tie.Need-zero-calendar-requires
-zero-calendar-requires c κs = tt
+refused-file-requires : tie.Need-refused-file-requires
+refused-file-requires c κs = tt
 
 returns : tie.Need-returns
 unfolding orderCall
 returns c =
-    rw (c .zero-calendar .ensures) (sym (refused _ _ _ 3 (first-no 4 [] (said-no (c .before .before .order-right .ensures) (c .before .if1 .taken)))))
+    rw (c .refused-file .ensures) (sym (refused _ _ _ 3 (first-no 4 [] (said-no (c .before .before .order-right .ensures) (c .before .if1 .taken)))))
 
 calendar-blocks-requires : tie.Need-calendar-blocks-requires
 calendar-blocks-requires c κs =
@@ -40,7 +40,7 @@ ordered-calendar-spec =
     (tie.spec
     year-count-requires
     order-right-requires
-    zero-calendar-requires
+    refused-file-requires
     returns
     calendar-blocks-requires
     returns-2)

@@ -1,5 +1,5 @@
-use Rattle.master.proofs.refused_file.Statement.{statement}
-use Rattle.master.proofs.refused_file.Tie as tie
+use Rattle.years.proofs.refused_file.Statement.{statement}
+use Rattle.years.proofs.refused_file.Tie as tie
 
 zero-calendar-requires : tie.Need-zero-calendar-requires
 zero-calendar-requires c κs = tt
