@@ -20,8 +20,7 @@ use Rattle.command.specs.declared.Kept.{Kept}
 use Rattle.command.specs.Sessions.{nothingKept, outcomeOf, keptAfter, keptRun, restKept}
 use Rattle.command.proofs.Session.{kept-append, whole-kept}
 use Rattle.history.specs.Book.{Call}
-use Rattle.history.specs.History.{tableCall, tableRun}
-use Rattle.history.specs.Replay.{FromFile}
+use Rattle.history.specs.History.{tableCall, tableRun, FromFile}
 use Rattle.history.proofs.FromFile.{from-file}
 use Rattle.agreement.specs.Calls.{isOpening, noOpening, isMove, moveOf, movesOf, KeptHistory}
 

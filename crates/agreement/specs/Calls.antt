@@ -12,8 +12,7 @@ use Rattle.lines.specs.declared.Command.{Command}
 use Rattle.lines.specs.Lines.{commandOf}
 use Rattle.command.specs.declared.Kept.{Kept}
 use Rattle.history.specs.Book.{Call, roll, close}
-use Rattle.history.specs.History.{tableRun}
-use Rattle.history.specs.Replay.{FromFile}
+use Rattle.history.specs.History.{tableRun, FromFile}
 
 -- an accepted `O id date`, 79
 unfoldable pub isOpening : List ℕ → Command → Bool

@@ -10,8 +10,7 @@ use Rattle.master.proofs.Accepting.{accepted-file}
 use Rattle.table.specs.Table.{openCall}
 use Rattle.table.proofs.Opens.{accepted-from, opened-table}
 use Rattle.history.specs.Book.{Call}
-use Rattle.history.specs.History.{opens}
-use Rattle.history.specs.Replay.{FromFile}
+use Rattle.history.specs.History.{opens, FromFile}
 use Rattle.history.proofs.Demand.{demand3}
 
 pub from-file : (f id : List ℕ) (date : ℕ) → openCall f id date .refusal ≡ 0 → (cs ds : List Call) → FromFile f id date cs ds

@@ -18,7 +18,9 @@ use Rattle.table.specs.declared.Table.{Table}
 use Rattle.table.specs.declared.Outcome.{Outcome}
 use Rattle.places.specs.Numbering.{isListed, numberOf, unnumbered}
 use Rattle.listing.specs.Months.{freshOf, allInCover, keysOf, weekIntoCover}
-use Rattle.table.specs.Table.{listedIn, sound, rollCall, closeCall, reopenCall, openedTable}
+use Rattle.years.specs.Calendars.{calendarOf}
+use Rattle.master.specs.Load.{productOf}
+use Rattle.table.specs.Table.{listedIn, sound, rollCall, closeCall, reopenCall, openedTable, openCall}
 use Rattle.measures.specs.declared.Measured.{Measured}
 use Rattle.measures.specs.Measures.{withSize, measureCall}
 use Rattle.history.specs.declared.Called.{Called}
@@ -155,3 +157,8 @@ module _ (p : Product) (cal : Calendar) (date : ℕ) where
     pub number-below-193 : isWeekly (p .kind) ≡ false → (m : ℕ) → numberThen cs m ≤ 192
     -- nor does the count of numbers given
     pub below-193 : isWeekly (p .kind) ≡ false → after cs .given ≤ 192
+
+-- 'The list of rolls and closes', with reopenings (02, note 9) and measures (02, note 11) among them, 'starts from the table that an accepted open gave back': what demand 3 says of every file, id and date with an accepted open, and every list of calls
+pub record FromFile (f id : List ℕ) (date : ℕ) (cs ds : List Call) : Type 0 where
+  pub opened : openCall f id date .table ≡ openedTable (productOf f id) (calendarOf f) date
+  pub demand : Demand3 (productOf f id) (calendarOf f) date cs ds

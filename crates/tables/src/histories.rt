@@ -8,7 +8,7 @@ use crate::text::end_line;
 use crate::text::put;
 use crate::text::put_long;
 use crate::text::start_line;
-use history::Replay;
+use replay::Replay;
 use table::Table;
 ghost use mathlib.Core.Path.{_≡_};
 ghost use Prim.Native.Nat.{_≤_};
@@ -113,7 +113,7 @@ fn replay(
     let mut answers = [0u32; 1024];
     let mut file = io::large_buffer();
     let size = read_master(bytes[1], &mut file);
-    let r = history::run(
+    let r = replay::run(
         &file[..size],
         id,
         date,

@@ -1,7 +1,7 @@
-use Rattle.history.proofs.Answers.{short-large, short-small}
+use Rattle.replay.proofs.Answers.{short-large, short-small}
 use borrow.Author.Needs.{needs}
-use Rattle.history.proofs.short_in.Statement.{statement}
-use Rattle.history.proofs.short_in.Tie as tie
+use Rattle.replay.proofs.short_in.Statement.{statement}
+use Rattle.replay.proofs.short_in.Tie as tie
 
 returns : tie.Need-returns
 returns c = short-large (c .before .args .number) (c .if1 .taken)

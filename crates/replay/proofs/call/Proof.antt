@@ -1,6 +1,6 @@
-use Rattle.history.proofs.Answers.{rolls, reopens, measures, closes}
-use Rattle.history.proofs.call.Statement.{statement}
-use Rattle.history.proofs.call.Tie as tie
+use Rattle.replay.proofs.Answers.{rolls, reopens, measures, closes}
+use Rattle.replay.proofs.call.Statement.{statement}
+use Rattle.replay.proofs.call.Tie as tie
 
 short-in-requires : tie.Need-short-in-requires
 short-in-requires c κs = tt
