@@ -336,6 +336,18 @@ def python_layouts():
             for name, size, fields in rows}
 
 
+# Calendars with a field that does not fit: the fields for which a ValueError comes.
+UNFIT = '''
+import scullpouch
+calendar = scullpouch.make(7, 2008, 1)
+for field, value in ('years', 65536), ('closed', bytes(735)), ('closed', bytes(737)), ('exchange', bytes(737)):
+    try:
+        scullpouch.write(calendar._replace(**{field: value}), bytes(32))
+    except ValueError:
+        print(field)
+'''
+
+
 class Interface(unittest.TestCase):
 
     # Every struct that the crates export, with every field, in each language.
@@ -380,6 +392,11 @@ class Interface(unittest.TestCase):
         self.assertIn(f'\nINTERFACE = {major}\n', read(BINDINGS, 'python', 'scullpouch.py'))
         self.assertIn(f'soname,libscullpouch.so.{major} ', read(BINDINGS, 'install'))
         self.assertIn(f'    {major}\n', read(*CRATE).split('scullpouch_interface')[1])
+
+    # In Python a number or a map that does not fit its C type is a ValueError, and no call is made.
+    def test_python_fits(self):
+        found = run(sys.executable, '-c', UNFIT, cwd=BUILT.source('python'), env=BUILT.environment)
+        self.assertEqual(found.decode().split(), ['years', 'closed', 'closed', 'exchange'])
 
     # `unsafe` stands only at the calls.
     def test_unsafe(self):

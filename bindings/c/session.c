@@ -5,8 +5,6 @@
 #include <stdlib.h>
 #include <sys/types.h>
 
-#define WEEKLY 5
-
 static void print_day(uint16_t day) {
     scullpouch_date_reply d = scullpouch_date(day);
     printf("%04d-%02d-%02d", d.year, d.month, d.day);
@@ -14,7 +12,7 @@ static void print_day(uint16_t day) {
 
 /* The month of a maturity, or its Friday. */
 static void print_key(const scullpouch_table *t, uint16_t key) {
-    if (t->product.kind == WEEKLY) print_day(key);
+    if (t->product.kind == SCULLPOUCH_WEEKLY) print_day(key);
     else printf("%04d-%02d", 2000 + key / 12, key % 12 + 1);
 }
 

@@ -2,15 +2,17 @@
  *
  * A day is a number from 0, 1 January 2000, to 36,524, 31 December 2099; a month is a number
  * from 0, January 2000. The key of a maturity is its month, or the day of a weekly option's
- * Friday. Every call answers with a refusal: 0 for accepted, else the number of the first
- * question that is answered no, which scullpouch_question has in words (docs/REFUSALS.md).
- * No call keeps, allocates or frees anything, and none has a state of its own: any number of
- * threads may call at the same time.
+ * Friday. Every call but interface, record and queue answers with a refusal: 0 for accepted,
+ * else the number of the first question that is answered no, which scullpouch_question has in
+ * words. No call keeps, allocates or frees anything, and none has a state of its own: any
+ * number of threads may call at the same time.
  *
  * Tables, calendars, queues and states of a load are plain values: copy them by assignment,
  * store them, read their fields. (A product has two unused bytes at its end, so tables are
  * compared field by field, not by memcmp.) Every call judges the table or queue that it is
- * given and refuses one that is not sound (10), so no value of it is forbidden.
+ * given and refuses one that is not sound (10), so no value of it is forbidden. A state of a
+ * load is one that an accepted announce, or take after it, gave back; of another any answer
+ * may come.
  *
  * What the caller owes. A pointer with a length or count names so many elements of one
  * object, at most PTRDIFF_MAX bytes, aligned, written before, that nobody else writes until
@@ -39,6 +41,7 @@ extern "C" {
 #define SCULLPOUCH_PLACES 15
 #define SCULLPOUCH_MAP 736
 #define SCULLPOUCH_TABLES 200
+#define SCULLPOUCH_WEEKLY 5 /* the kind whose keys are days */
 
 /* ---- Values ---- */
 
@@ -112,7 +115,7 @@ typedef struct {
     uint16_t count;
 } scullpouch_round;
 
-/* amount in 1/10,000 and rest in 1/100,000,000 of the currency, 0 to 9,999; negative covers both. */
+/* amount in 1/10,000 of the currency; rest, 0 to 9,999, in 1/100,000,000; negative is the sign of both. */
 typedef struct {
     bool negative;
     uint64_t amount;
@@ -230,7 +233,7 @@ scullpouch_outcome scullpouch_reopen(scullpouch_table table, uint16_t day);
 /* A capital measure on a future, p for q, with the settlement price before it. 10, 19, 21, 28, 29 */
 scullpouch_measured scullpouch_measure(scullpouch_table table, uint16_t p, uint16_t q, uint32_t price);
 
-/* The last trading day of a listed maturity: 10, 18. The day on which what is exercised on a day is due: 10, 11, 17 */
+/* The last trading day of a listed maturity: 10, 18. The due day of a day of the cover: 10, 11, 17 */
 scullpouch_last_day_reply scullpouch_last_trading_day(scullpouch_table table, uint16_t key);
 scullpouch_day_reply scullpouch_due(scullpouch_table table, uint16_t day);
 
@@ -240,10 +243,12 @@ uint8_t scullpouch_tick(scullpouch_table table, uint32_t price);
 scullpouch_cash_reply scullpouch_cash(scullpouch_table table, uint32_t contracts, uint32_t agreed,
                                       uint32_t final_price);
 
-/* Whether a list of keys and last trading days, in turn, count numbers in all, is the table's listing. 10 */
+/* Whether a list of keys and last trading days, in turn, count numbers in all, is the table's listing; a last key
+ * without a day differs. 10 */
 scullpouch_verdict scullpouch_judge(scullpouch_table table, const uint16_t *list, size_t count);
 
-/* Writes the master file of a calendar and of records, 32 bytes each, into a buffer. 3-8, 25 */
+/* Writes the master file of a calendar and of records, 32 bytes each, into a buffer; a last record of fewer bytes is
+ * not as stated (7). 3-8, 25 */
 scullpouch_written scullpouch_write(scullpouch_calendar calendar, const uint8_t *records, size_t length,
                                     uint8_t *buffer, size_t room);
 
@@ -255,8 +260,8 @@ scullpouch_taken scullpouch_announce(uint16_t blocks);
 scullpouch_taken scullpouch_take(scullpouch_intake state, const uint8_t *block, size_t length);
 scullpouch_finished scullpouch_finish(scullpouch_intake state);
 
-/* The morning round: an empty queue. The first b tables, which then stand at the end: 10, 30. A table joins at the
- * end, or leaves: 10, 30, 31 */
+/* The morning round: an empty queue. The first b tables, or all if fewer, which then stand at the end: 10, 30. A table
+ * joins at the end, or leaves: 10, 30, 31 */
 scullpouch_round scullpouch_queue(void);
 scullpouch_handled scullpouch_handle(scullpouch_round queue, uint16_t b);
 scullpouch_changed scullpouch_join(scullpouch_round queue, uint16_t table);
@@ -324,7 +329,8 @@ static inline size_t scullpouch_listed(const scullpouch_table *table) {
     return n;
 }
 
-static inline unsigned scullpouch_outcome_into(const scullpouch_outcome *o, scullpouch_table *table, uint16_t *entered,
+/* No call: what the next four share. */
+static inline unsigned scullpouch_helper_moved(const scullpouch_outcome *o, scullpouch_table *table, uint16_t *entered,
                                                uint16_t *left) {
     if (o->refusal != 0) return o->refusal;
     *table = o->table;
@@ -336,23 +342,23 @@ static inline unsigned scullpouch_outcome_into(const scullpouch_outcome *o, scul
 static inline unsigned scullpouch_open_into(scullpouch_table *table, const uint8_t *file, size_t length, const char *id,
                                             uint16_t date, uint16_t *entered, uint16_t *left) {
     scullpouch_outcome o = scullpouch_open(file, length, scullpouch_id_of(id), date);
-    return scullpouch_outcome_into(&o, table, entered, left);
+    return scullpouch_helper_moved(&o, table, entered, left);
 }
 
 static inline unsigned scullpouch_roll_into(scullpouch_table *table, uint16_t date, uint16_t *entered, uint16_t *left) {
     scullpouch_outcome o = scullpouch_roll(*table, date);
-    return scullpouch_outcome_into(&o, table, entered, left);
+    return scullpouch_helper_moved(&o, table, entered, left);
 }
 
 static inline unsigned scullpouch_close_into(scullpouch_table *table, uint16_t day, uint16_t *entered, uint16_t *left) {
     scullpouch_outcome o = scullpouch_close(*table, day);
-    return scullpouch_outcome_into(&o, table, entered, left);
+    return scullpouch_helper_moved(&o, table, entered, left);
 }
 
 static inline unsigned scullpouch_reopen_into(scullpouch_table *table, uint16_t day, uint16_t *entered,
                                               uint16_t *left) {
     scullpouch_outcome o = scullpouch_reopen(*table, day);
-    return scullpouch_outcome_into(&o, table, entered, left);
+    return scullpouch_helper_moved(&o, table, entered, left);
 }
 
 static inline unsigned scullpouch_measure_into(scullpouch_table *table, uint16_t p, uint16_t q, uint32_t price,

@@ -5,8 +5,8 @@
 
 A day is a number from 0, 1 January 2000; a month is a number from 0, January 2000. The key
 of a maturity is its month, or the day of a weekly option's Friday. A call gives its value
-or raises Refused; a table, queue or load that refuses a call is unchanged. A number that
-does not fit its C type is a ValueError.
+or raises Refused; a refused call leaves the table, queue or load as it was. A number or a
+map that does not fit its C type is a ValueError.
 
 The shared object is libscullpouch.so.1, or the file that the variable SCULLPOUCH names.
 """
@@ -22,6 +22,7 @@ FILE_AT_MOST = 65536
 PLACES = 15
 MAP = 736
 TABLES = 200
+WEEKLY = 5  # the kind whose keys are days
 
 QUESTIONS = {
     1: 'Is the length a multiple of 512, from 1,024 to 65,536?',
@@ -267,6 +268,13 @@ def _fit(number, bits=16):
     return number
 
 
+# A map of a calendar; ctypes would cut a longer one.
+def _map(data):
+    if len(data) != MAP:
+        raise ValueError(f'a map has {MAP} bytes')
+    return (c_uint8 * MAP).from_buffer_copy(data)
+
+
 # Bytes and their length. They are copied where they could change meanwhile.
 def _lent(data):
     data = data if isinstance(data, bytes) else bytes(memoryview(data))
@@ -313,8 +321,7 @@ class Calendar(namedtuple('Calendar', 'first_year years closed exchange')):
     Year k of the cover has the 46 bytes from 46 * k on; its first day is the highest bit of the first of them."""
 
     def _held(self):
-        maps = (c_uint8 * MAP).from_buffer_copy
-        return _Calendar(_Cover(_fit(self.first_year), _fit(self.years)), maps(self.closed), maps(self.exchange))
+        return _Calendar(_Cover(_fit(self.first_year), _fit(self.years)), _map(self.closed), _map(self.exchange))
 
 
 def _calendar_of(held):
@@ -364,7 +371,7 @@ def write(calendar, records):
 
 
 class Intake:
-    """A load block by block of a file of so many blocks: announce it, take each 512 bytes, finish."""
+    """A load of a file of so many blocks, block by block: take each 512 bytes, then finish."""
 
     def __init__(self, blocks):
         self._held = _judged(_call['announce'](_fit(blocks))).state
@@ -381,11 +388,11 @@ class Intake:
 
 # ---- Tables ----
 
-def open(file, id, on):  # noqa: A001, A002
+def open(file, id, date):  # noqa: A001, A002
     """The table of a product of a master file on a date."""
     # no file has an id of spaces
     known = _code(id) if len(id) <= 4 else _code('')
-    return Table(_judged(_call['open'](*_lent(file), _Id(known), _fit(on))))
+    return Table(_judged(_call['open'](*_lent(file), _Id(known), _fit(date))))
 
 
 class Table:
@@ -427,7 +434,7 @@ class Table:
         return reply.day, reply.back
 
     def due(self, day):
-        """The day on which what is exercised on a day is due."""
+        """The due day of a day of the cover."""
         return _judged(_call['due'](self._held, _fit(day))).day
 
     def tick(self, price):
@@ -436,10 +443,10 @@ class Table:
         if refusal:
             raise Refused(refusal)
 
-    def cash(self, contracts, agreed, final):
+    def cash(self, contracts, agreed, final_price):
         """The cash of a future: whether the buyer pays the seller, the amount in 1/10,000 of the currency, and the
         rest, 0 to 9,999, in 1/100,000,000."""
-        cash = _judged(_call['cash'](self._held, _fit(contracts, 32), _fit(agreed, 32), _fit(final, 32))).cash
+        cash = _judged(_call['cash'](self._held, _fit(contracts, 32), _fit(agreed, 32), _fit(final_price, 32))).cash
         return Cash(cash.negative, cash.amount, cash.rest)
 
     def judge(self, numbers):
@@ -502,7 +509,7 @@ class Queue:
         self._held = _call['queue']()
 
     def handle(self, b):
-        """The numbers of the first b tables, which then stand at the end."""
+        """The numbers of the first b tables, or of all if fewer, which then stand at the end."""
         reply = _judged(_call['handle'](self._held, _fit(b)))
         self._held = reply.queue
         return reply.taken.tables[:reply.taken.count]

@@ -9,7 +9,6 @@ sys.path.insert(0, os.path.dirname(os.path.abspath(__file__)))
 
 import scullpouch  # noqa: E402
 
-WEEKLY = 5
 DATE = rb'([0-9]{4})-([0-9]{2})-([0-9]{2})'
 COMMAND = re.compile(rb'(?:(O) ([A-Z0-9]{1,4})|([RC])) ' + DATE)
 
@@ -29,7 +28,7 @@ def day_text(day):
 
 # The month of a maturity, or its Friday.
 def key_text(kind, key):
-    return day_text(key) if kind == WEEKLY else '%04d-%02d' % (2000 + key // 12, key % 12 + 1)
+    return day_text(key) if kind == scullpouch.WEEKLY else '%04d-%02d' % (2000 + key // 12, key % 12 + 1)
 
 
 def report(letter, table):

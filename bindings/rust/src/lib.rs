@@ -1,8 +1,8 @@
 //! Contract terms of stock futures and stock options: the proved calls, for Rust.
 //!
 //! The key of a maturity is its month, a number from 0, January 2000, or the day of a weekly
-//! option's Friday. A call answers its value or a [`Refusal`]; a table, queue or load that
-//! refuses a call is unchanged. Tables and queues may be made and changed by hand: every call
+//! option's Friday. A call answers its value or a [`Refusal`]; a refused call leaves the table,
+//! queue or load as it was. Tables and queues may be made and changed by hand: every call
 //! refuses one that is not sound (10).
 
 mod calls;
@@ -13,9 +13,13 @@ use refusals::judged;
 pub use refusals::Refusal;
 use std::fmt;
 
-/// The most bytes of a master file, and the bytes of a block and of a record of it.
+/// The most bytes of a master file.
 pub const FILE_AT_MOST: usize = 65536;
+
+/// The bytes of a block of it.
 pub const BLOCK: usize = 512;
+
+/// The bytes of a record of it.
 pub const RECORD: usize = 32;
 
 /// The kind of a weekly option, whose keys are days.
@@ -23,7 +27,7 @@ pub const WEEKLY: u8 = 5;
 
 // ---- Days ----
 
-/// A day: 0 is 1 January 2000. Displayed as its date.
+/// A day: 0 is 1 January 2000. Displayed as its date, one after 2099 as 0000-00-00.
 #[derive(Clone, Copy, Debug, PartialEq, Eq, PartialOrd, Ord, Hash)]
 #[repr(transparent)]
 pub struct Day(pub u16);
@@ -257,7 +261,7 @@ impl Table {
         judged(r.refusal, (Day(r.day), r.back))
     }
 
-    /// The day on which what is exercised on a day is due.
+    /// The due day of a day of the cover.
     pub fn due(&self, day: Day) -> Result<Day, Refusal> {
         let r = unsafe { calls::scullpouch_due(self.clone(), day.0) };
         judged(r.refusal, Day(r.day))
@@ -304,12 +308,12 @@ impl Queue {
         unsafe { calls::scullpouch_queue() }
     }
 
-    /// The numbers that wait, the first first.
+    /// The numbers of its tables, the first first.
     pub fn waiting(&self) -> &[u16] {
         &self.tables[..self.tables.len().min(self.count as usize)]
     }
 
-    /// Takes the first b tables, which then stand at the end: their numbers, as a queue.
+    /// Takes the first b tables, or all if fewer, which then stand at the end: their numbers, as a queue.
     pub fn handle(&mut self, b: u16) -> Result<Queue, Refusal> {
         let r = unsafe { calls::scullpouch_handle(self.clone(), b) };
         *self = judged(r.refusal, r.queue)?;
@@ -331,7 +335,7 @@ impl Queue {
     }
 }
 
-/// The number of the interface, which changes when a struct or a function does.
+/// The number of the interface, which changes when a struct, a function or the meaning of an answer does.
 pub fn interface() -> u32 {
     unsafe { calls::scullpouch_interface() }
 }

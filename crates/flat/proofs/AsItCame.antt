@@ -1,13 +1,13 @@
 -- A refused call gives back the table, the state, the queue or the buffer as it came.
 -- Assumes nothing.
-use mathlib.Core.Path.{_≡_, refl, _∙_, sym, ap}
+use mathlib.Core.Path.{_≡_, refl, _∙_, sym, ap, ap₂}
 use mathlib.Core.Bool.{Bool, true, false, cond}
 use mathlib.Core.List.{List, []}
 use Prim.Native.Nat.{ℕ}
 use lib.Dec.{eqb}
 use lib.ListN.{length}
 use borrow.Author.Tests.{eqb-false, ne-eqb}
-use Rattle.questions.specs.Questions.{Ask, firstNo, answer}
+use Rattle.questions.specs.Questions.{Ask, firstNo, Answer, answer}
 use Rattle.calendar.specs.declared.Calendar.{Calendar}
 use Rattle.calendar.specs.Trading.{closeDay, reopenDay}
 use Rattle.product.specs.Fields.{idRight, idOf, kindRight, fieldsRight, productRight}
@@ -19,8 +19,12 @@ use Rattle.table.specs.Table.{sound, moved, refusedWith, answered, zeroTable, o
 use Rattle.table.proofs.Calls.{roll-10, close-10}
 use Rattle.table.proofs.Reopened.{reopen-10}
 use Rattle.measures.specs.declared.Measured.{Measured}
-use Rattle.measures.specs.Measures.{measureAsks, measuredBy, unmeasured, measureCall}
+use Rattle.measures.specs.Measures.{measureCall}
 use Rattle.measures.proofs.Answers.{measure-10}
+use Rattle.measures.proofs.Kept.{given-back}
+use Rattle.values.proofs.Answers.{last-day-10, due-10}
+use Rattle.prices.proofs.Answers.{tick-10, cash-10}
+use Rattle.vendor.proofs.Tables.{vendor-10}
 use Rattle.drafts.specs.Drafts.{writeAsks}
 use Rattle.writing.specs.Writing.{writeCall, bufferAfter}
 use Rattle.intake.specs.declared.Intake.{Intake}
@@ -34,7 +38,7 @@ use Rattle.flat.specs.declared.FlatTable.{FlatTable}
 use Rattle.flat.specs.declared.FlatOutcome.{FlatOutcome}
 use Rattle.flat.specs.declared.FlatMeasured.{FlatMeasured}
 use Rattle.flat.specs.Flat.{unflatProduct, unflatTable, flatTable, flatOutcome, flatMeasured, refusedOn, outcomeOn, unmeasuredOn, measuredOn}
-use Rattle.flat.specs.AsItCame.{TableCall, roll, close, reopen, measure, refusalOn, tableAfter, CallsOwn, OnFlat, AsItCame}
+use Rattle.flat.specs.AsItCame.{TableCall, roll, close, reopen, measure, refusalOn, tableAfter, CallsOwn, ReadCall, last-day, due, tick, cash, judge, readRefusal, OnFlat, AsItCame}
 use Rattle.flat.proofs.Answers.{outcome-no, measured-no}
 use Rattle.flat.proofs.Undo.{table-forth}
 
@@ -42,6 +46,24 @@ use Rattle.flat.proofs.Undo.{table-forth}
 refused-one : {A : Type 0} (refusal : A → ℕ) (test : Bool) (accepted other : A) → refusal accepted ≡ 0 → (refusal (cond test accepted other) ≡ 0 → ⊥) → cond test accepted other ≡ other
 refused-one refusal true accepted other e no-zero = absurd (no-zero e)
 refused-one refusal false accepted other e no-zero = refl
+
+-- an accepted value or another, by whether a number is 0
+module _ {A : Type 0} (n : ℕ) (accepted other : A) where
+  -- it has the number where both have
+  chosen-number : (number : A → ℕ) → number accepted ≡ n → number other ≡ n → number (cond (eqb n 0) accepted other) ≡ n
+  chosen-number number a b = go (eqb n 0)
+    where
+      go : (test : Bool) → number (cond test accepted other) ≡ n
+      go true = a
+      go false = b
+
+  -- it is the accepted one where the other is the same
+  chosen-own : ((n ≡ 0 → ⊥) → other ≡ accepted) → cond (eqb n 0) accepted other ≡ accepted
+  chosen-own same = go (eqb n 0) refl
+    where
+      go : (test : Bool) → eqb n 0 ≡ test → cond test accepted other ≡ accepted
+      go true e = refl
+      go false e = same (eqb-false n 0 e)
 
 -- a call on a table: refused, it is the table with the number and counts 0 and 0
 answered-same : (t : Table) (asks : List Ask) (o : Outcome) → o .refusal ≡ 0 → (answered t asks o .refusal ≡ 0 → ⊥) → answered t asks o ≡ refusedWith t (firstNo asks)
@@ -60,13 +82,13 @@ reopen-same : (t : Table) (day : ℕ) → (reopenCall t day .refusal ≡ 0 → �
 unfolding reopenCall moved
 reopen-same t day = answered-same t (reopenAsks t day) (moved t (reopenDay (t .calendar) day) (t .date)) refl
 
-measure-same : (t : Table) (p q price : ℕ) → (measureCall t p q price .refusal ≡ 0 → ⊥) → measureCall t p q price ≡ unmeasured t (firstNo (measureAsks t p q price))
-unfolding measureCall
-measure-same t p q price no-zero = refused-one (λ (m : Measured). m .refusal) (eqb (firstNo (measureAsks t p q price)) 0) (measuredBy t p q price) (unmeasured t (firstNo (measureAsks t p q price))) refl no-zero
-
 open-same : (f id : List ℕ) (date : ℕ) → (openCall f id date .refusal ≡ 0 → ⊥) → openCall f id date ≡ refusedWith zeroTable (firstNo (openAsks f id date))
 unfolding openCall
 open-same f id date = answered-same zeroTable (openAsks f id date) _ refl
+
+-- equal answers have the same number
+same-number : {A : Type 0} {r s : Answer A} → r ≡ s → r .refusal ≡ s .refusal
+same-number {A} e = ap (λ (a : Answer A). a .refusal) e
 
 -- 7 refuses a product of zeros
 zero-not-right : productRight zeroProduct ≡ false
@@ -77,19 +99,11 @@ module _ (t : FlatTable) where
   -- the number is the call's own
   outcome-number : (o : Outcome) → outcomeOn t o .refusal ≡ o .refusal
   unfolding outcomeOn
-  outcome-number o = go (eqb (o .refusal) 0)
-    where
-      go : (b : Bool) → cond b (flatOutcome o) (refusedOn t (o .refusal)) .refusal ≡ o .refusal
-      go true = refl
-      go false = refl
+  outcome-number o = chosen-number (o .refusal) (flatOutcome o) (refusedOn t (o .refusal)) (λ (r : FlatOutcome). r .refusal) refl refl
 
   measured-number : (m : Measured) → measuredOn t m .refusal ≡ m .refusal
   unfolding measuredOn
-  measured-number m = go (eqb (m .refusal) 0)
-    where
-      go : (b : Bool) → cond b (flatMeasured m) (unmeasuredOn t (m .refusal)) .refusal ≡ m .refusal
-      go true = refl
-      go false = refl
+  measured-number m = chosen-number (m .refusal) (flatMeasured m) (unmeasuredOn t (m .refusal)) (λ (r : FlatMeasured). r .refusal) refl refl
 
   -- refused, the table is the one that came
   outcome-same : (o : Outcome) → (outcomeOn t o .refusal ≡ 0 → ⊥) → outcomeOn t o .table ≡ t
@@ -104,27 +118,24 @@ module _ (t : FlatTable) where
   table-same (reopen day) = outcome-same (reopenCall (unflatTable t) day)
   table-same (measure p q price) = measured-same (measureCall (unflatTable t) p q price)
 
-  -- a number that is a kind
+  -- its product's kind number is a kind
   module _ (right : kindRight (t .product .kind) ≡ true) where
     outcome-own : (o : Outcome) (n : ℕ) → ((o .refusal ≡ 0 → ⊥) → o ≡ refusedWith (unflatTable t) n) → outcomeOn t o ≡ flatOutcome o
     unfolding outcomeOn
-    outcome-own o n same = go (eqb (o .refusal) 0) refl
-      where
-        go : (b : Bool) → eqb (o .refusal) 0 ≡ b → cond b (flatOutcome o) (refusedOn t (o .refusal)) ≡ flatOutcome o
-        go true e = refl
-        go false e =
-            let s = same (eqb-false (o .refusal) 0 e) in
-            ap (λ (r : Outcome). refusedOn t (r .refusal)) s ∙ ap (λ (f : FlatTable). refusedOn f n) (sym (table-forth t right)) ∙ sym (ap flatOutcome s)
+    outcome-own o n same =
+        chosen-own (o .refusal) (flatOutcome o) (refusedOn t (o .refusal))
+        (λ no-zero.
+        let s = same no-zero in
+        ap (λ (r : Outcome). refusedOn t (r .refusal)) s ∙ ap (λ (f : FlatTable). refusedOn f n) (sym (table-forth t right)) ∙ sym (ap flatOutcome s))
 
-    measured-own : (m : Measured) (n : ℕ) → ((m .refusal ≡ 0 → ⊥) → m ≡ unmeasured (unflatTable t) n) → measuredOn t m ≡ flatMeasured m
+    measured-own : (p q price : ℕ) → measuredOn t (measureCall (unflatTable t) p q price) ≡ flatMeasured (measureCall (unflatTable t) p q price)
     unfolding measuredOn
-    measured-own m n same = go (eqb (m .refusal) 0) refl
-      where
-        go : (b : Bool) → eqb (m .refusal) 0 ≡ b → cond b (flatMeasured m) (unmeasuredOn t (m .refusal)) ≡ flatMeasured m
-        go true e = refl
-        go false e =
-            let s = same (eqb-false (m .refusal) 0 e) in
-            ap (λ (r : Measured). unmeasuredOn t (r .refusal)) s ∙ ap (λ (f : FlatTable). unmeasuredOn f n) (sym (table-forth t right)) ∙ sym (ap flatMeasured s)
+    measured-own p q price =
+        let m = measureCall (unflatTable t) p q price in
+        chosen-own (m .refusal) (flatMeasured m) (unmeasuredOn t (m .refusal))
+        (λ no-zero.
+        let g = given-back (unflatTable t) p q price no-zero in
+        ap₂ (λ (n : ℕ) (f : FlatTable). record { refusal = m .refusal; price = n; table = f }) (sym (g .no-price)) (sym (table-forth t right) ∙ ap flatTable (sym (g .same))))
 
     calls-own : CallsOwn t
     calls-own =
@@ -133,10 +144,10 @@ module _ (t : FlatTable) where
           rolled = λ date. outcome-own (rollCall u date) _ (roll-same u date);
           closed = λ day. outcome-own (closeCall u day) _ (close-same u day);
           reopened = λ day. outcome-own (reopenCall u day) _ (reopen-same u day);
-          measured = λ p q price. measured-own (measureCall u p q price) _ (measure-same u p q price);
+          measured = measured-own;
         }
 
-  -- a number that is no kind
+  -- its product's kind number is no kind
   module _ (wrong : kindRight (t .product .kind) ≡ false) where
     unsound : sound (unflatTable t) ≡ false
     unfolding sound unflatProduct
@@ -148,8 +159,15 @@ module _ (t : FlatTable) where
     ten (reopen day) = outcome-number (reopenCall (unflatTable t) day) ∙ ap (λ (o : Outcome). o .refusal) (reopen-10 (unflatTable t) day unsound)
     ten (measure p q price) = measured-number (measureCall (unflatTable t) p q price) ∙ ap (λ (m : Measured). m .refusal) (sym (measure-10 (unflatTable t) p q price unsound))
 
+    ten-read : (c : ReadCall) → readRefusal t c ≡ 10
+    ten-read (last-day key) = same-number (last-day-10 (unflatTable t) key unsound)
+    ten-read (due day) = same-number (due-10 (unflatTable t) day unsound)
+    ten-read (tick price) = tick-10 (unflatTable t) price unsound
+    ten-read (cash contracts agreed final) = same-number (cash-10 (unflatTable t) contracts agreed final unsound)
+    ten-read (judge list) = same-number (vendor-10 (unflatTable t) list unsound)
+
   pub on-flat : OnFlat t
-  on-flat = record { as-it-came = table-same; own = calls-own; no-kind = unsound; ten = ten }
+  on-flat = record { as-it-came = table-same; own = calls-own; no-kind = unsound; ten = ten; ten-read = ten-read }
 
 state-same : (s : Intake) (b : List ℕ) → (takeCall s b .refusal ≡ 0 → ⊥) → takeCall s b .state ≡ s
 unfolding takeCall

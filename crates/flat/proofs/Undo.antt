@@ -36,7 +36,7 @@ product-back : (p : Product) → unflatProduct (flatProduct p) ≡ p
 unfolding unflatProduct
 product-back p = rw (kind-right (p .kind), kind-back (p .kind)) refl
 
-pub product-forth : (p : FlatProduct) → kindRight (p .kind) ≡ true → flatProduct (unflatProduct p) ≡ p
+product-forth : (p : FlatProduct) → kindRight (p .kind) ≡ true → flatProduct (unflatProduct p) ≡ p
 unfolding unflatProduct
 product-forth p right = rw (right, number-back (p .kind) right) refl
 

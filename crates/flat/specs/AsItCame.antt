@@ -1,4 +1,4 @@
--- What a refused call gives back: the table, the state, the queue or the buffer as it came (01, Questions; 02, notes 7, 8, 9, 11 and 13).
+-- What a refused call gives back: the table, the state, the queue or the buffer as it came (01, Questions; 02, notes 7, 8, 9, 11 and 13); and the 10 of a table whose product's kind number is no kind.
 -- Assumes nothing.
 use Prim.Native.Nat.{ℕ}
 use mathlib.Core.Path.{_≡_}
@@ -8,7 +8,10 @@ use lib.ListN.{length}
 use Rattle.calendar.specs.declared.Calendar.{Calendar}
 use Rattle.product.specs.Fields.{kindRight}
 use Rattle.table.specs.Table.{sound, zeroTable, openCall, rollCall, closeCall, reopenCall}
+use Rattle.values.specs.Values.{lastDayCall, dueCall}
+use Rattle.prices.specs.Prices.{tickCall, cashCall}
 use Rattle.measures.specs.Measures.{measureCall}
+use Rattle.vendor.specs.Vendor.{vendorCall}
 use Rattle.writing.specs.Writing.{writeCall, bufferAfter}
 use Rattle.intake.specs.declared.Intake.{Intake}
 use Rattle.intake.specs.Intake.{takeCall}
@@ -38,23 +41,39 @@ tableAfter t (close day) = outcomeOn t (closeCall (unflatTable t) day) .table
 tableAfter t (reopen day) = outcomeOn t (reopenCall (unflatTable t) day) .table
 tableAfter t (measure p q price) = measuredOn t (measureCall (unflatTable t) p q price) .table
 
--- of a flat table whose number is a kind: what is given back is what the call on the table gives, all of it
+-- what is given back is what the call on the table gives, all of it
 pub record CallsOwn (t : FlatTable) : Type 0 where
   pub rolled : (date : ℕ) → outcomeOn t (rollCall (unflatTable t) date) ≡ flatOutcome (rollCall (unflatTable t) date)
   pub closed : (day : ℕ) → outcomeOn t (closeCall (unflatTable t) day) ≡ flatOutcome (closeCall (unflatTable t) day)
   pub reopened : (day : ℕ) → outcomeOn t (reopenCall (unflatTable t) day) ≡ flatOutcome (reopenCall (unflatTable t) day)
   pub measured : (p q price : ℕ) → measuredOn t (measureCall (unflatTable t) p q price) ≡ flatMeasured (measureCall (unflatTable t) p q price)
 
--- of every value of a flat table
+-- a call that only reads a table, with its arguments
+pub data ReadCall : Type 0 where
+  last-day due tick : ℕ → ReadCall
+  cash : (contracts agreed final : ℕ) → ReadCall
+  judge : List ℕ → ReadCall
+
+-- the number that it gives on a flat table
+abbrev pub readRefusal : FlatTable → ReadCall → ℕ
+readRefusal t (last-day key) = lastDayCall (unflatTable t) key .refusal
+readRefusal t (due day) = dueCall (unflatTable t) day .refusal
+readRefusal t (tick price) = tickCall (unflatTable t) price
+readRefusal t (cash contracts agreed final) = cashCall (unflatTable t) contracts agreed final .refusal
+readRefusal t (judge list) = vendorCall (unflatTable t) list .refusal
+
+-- of a flat table, whatever its fields are
 pub record OnFlat (t : FlatTable) : Type 0 where
   -- 'With it: table calls return the same table ..'
   pub as-it-came : (c : TableCall) → (refusalOn t c ≡ 0 → ⊥) → tableAfter t c ≡ t
+  -- its product's kind number is a kind
   pub own : kindRight (t .product .kind) ≡ true → CallsOwn t
-  -- a number that is no kind: the table is not sound, so every call gets 10
+  -- its product's kind number is no kind: the table is not sound, so every call on it gets 10
   pub no-kind : kindRight (t .product .kind) ≡ false → sound (unflatTable t) ≡ false
   pub ten : kindRight (t .product .kind) ≡ false → (c : TableCall) → refusalOn t c ≡ 10
+  pub ten-read : kindRight (t .product .kind) ≡ false → (c : ReadCall) → readRefusal t c ≡ 10
 
--- of the other calls that carry something
+-- of calls that have no table among their arguments
 pub record AsItCame : Type 0 where
   -- '(open: a table of zeros)'
   pub opened : (f id : List ℕ) (date : ℕ) → (openCall f id date .refusal ≡ 0 → ⊥) → flatOutcome (openCall f id date) .table ≡ flatTable zeroTable

@@ -1,4 +1,4 @@
--- Tables, products and answers as programs in other languages hold them: all is the same, but a kind is the number that a record has for it.
+-- Tables, products and answers as programs in other languages hold them: all is the same, but a kind is the number that a record has for it, and an answer that is an enum is a refusal with its values.
 -- Assumes nothing.
 use Prim.Native.Nat.{ℕ, _%_}
 use mathlib.Core.Path.{_≡_}
@@ -23,7 +23,7 @@ use Rattle.flat.specs.declared.FlatMeasured.{FlatMeasured}
 use Rattle.flat.specs.declared.DateReply.{DateReply}
 use Rattle.flat.specs.declared.VerdictReply.{VerdictReply}
 
--- the product that a flat one stands for; one of zeros, which 7 refuses, where its number is no kind
+-- the product that a flat one stands for; one of zeros, which 7 refuses, where its kind number is no kind
 unfoldable pub unflatProduct : FlatProduct → Product
 unflatProduct p =
     cond (kindRight (p .kind))
@@ -38,7 +38,7 @@ unflatProduct p =
     })
     zeroProduct
 
--- the table that a flat one stands for; it is not sound (10) where the number is no kind
+-- the table that a flat one stands for; it is not sound (10) where its product's kind number is no kind
 abbrev pub unflatTable : FlatTable → Table
 unflatTable t =
     record {
@@ -89,7 +89,7 @@ refusedOn t number = record { refusal = number; entered = 0; left = 0; table = t
 unfoldable pub outcomeOn : FlatTable → Outcome → FlatOutcome
 outcomeOn t o = cond (eqb (o .refusal) 0) (flatOutcome o) (refusedOn t (o .refusal))
 
--- the same of a measure, '(price 0 if refused)' (02, note 11)
+-- a refused measure: the flat table as it came, '(price 0 if refused)' (02, note 11)
 abbrev pub unmeasuredOn : FlatTable → ℕ → FlatMeasured
 unmeasuredOn t number = record { refusal = number; price = 0; table = t }
 
@@ -105,7 +105,7 @@ dateReply r = record { refusal = r .refusal; value = record { year = r .year; mo
 abbrev pub verdictReply : VerdictReply → Answer Judgement
 verdictReply r = record { refusal = r .refusal; value = record { same = r .same; key = r .key } }
 
--- the bytes of a product's record; a number that is no kind is laid out as it is, and writing refuses it with 7
+-- the bytes of a product's record; a kind number that is no kind stands as it is, and a size above 65,535.9999 shares as 0 shares: writing refuses both, with 7 where 3 to 6 are answered yes
 unfoldable pub recordFlat : FlatProduct → List ℕ
 recordFlat p =
     fieldBytes (p .id) (p .group) (p .market) (p .kind) (sharesOf (p .size)) (p .tick) (p .currency) (p .size % 10000)

@@ -83,8 +83,8 @@ pub struct VerdictReply {
     pub key: u16,
 }
 
-// The product that a flat one stands for; one of zeros where its number is no kind.
-pub fn unflat_product(p: FlatProduct) -> Product
+// The product that a flat one stands for; one of zeros where its kind number is no kind.
+fn unflat_product(p: FlatProduct) -> Product
     ensures { λ r. ⌜ r ≡ unflatProduct p ⌝ }
 {
     if !product::kind_right(p.kind) {
@@ -106,7 +106,7 @@ pub fn unflat_product(p: FlatProduct) -> Product
     }
 }
 
-// The table that a flat one stands for. Where its number is no kind, it is not sound.
+// The table that a flat one stands for. Where its product's kind number is no kind, it is not sound.
 pub fn unflat_table(t: FlatTable) -> Table
     ensures { λ r. ⌜ r ≡ unflatTable t ⌝ }
 {
@@ -123,7 +123,7 @@ pub fn unflat_table(t: FlatTable) -> Table
 }
 
 // A product, flat.
-pub fn flat_product(p: Product) -> FlatProduct
+fn flat_product(p: Product) -> FlatProduct
     ensures { λ r. ⌜ r ≡ flatProduct p ⌝ }
 {
     let id = p.id;
@@ -144,7 +144,7 @@ pub fn flat_product(p: Product) -> FlatProduct
 }
 
 // A table, flat.
-pub fn flat_table(t: Table) -> FlatTable
+fn flat_table(t: Table) -> FlatTable
     ensures { λ r. ⌜ r ≡ flatTable t ⌝ }
 {
     let product = flat_product(t.product);

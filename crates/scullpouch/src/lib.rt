@@ -38,7 +38,7 @@ ghost use Rattle.measures.specs.Measures.{measureCall};
 ghost use Rattle.vendor.specs.Vendor.{vendorCall};
 ghost use Rattle.flat.specs.Flat.{unflatTable, flatOutcome, outcomeOn, measuredOn, dateReply, verdictReply, recordFlat};
 
-// The number of this interface: it changes when a struct or a function does.
+// The number of this interface: it changes when a struct, a function or the meaning of an answer does.
 #[no_mangle]
 pub extern "C" fn scullpouch_interface() -> u32
     ensures { λ r. ⌜ r ≡ 1 ⌝ }
@@ -107,7 +107,7 @@ pub extern "C" fn scullpouch_reopen(t: FlatTable, day: u16) -> FlatOutcome
     flat::outcome_on(t, table.reopen(day))
 }
 
-// A capital measure on a future, p for q, and the settlement price after it.
+// A capital measure on a future, p for q: from the settlement price before it the one after it.
 #[no_mangle]
 pub extern "C" fn scullpouch_measure(t: FlatTable, p: u16, q: u16, price: u32) -> FlatMeasured
     ensures { λ r. ⌜ r ≡ measuredOn t (measureCall (unflatTable t) p q price) ⌝ }
@@ -132,7 +132,7 @@ pub extern "C" fn scullpouch_due(t: FlatTable, day: u16) -> DayReply
     values::due(flat::unflat_table(t), day)
 }
 
-// Whether a price passes.
+// 0 where a price passes, else the refusal.
 #[no_mangle]
 pub extern "C" fn scullpouch_tick(t: FlatTable, price: u32) -> u8
     ensures { λ r. ⌜ r ≡ tickCall (unflatTable t) price ⌝ }
@@ -173,7 +173,7 @@ pub extern "C" fn scullpouch_record(p: FlatProduct) -> FlatRecord
     flat::flat_record(p)
 }
 
-// Says the number of blocks of a file that is handed over block by block.
+// Begins a load by blocks, of so many blocks.
 #[no_mangle]
 pub extern "C" fn scullpouch_announce(blocks: u16) -> Taken
     ensures { λ r. ⌜ r ≡ announceCall blocks ⌝ }
