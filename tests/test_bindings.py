@@ -377,10 +377,10 @@ class Interface(unittest.TestCase):
 
     # No call keeps or allocates anything: the library calls nothing that could, and has no data of its own.
     def test_nothing_kept(self):
-        self.assertLessEqual({name for name in self.symbols('--undefined-only') if name.startswith('mem')},
-                             {'memcpy', 'memset', 'memmove', 'memcmp'})
-        others = {name for name in self.symbols('--undefined-only') if not name.startswith(('mem', '_'))}
-        self.assertEqual(others, set())
+        self.assertLessEqual(self.symbols('--undefined-only'), {
+            'memcpy', 'memset', 'memmove', 'memcmp',
+            # what every shared object has from its linker
+            '__cxa_finalize', '__gmon_start__', '_ITM_deregisterTMCloneTable', '_ITM_registerTMCloneTable'})
         _, data, bss, *_ = map(int, re.findall(r'\d+', run('size', '-t', BUILT.library).decode().splitlines()[-1]))
         self.assertEqual((data, bss), (0, 0))
 

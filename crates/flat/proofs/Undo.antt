@@ -1,6 +1,6 @@
 -- A table and its flat form stand for each other.
 -- Assumes nothing.
-use mathlib.Core.Path.{_≡_, refl, ap, _∙_}
+use mathlib.Core.Path.{_≡_, refl, ap}
 use mathlib.Core.Bool.{true}
 use Prim.Native.Nat.{ℕ}
 use Rattle.product.specs.Fields.{kindOf, kindNumber, kindRight}
@@ -9,8 +9,9 @@ use Rattle.product.specs.declared.Term.the-variants.{Months12, Months24, Months
 use Rattle.product.specs.declared.Kind.{Kind}
 use Rattle.product.specs.declared.Kind.the-variants.{Future, Option}
 use Rattle.product.specs.declared.Product.{Product}
-use Rattle.product.proofs.KindNumbers.{kind-of-number, kind-found}
+use Rattle.product.proofs.KindNumbers.{kind-of-number}
 use Rattle.master.specs.Products.{kindOr}
+use Rattle.master.proofs.Accepting.{kind-again}
 use Rattle.writing.specs.Writing.{recordBytes}
 use Rattle.flat.specs.declared.FlatProduct.{FlatProduct}
 use Rattle.flat.specs.declared.FlatTable.{FlatTable}
@@ -27,18 +28,13 @@ kind-right (Option Weeks5) = refl
 kind-back : (kind : Kind) → kindOr (kindOf (kindNumber kind)) ≡ kind
 kind-back kind = ap kindOr (kind-of-number kind)
 
-number-back : (number : ℕ) → kindRight number ≡ true → kindNumber (kindOr (kindOf number)) ≡ number
-number-back number right =
-    let f = kind-found number right in
-    ap (λ answer. kindNumber (kindOr answer)) (f .found) ∙ f .has-number
-
 product-back : (p : Product) → unflatProduct (flatProduct p) ≡ p
 unfolding unflatProduct
 product-back p = rw (kind-right (p .kind), kind-back (p .kind)) refl
 
 product-forth : (p : FlatProduct) → kindRight (p .kind) ≡ true → flatProduct (unflatProduct p) ≡ p
 unfolding unflatProduct
-product-forth p right = rw (right, number-back (p .kind) right) refl
+product-forth p right = rw (right, kind-again (p .kind) right) refl
 
 pub table-forth : (t : FlatTable) → kindRight (t .product .kind) ≡ true → flatTable (unflatTable t) ≡ t
 table-forth t right = rw (product-forth (t .product) right) refl

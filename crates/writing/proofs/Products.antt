@@ -12,16 +12,17 @@ use lib.Seq.{ext-getD, length-take-le, getD-take, getD-drop}
 use Rattle.questions.specs.Search.{every}
 use borrow.Author.Tests.{le-leb, lt-leb}
 use Rattle.questions.proofs.Bools.{lt-or-ge}
-use Rattle.product.specs.Fields.{kindNumber, kindOf, kindRight, fileSizeRight, fieldsRight, productRight}
+use Rattle.product.specs.Fields.{kindNumber, kindRight, fileSizeRight, fieldsRight, productRight}
 use Rattle.product.specs.declared.Product.{Product}
-use Rattle.product.proofs.KindNumbers.{kind-of-number, kind-found}
+use Rattle.product.proofs.KindNumbers.{kind-of-number}
 use Rattle.product.proofs.RightFields.{kind-of-fields}
 use Rattle.blocks.specs.Blocks.{numberAt, zeros}
 use Rattle.records.specs.Records.{threeBytes, fourBytes, sizeAt, recordRight}
 use Rattle.records.proofs.Parts.{RecordParts, record-parts}
 use Rattle.years.specs.Calendars.{listed}
 use Rattle.years.proofs.Filling.{listed-length, listed-at}
-use Rattle.master.specs.Products.{kindOr, productFrom}
+use Rattle.master.specs.Products.{productFrom}
+use Rattle.master.proofs.Accepting.{kind-again}
 use Rattle.writing.specs.Writing.{fieldBytes, sharesOf, recordBytes}
 use Rattle.writing.specs.Theorems.{areBytes, RecordOf}
 use Rattle.writing.proofs.Bytes.{byte-below, zero-at}
@@ -182,9 +183,6 @@ module _ (r : List ℕ) (long : length r ≡ 32) (bytes : areBytes r ≡ true) (
   kind-right : kindRight (getD r 12 0) ≡ true
   kind-right = kind-of-fields _ _ _ _ _ _ _ (parts .fields)
 
-  kind-again : kindNumber (kindOr (kindOf (getD r 12 0))) ≡ getD r 12 0
-  kind-again = let k = kind-found (getD r 12 0) kind-right in rw (k .found) (k .has-number)
-
   high-again : (i : ℕ) → numberAt r i / 256 ≡ getD r i 0
   unfolding numberAt
   high-again i = omega (arith, byte-below r bytes (i + 1))
@@ -221,4 +219,4 @@ module _ (r : List ℕ) (long : length r ≡ 32) (bytes : areBytes r ≡ true) (
   pub record-again : recordBytes (productFrom r) ≡ r
   unfolding recordBytes fieldBytes productFrom fourBytes threeBytes listed
   record-again =
-      rw (kind-again, shares-again, part-again, high-again 13, low-again 13, high-again 15, low-again 15, high-again 20, low-again 20) (ap₂ _++_ (sym front) (sym back) ∙ take-append-drop 22 r)
+      rw (kind-again (getD r 12 0) kind-right, shares-again, part-again, high-again 13, low-again 13, high-again 15, low-again 15, high-again 20, low-again 20) (ap₂ _++_ (sym front) (sym back) ∙ take-append-drop 22 r)
