@@ -5,11 +5,11 @@ use product::Kind;
 ghost use mathlib.Core.Path.{_≡_};
 ghost use mathlib.Core.Bool.{false, _&&_};
 ghost use lib.Dec.{leb};
-ghost use lib.ListN.{getD};
+ghost use lib.ListN.{getD, replicate};
 ghost use Prim.Native.Nat.{_-_, _≤_, _<_};
 ghost use Rattle.product.specs.Fields.{kindNumber};
 ghost use Rattle.calendar.specs.Trading.{coverStart, calendarWith};
-ghost use Rattle.listing.specs.Rules.{front, countFrom, nextOf};
+ghost use Rattle.listing.specs.Rules.{front, countFrom, nextOf, unused};
 ghost use Rattle.expiry.specs.LastDays.{weeklyFriday, keyOf, lastTradingDay};
 ghost use Rattle.listing.specs.Months.{monthSets, names2005, inSet, setAt, placesOfKind, countedFor, ruleOf, listingOf, weekIntoCover};
 
@@ -169,19 +169,26 @@ pub fn keys_before(kind: Kind, cover: Cover, key: u16) -> u16
     key - first
 }
 
-// The fresh listing of a product on a date, by the cover and the lent maps.
-pub fn list_in(cover: Cover, closed: &[u8], kind: Kind, group: [u8; 4], date: u16) -> Listing
-    ensures { λ r. ⌜ r ≡ listingOf (calendarWith cover (now (closed .entry))) kind group date ⌝ }
+// Fifteen places, none of which is used.
+pub fn unused_places() -> [Maturity; 15]
+    ensures { λ r. ⌜ r ≡ replicate 15 unused ⌝ }
 {
-    let row = product::kind_number(kind) as usize;
-    let end = expiry::end_key(kind, cover);
     let unused = Maturity {
         key: 0,
         day: 0,
         back: 0,
         number: 0,
     };
-    let mut maturities = [unused; 15];
+    [unused; 15]
+}
+
+// The fresh listing of a product on a date, by the cover and the lent maps.
+pub fn list_in(cover: Cover, closed: &[u8], kind: Kind, group: [u8; 4], date: u16) -> Listing
+    ensures { λ r. ⌜ r ≡ listingOf (calendarWith cover (now (closed .entry))) kind group date ⌝ }
+{
+    let row = product::kind_number(kind) as usize;
+    let end = expiry::end_key(kind, cover);
+    let mut maturities = unused_places();
     let mut listed: usize = 0;
     let mut from = front_key_in(cover, closed, kind, group, date);
     let mut complete = true;

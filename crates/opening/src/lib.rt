@@ -37,13 +37,7 @@ fn refused_opening(number: u8) -> Opening
 {
     let product = zero_product();
     let calendar = calendar::zero_calendar();
-    let unused = Maturity {
-        key: 0,
-        day: 0,
-        back: 0,
-        number: 0,
-    };
-    let fresh = [unused; 15];
+    let fresh = listing::unused_places();
     Opening {
         refusal: number,
         product,

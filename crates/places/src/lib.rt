@@ -167,13 +167,7 @@ fn number_fresh(old: Places, k: usize, fresh: Places, n: usize, given: u16) -> P
     requires { ⌜ (k ≤ 15) × (n ≤ 15) × (given ≤ 60000) ⌝ }
     ensures { λ r. ⌜ r ≡ places15 (renumbered (take k old) given (take n fresh)) ⌝ }
 {
-    let unused = Maturity {
-        key: 0,
-        day: 0,
-        back: 0,
-        number: 0,
-    };
-    let mut maturities = [unused; 15];
+    let mut maturities = listing::unused_places();
     let mut given_so_far = given;
     let mut i: usize = 0;
     while i < n {

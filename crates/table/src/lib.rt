@@ -121,13 +121,7 @@ pub fn zero_table() -> Table
 {
     let product = opening::zero_product();
     let calendar = calendar::zero_calendar();
-    let unused = Maturity {
-        key: 0,
-        day: 0,
-        back: 0,
-        number: 0,
-    };
-    let maturities = [unused; 15];
+    let maturities = listing::unused_places();
     Table {
         product,
         calendar,

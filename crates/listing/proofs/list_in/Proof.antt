@@ -34,14 +34,18 @@ cast-row c = omega (arith, c .kind-number .ensures, kind-below (c .before .befor
 end-key-requires : tie.Need-end-key-requires Inv-loop μ-loop Inv-steps μ-steps
 end-key-requires c κs = tt
 
+unused-places-requires : tie.Need-unused-places-requires Inv-loop μ-loop Inv-steps μ-steps
+unused-places-requires c κs = tt
+
 front-key-in-requires : tie.Need-front-key-in-requires Inv-loop μ-loop Inv-steps μ-steps
 front-key-in-requires c κs = tt
 
 steps-holds : tie.Need-steps-holds Inv-loop μ-loop Inv-steps μ-steps
 steps-holds c =
-    let start = c .before .before .before .before in
-    rw (c .front-key-in .ensures)
-    (starts _ _ (start .args .kind) _ _ (c .before .before .kind-number .ensures) (c .before .end-key .ensures .1))
+    let at-end-key = c .before .before in
+    let start = at-end-key .before .before .before in
+    rw (c .front-key-in .ensures, c .before .unused-places .ensures)
+    (starts _ _ (start .args .kind) _ _ (at-end-key .before .kind-number .ensures) (at-end-key .end-key .ensures .1))
 
 mul-count : tie.Need-mul-count Inv-loop μ-loop Inv-steps μ-steps
 mul-count c = omega arith
@@ -95,7 +99,7 @@ steps-again c = leaves _ _ _ _ (c .before .loop .inv .0) (c .loop-test .left)
 
 returns : tie.Need-returns Inv-loop μ-loop Inv-steps μ-steps
 returns c =
-    let at-end-key = c .before .before .before in
+    let at-end-key = c .before .before .before .before in
     let at-kind-number = at-end-key .before in
     let start = at-kind-number .before .before in
     finishes (c .before .steps .step) (c .steps-test .left) (c .before .steps .inv) ∙
@@ -104,7 +108,7 @@ returns c =
 returns-2 : tie.Need-returns-2 Inv-loop μ-loop Inv-steps μ-steps
 returns-2 c =
     let at-loop = c .before .before .before in
-    let at-end-key = at-loop .before .before .before .before .before in
+    let at-end-key = at-loop .before .before .before .before .before .before in
     let at-kind-number = at-end-key .before in
     let start = at-kind-number .before .before in
     stops _ _ _ _ (at-loop .loop .inv .0) (c .before .next-in-set .result) (c .before .before .loop-test .taken) (c .before .next-in-set .ensures) (c .if1 .taken) ∙
@@ -121,6 +125,7 @@ list-in-spec =
     kind-number-requires
     cast-row
     end-key-requires
+    unused-places-requires
     front-key-in-requires
     steps-holds
     mul-count

@@ -11,10 +11,14 @@ Inv-loop old k n given fresh maturities₀ given-so-far₀ i₀ maturities given
 abbrev μ-loop : tie.MeasureT-loop
 μ-loop old k n given fresh maturities₀ given-so-far₀ i₀ maturities given-so-far i = n - i
 
+unused-places-requires : tie.Need-unused-places-requires Inv-loop μ-loop
+unused-places-requires c κs = tt
+
 loop-holds : tie.Need-loop-holds Inv-loop μ-loop
 loop-holds c =
-    let fits : c .args .n ≤ length (c .args .t3) = omega (arith, c .good .1 .1 .0 .1 .0 .1) in
-    (fits, omega arith, omega arith, starts _ _ _ _ fits (omega arith))
+    let start = c .before in
+    let fits : start .args .n ≤ length (start .args .t3) = omega (arith, start .good .1 .1 .0 .1 .0 .1) in
+    (fits, omega arith, omega arith, rw (c .unused-places .ensures) (starts _ _ _ _ fits (omega arith)))
 
 mul-m : tie.Need-mul-m Inv-loop μ-loop
 mul-m c = omega arith
@@ -54,6 +58,7 @@ number-fresh-spec =
     (tie.spec
     Inv-loop
     μ-loop
+    unused-places-requires
     loop-holds
     mul-m
     array-copy-out-m
