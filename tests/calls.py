@@ -67,7 +67,7 @@ class Script:
         self.files[name] = data
         return name
 
-    # ---- Days and words ----
+    # ---- Days ----
 
     def interface(self):
         self.ask(('interface',), 1)

@@ -393,7 +393,7 @@ class Interface(unittest.TestCase):
         self.assertIn(f'soname,libscullpouch.so.{major} ', read(BINDINGS, 'install'))
         self.assertIn(f'    {major}\n', read(*CRATE).split('scullpouch_interface')[1])
 
-    # In Python a number or a map that does not fit its C type is a ValueError, and no call is made.
+    # In Python a number or a map that does not fit its C type is a ValueError.
     def test_python_fits(self):
         found = run(sys.executable, '-c', UNFIT, cwd=BUILT.source('python'), env=BUILT.environment)
         self.assertEqual(found.decode().split(), ['years', 'closed', 'closed', 'exchange'])

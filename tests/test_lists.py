@@ -2,6 +2,7 @@
 comparison with compose and decompose can fail: python3 tests/test_lists.py"""
 
 import os
+import shutil
 import sys
 import tempfile
 import unittest
@@ -116,8 +117,9 @@ class Compare(unittest.TestCase):
     def test_wrong(self):
         for way, scripts in (('compose', WRONG_COMPOSE), ('decompose', WRONG_DECOMPOSE)):
             for name, script in scripts.items():
-                with self.subTest(f'{way}: {name}'), self.assertRaises(compare_lists.Difference):
+                with self.subTest(f'{way}: {name}'), self.assertRaises(compare_lists.Difference) as found:
                     self.run_both(self.programs(**{way: script}))
+                shutil.rmtree(os.path.dirname(str(found.exception).rsplit(' ', 1)[1]))
 
     # Blocks that are not full are not given back, and not asked for.
     def test_full(self):

@@ -330,7 +330,7 @@ static inline size_t scullpouch_listed(const scullpouch_table *table) {
 }
 
 /* No call: what the next four share. */
-static inline unsigned scullpouch_helper_moved(const scullpouch_outcome *o, scullpouch_table *table, uint16_t *entered,
+static inline unsigned scullpouch_keep_outcome(const scullpouch_outcome *o, scullpouch_table *table, uint16_t *entered,
                                                uint16_t *left) {
     if (o->refusal != 0) return o->refusal;
     *table = o->table;
@@ -342,23 +342,23 @@ static inline unsigned scullpouch_helper_moved(const scullpouch_outcome *o, scul
 static inline unsigned scullpouch_open_into(scullpouch_table *table, const uint8_t *file, size_t length, const char *id,
                                             uint16_t date, uint16_t *entered, uint16_t *left) {
     scullpouch_outcome o = scullpouch_open(file, length, scullpouch_id_of(id), date);
-    return scullpouch_helper_moved(&o, table, entered, left);
+    return scullpouch_keep_outcome(&o, table, entered, left);
 }
 
 static inline unsigned scullpouch_roll_into(scullpouch_table *table, uint16_t date, uint16_t *entered, uint16_t *left) {
     scullpouch_outcome o = scullpouch_roll(*table, date);
-    return scullpouch_helper_moved(&o, table, entered, left);
+    return scullpouch_keep_outcome(&o, table, entered, left);
 }
 
 static inline unsigned scullpouch_close_into(scullpouch_table *table, uint16_t day, uint16_t *entered, uint16_t *left) {
     scullpouch_outcome o = scullpouch_close(*table, day);
-    return scullpouch_helper_moved(&o, table, entered, left);
+    return scullpouch_keep_outcome(&o, table, entered, left);
 }
 
 static inline unsigned scullpouch_reopen_into(scullpouch_table *table, uint16_t day, uint16_t *entered,
                                               uint16_t *left) {
     scullpouch_outcome o = scullpouch_reopen(*table, day);
-    return scullpouch_helper_moved(&o, table, entered, left);
+    return scullpouch_keep_outcome(&o, table, entered, left);
 }
 
 static inline unsigned scullpouch_measure_into(scullpouch_table *table, uint16_t p, uint16_t q, uint32_t price,

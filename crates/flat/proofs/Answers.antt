@@ -2,7 +2,7 @@
 -- Assumes nothing.
 use mathlib.Core.Path.{_≡_, refl}
 use mathlib.Core.Bool.{true, false}
-use Prim.Native.Nat.{ℕ, _%_}
+use Prim.Native.Nat.{ℕ}
 use borrow.Author.Tests.{eq-eqb, ne-eqb}
 use Rattle.product.specs.Fields.{kindOf, kindRight}
 use Rattle.product.specs.declared.Product.{Product}
@@ -10,10 +10,9 @@ use Rattle.master.specs.Products.{kindOr}
 use Rattle.opening.specs.Opening.{zeroProduct}
 use Rattle.table.specs.declared.Outcome.{Outcome}
 use Rattle.measures.specs.declared.Measured.{Measured}
-use Rattle.writing.specs.Writing.{fieldBytes, sharesOf}
 use Rattle.flat.specs.declared.FlatProduct.{FlatProduct}
 use Rattle.flat.specs.declared.FlatTable.{FlatTable}
-use Rattle.flat.specs.Flat.{unflatProduct, flatOutcome, refusedOn, outcomeOn, flatMeasured, unmeasuredOn, measuredOn, recordFlat}
+use Rattle.flat.specs.Flat.{unflatProduct, flatOutcome, refusedOn, outcomeOn, flatMeasured, unmeasuredOn, measuredOn}
 
 module _ (t : FlatTable) where
   pub outcome-no : (o : Outcome) → (o .refusal ≡ 0 → ⊥) → refusedOn t (o .refusal) ≡ outcomeOn t o
@@ -41,8 +40,3 @@ module _ (p : FlatProduct) where
       → record { id = p .id; group = p .group; market = p .market; kind = kindOr (kindOf (p .kind)); size = p .size; tick = p .tick; currency = p .currency } ≡ unflatProduct p
   unfolding unflatProduct
   product-yes right = rw right refl
-
-  pub record-is : (shares : ℕ) → shares ≡ sharesOf (p .size)
-      → fieldBytes (p .id) (p .group) (p .market) (p .kind) shares (p .tick) (p .currency) (p .size % 10000) ≡ recordFlat p
-  unfolding recordFlat
-  record-is shares e = rw e refl

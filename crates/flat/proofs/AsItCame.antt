@@ -25,6 +25,7 @@ use Rattle.measures.proofs.Kept.{given-back}
 use Rattle.values.proofs.Answers.{last-day-10, due-10}
 use Rattle.prices.proofs.Answers.{tick-10, cash-10}
 use Rattle.vendor.proofs.Tables.{vendor-10}
+use Rattle.history.specs.Book.{Call, roll, close, reopen, measure}
 use Rattle.drafts.specs.Drafts.{writeAsks}
 use Rattle.writing.specs.Writing.{writeCall, bufferAfter}
 use Rattle.intake.specs.declared.Intake.{Intake}
@@ -38,7 +39,7 @@ use Rattle.flat.specs.declared.FlatTable.{FlatTable}
 use Rattle.flat.specs.declared.FlatOutcome.{FlatOutcome}
 use Rattle.flat.specs.declared.FlatMeasured.{FlatMeasured}
 use Rattle.flat.specs.Flat.{unflatProduct, unflatTable, flatTable, flatOutcome, flatMeasured, refusedOn, outcomeOn, unmeasuredOn, measuredOn}
-use Rattle.flat.specs.AsItCame.{TableCall, roll, close, reopen, measure, refusalOn, tableAfter, CallsOwn, ReadCall, last-day, due, tick, cash, judge, readRefusal, OnFlat, AsItCame}
+use Rattle.flat.specs.AsItCame.{refusalOn, tableAfter, CallsOwn, ReadCall, last-day, due, tick, cash, judge, readRefusal, OnFlat, AsItCame}
 use Rattle.flat.proofs.Answers.{outcome-no, measured-no}
 use Rattle.flat.proofs.Undo.{table-forth}
 
@@ -112,7 +113,7 @@ module _ (t : FlatTable) where
   measured-same : (m : Measured) → (measuredOn t m .refusal ≡ 0 → ⊥) → measuredOn t m .table ≡ t
   measured-same m no-zero = ap (λ (r : FlatMeasured). r .table) (sym (measured-no t m (λ e. no-zero (measured-number m ∙ e))))
 
-  table-same : (c : TableCall) → (refusalOn t c ≡ 0 → ⊥) → tableAfter t c ≡ t
+  table-same : (c : Call) → (refusalOn t c ≡ 0 → ⊥) → tableAfter t c ≡ t
   table-same (roll date) = outcome-same (rollCall (unflatTable t) date)
   table-same (close day) = outcome-same (closeCall (unflatTable t) day)
   table-same (reopen day) = outcome-same (reopenCall (unflatTable t) day)
@@ -153,7 +154,7 @@ module _ (t : FlatTable) where
     unfolding sound unflatProduct
     unsound = rw (wrong, zero-not-right) refl
 
-    ten : (c : TableCall) → refusalOn t c ≡ 10
+    ten : (c : Call) → refusalOn t c ≡ 10
     ten (roll date) = outcome-number (rollCall (unflatTable t) date) ∙ ap (λ (o : Outcome). o .refusal) (roll-10 (unflatTable t) date unsound)
     ten (close day) = outcome-number (closeCall (unflatTable t) day) ∙ ap (λ (o : Outcome). o .refusal) (close-10 (unflatTable t) day unsound)
     ten (reopen day) = outcome-number (reopenCall (unflatTable t) day) ∙ ap (λ (o : Outcome). o .refusal) (reopen-10 (unflatTable t) day unsound)

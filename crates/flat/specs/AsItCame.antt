@@ -12,6 +12,7 @@ use Rattle.values.specs.Values.{lastDayCall, dueCall}
 use Rattle.prices.specs.Prices.{tickCall, cashCall}
 use Rattle.measures.specs.Measures.{measureCall}
 use Rattle.vendor.specs.Vendor.{vendorCall}
+use Rattle.history.specs.Book.{Call, roll, close, reopen, measure}
 use Rattle.writing.specs.Writing.{writeCall, bufferAfter}
 use Rattle.intake.specs.declared.Intake.{Intake}
 use Rattle.intake.specs.Intake.{takeCall}
@@ -22,20 +23,15 @@ use Rattle.flat.specs.declared.FlatOutcome.{FlatOutcome}
 use Rattle.flat.specs.declared.FlatMeasured.{FlatMeasured}
 use Rattle.flat.specs.Flat.{unflatTable, flatTable, flatOutcome, flatMeasured, outcomeOn, measuredOn}
 
--- a call that may change a table, with its arguments
-pub data TableCall : Type 0 where
-  roll close reopen : ℕ → TableCall
-  measure : (p q price : ℕ) → TableCall
-
--- the number that a call on a flat table gives
-abbrev pub refusalOn : FlatTable → TableCall → ℕ
+-- the number that a call on a flat table gives, a call that may change it
+abbrev pub refusalOn : FlatTable → Call → ℕ
 refusalOn t (roll date) = outcomeOn t (rollCall (unflatTable t) date) .refusal
 refusalOn t (close day) = outcomeOn t (closeCall (unflatTable t) day) .refusal
 refusalOn t (reopen day) = outcomeOn t (reopenCall (unflatTable t) day) .refusal
 refusalOn t (measure p q price) = measuredOn t (measureCall (unflatTable t) p q price) .refusal
 
 -- the flat table that it gives back
-abbrev pub tableAfter : FlatTable → TableCall → FlatTable
+abbrev pub tableAfter : FlatTable → Call → FlatTable
 tableAfter t (roll date) = outcomeOn t (rollCall (unflatTable t) date) .table
 tableAfter t (close day) = outcomeOn t (closeCall (unflatTable t) day) .table
 tableAfter t (reopen day) = outcomeOn t (reopenCall (unflatTable t) day) .table
@@ -65,12 +61,12 @@ readRefusal t (judge list) = vendorCall (unflatTable t) list .refusal
 -- of a flat table, whatever its fields are
 pub record OnFlat (t : FlatTable) : Type 0 where
   -- 'With it: table calls return the same table ..'
-  pub as-it-came : (c : TableCall) → (refusalOn t c ≡ 0 → ⊥) → tableAfter t c ≡ t
+  pub as-it-came : (c : Call) → (refusalOn t c ≡ 0 → ⊥) → tableAfter t c ≡ t
   -- its product's kind number is a kind
   pub own : kindRight (t .product .kind) ≡ true → CallsOwn t
   -- its product's kind number is no kind: the table is not sound, so every call on it gets 10
   pub no-kind : kindRight (t .product .kind) ≡ false → sound (unflatTable t) ≡ false
-  pub ten : kindRight (t .product .kind) ≡ false → (c : TableCall) → refusalOn t c ≡ 10
+  pub ten : kindRight (t .product .kind) ≡ false → (c : Call) → refusalOn t c ≡ 10
   pub ten-read : kindRight (t .product .kind) ≡ false → (c : ReadCall) → readRefusal t c ≡ 10
 
 -- of calls that have no table among their arguments

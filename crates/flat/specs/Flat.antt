@@ -1,6 +1,6 @@
 -- Tables, products and answers as programs in other languages hold them: all is the same, but a kind is the number that a record has for it, and an answer that is an enum is a refusal with its values.
 -- Assumes nothing.
-use Prim.Native.Nat.{ℕ, _%_}
+use Prim.Native.Nat.{ℕ}
 use mathlib.Core.Path.{_≡_}
 use mathlib.Core.Bool.{true, cond}
 use mathlib.Core.List.{List}
@@ -11,7 +11,7 @@ use Rattle.product.specs.Fields.{kindOf, kindNumber, kindRight}
 use Rattle.product.specs.declared.Product.{Product}
 use Rattle.master.specs.Products.{kindOr}
 use Rattle.opening.specs.Opening.{zeroProduct}
-use Rattle.writing.specs.Writing.{fieldBytes, sharesOf, recordBytes}
+use Rattle.writing.specs.Writing.{sizedBytes, recordBytes}
 use Rattle.table.specs.declared.Table.{Table}
 use Rattle.table.specs.declared.Outcome.{Outcome}
 use Rattle.measures.specs.declared.Measured.{Measured}
@@ -107,8 +107,7 @@ verdictReply r = record { refusal = r .refusal; value = record { same = r .same;
 
 -- the bytes of a product's record; a kind number that is no kind stands as it is, and a size above 65,535.9999 shares as 0 shares: writing refuses both, with 7 where 3 to 6 are answered yes
 unfoldable pub recordFlat : FlatProduct → List ℕ
-recordFlat p =
-    fieldBytes (p .id) (p .group) (p .market) (p .kind) (sharesOf (p .size)) (p .tick) (p .currency) (p .size % 10000)
+recordFlat p = sizedBytes (p .id) (p .group) (p .market) (p .kind) (p .size) (p .tick) (p .currency)
 
 -- a table and its flat form stand for each other, and so do a product and its flat form; the record of a product is that of its flat form
 pub record Undo : Type 0 where

@@ -273,8 +273,6 @@ pub fn flat_record(p: FlatProduct) -> FlatRecord
     let group = p.group;
     let market = p.market;
     let currency = p.currency;
-    let shares = writing::shares_of(p.size);
-    let part = (p.size % 10000) as u16;
-    let bytes = writing::field_bytes(id, group, market, p.kind, shares, p.tick, currency, part);
+    let bytes = writing::sized_bytes(id, group, market, p.kind, p.size, p.tick, currency);
     FlatRecord { bytes }
 }

@@ -40,9 +40,13 @@ unfoldable pub numbersOf : List Reply → List ℕ
 numbersOf [] = []
 numbersOf (r ∷ rs) = r .refusal ∷ r .entered ∷ r .left ∷ r .price ∷ numbersOf rs
 
--- the list holds whole calls, and the buffer has four places for each
+-- a list of so many numbers holds whole calls, and a buffer of so many has four places for each
+abbrev pub lengthsFit : ℕ → ℕ → Bool
+lengthsFit calls buffer = eqb (calls % 4) 0 && leb calls buffer
+
+-- the same of a list and a buffer
 unfoldable pub replayFits : List ℕ → List ℕ → Bool
-replayFits calls buffer = eqb (length calls % 4) 0 && leb (length calls) (length buffer)
+replayFits calls buffer = lengthsFit (length calls) (length buffer)
 
 -- of a table, a list that fits and a buffer before and after: the table is the one that the calls leave, and the buffer starts with their answers
 pub record CallsMade (t : Table) (calls before after : List ℕ) (r : Table) : Type 0 where

@@ -4,15 +4,13 @@ use measures::Measured;
 use table::Outcome;
 use table::Table;
 ghost use mathlib.Core.Path.{_≡_};
-ghost use mathlib.Core.Bool.{_&&_};
 ghost use Prim.Native.Nat.{_+_, _*_, _%_, _≤_};
-ghost use lib.Dec.{eqb, leb};
 ghost use lib.ListN.{length, set};
 ghost use Rattle.table.specs.Table.{openCall};
 ghost use Rattle.history.specs.History.{unpriced, uncounted, tableCall};
-ghost use Rattle.replay.specs.Replay.{shortIn, callOf, callAt, CallsMade, Replayed};
+ghost use Rattle.replay.specs.Replay.{shortIn, callOf, callAt, lengthsFit, CallsMade, Replayed};
 
-// What a run of calls ends with: whether the lists fit each other and the buffer, open's refusal, and the table.
+// What a run of calls ends with: whether the list has whole calls and the buffer room for their answers, open's refusal, and the table.
 pub struct Replay {
     pub fits: bool,
     pub refusal: u8,
@@ -121,7 +119,7 @@ fn run_calls(table: Table, calls: &[u32], buffer: &mut [u32]) -> Table
 
 // Whether a list of so many numbers holds whole calls, and a buffer of so many has four places for each.
 fn lengths_fit(calls: usize, buffer: usize) -> bool
-    ensures { λ r. ⌜ r ≡ (eqb (calls % 4) 0 && leb calls buffer) ⌝ }
+    ensures { λ r. ⌜ r ≡ lengthsFit calls buffer ⌝ }
 {
     (calls % 4 == 0) & (calls <= buffer)
 }

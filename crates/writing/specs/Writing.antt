@@ -43,7 +43,10 @@ fieldBytes id group market kind shares tick currency part =
 unfoldable pub sharesOf : ℕ → ℕ
 sharesOf size = cond (leb size 655359999) (size / 10000) 0
 
+-- the record of fields with a kind's number and a size in ten-thousandths
+abbrev pub sizedBytes : List ℕ → List ℕ → List ℕ → ℕ → ℕ → ℕ → List ℕ → List ℕ
+sizedBytes id group market kind size tick currency = fieldBytes id group market kind (sharesOf size) tick currency (size % 10000)
+
 -- the record of a product
 unfoldable pub recordBytes : Product → List ℕ
-recordBytes p =
-    fieldBytes (p .id) (p .group) (p .market) (kindNumber (p .kind)) (sharesOf (p .size)) (p .tick) (p .currency) (p .size % 10000)
+recordBytes p = sizedBytes (p .id) (p .group) (p .market) (kindNumber (p .kind)) (p .size) (p .tick) (p .currency)

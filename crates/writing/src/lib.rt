@@ -10,7 +10,7 @@ ghost use lib.Seq.{paste};
 ghost use Rattle.calendar.specs.Trading.{calendarOfMaps};
 ghost use Rattle.blocks.specs.Blocks.{weightedSum};
 ghost use Rattle.drafts.specs.Drafts.{highByte, lowByte, headerByte, calendarByte, recordsWithin, productByte, blockByte, blockFor, blocksFor};
-ghost use Rattle.writing.specs.Writing.{writeCall, writeAnswer, bufferAfter, fieldBytes, sharesOf, recordBytes};
+ghost use Rattle.writing.specs.Writing.{writeCall, writeAnswer, bufferAfter, fieldBytes, sharesOf, sizedBytes, recordBytes};
 
 // The refusal, 0 where a file was written, and its length, 0 with a refusal.
 #[repr(C)]
@@ -226,13 +226,30 @@ pub fn field_bytes(
 }
 
 // The whole shares of a size; 0 where it is above all that a record can have.
-pub fn shares_of(size: u32) -> u16
+fn shares_of(size: u32) -> u16
     ensures { λ r. ⌜ r ≡ sharesOf size ⌝ }
 {
     if 655359999 < size {
         return 0;
     }
     (size / 10000) as u16
+}
+
+// The record of fields with a kind's number and a size in ten-thousandths.
+pub fn sized_bytes(
+    id: [u8; 4],
+    group: [u8; 4],
+    market: [u8; 4],
+    kind: u8,
+    size: u32,
+    tick: u16,
+    currency: [u8; 3],
+) -> Record
+    ensures { λ r. ⌜ r ≡ sizedBytes id group market kind size tick currency ⌝ }
+{
+    let shares = shares_of(size);
+    let part = (size % 10000) as u16;
+    field_bytes(id, group, market, kind, shares, tick, currency, part)
 }
 
 // The record of a product. One of less than a share has 0 shares, as one of too many, and question 7 refuses it.
@@ -244,14 +261,13 @@ pub fn record_of(p: Product) -> Record
     let market = p.market;
     let kind = p.kind;
     let currency = p.currency;
-    field_bytes(
+    sized_bytes(
         id,
         group,
         market,
         product::kind_number(kind),
-        shares_of(p.size),
+        p.size,
         p.tick,
         currency,
-        (p.size % 10000) as u16,
     )
 }
