@@ -22,6 +22,9 @@ pub struct Maturity {
     pub number: u16,
 }
 
+// The places of a listing or a table.
+pub type Places = [Maturity; 15];
+
 // A fresh listing: complete where all its maturities are in the cover. Unused places are zero.
 pub struct Listing {
     pub complete: bool,
@@ -170,7 +173,7 @@ pub fn keys_before(kind: Kind, cover: Cover, key: u16) -> u16
 }
 
 // Fifteen places, none of which is used.
-pub fn unused_places() -> [Maturity; 15]
+pub fn unused_places() -> Places
     ensures { λ r. ⌜ r ≡ replicate 15 unused ⌝ }
 {
     let unused = Maturity {

@@ -1,5 +1,6 @@
 // The places of a table: which months are listed, have entered or left, the numbers they have, and whether they are the fresh listing.
 use listing::Maturity;
+use listing::Places;
 use product::Kind;
 ghost use mathlib.Core.Path.{_≡_};
 ghost use mathlib.Core.Bool.{cond};
@@ -10,9 +11,6 @@ ghost use Rattle.questions.specs.Search.{every};
 ghost use Rattle.listing.specs.Rules.{places15};
 ghost use Rattle.listing.specs.Months.{placesOfKind};
 ghost use Rattle.places.specs.Numbering.{placeRight, isListed, numberOf, missing, renumbered, numberedFresh, numbersRight, unlikeBefore, numberRight, withNumber};
-
-// The places of a table.
-pub type Places = [Maturity; 15];
 
 // A maturity with its number, and the count of numbers given after it.
 pub struct NumberedMaturity {

@@ -123,8 +123,14 @@ fn digit(n: u16) -> u8
     b'0' + (n % 10) as u8
 }
 
+// The characters of a month, 2008-03.
+pub type MonthName = [u8; 7];
+
+// The characters of a day, 2008-03-20.
+pub type DayName = [u8; 10];
+
 // A month by its number, as `terms` prints it.
-pub fn month_name(key: u16) -> [u8; 7]
+pub fn month_name(key: u16) -> MonthName
     ensures { λ r. ⌜ r ≡ monthText key ⌝ }
 {
     let year = 2000 + key / 12;
@@ -141,7 +147,7 @@ pub fn month_name(key: u16) -> [u8; 7]
 }
 
 // A day by its date, as `terms` prints it.
-pub fn day_name(day: u16) -> [u8; 10]
+pub fn day_name(day: u16) -> DayName
     ensures { λ r. ⌜ r ≡ dayText day ⌝ }
 {
     let date = printing::date_or_zeros(day);
