@@ -7,7 +7,7 @@ use Rattle.questions.specs.Questions.{firstNo}
 use Rattle.questions.specs.Search.{every, oneOf}
 use Rattle.rounds.specs.declared.Queue.{Queue}
 use Rattle.rounds.specs.Rounds.{queueRight, places200, queueOf, handleCall, changed, joinCall, without, leaveCall}
-use Rattle.rounds.specs.Waiting.{handle, join, leave, takenWithin}
+use Rattle.rounds.specs.Waiting.{handle, join, leave, staysSame, takenWithin}
 
 abbrev four : Queue
 four = queueOf (5 ∷ 7 ∷ 9 ∷ 2 ∷ [])
@@ -44,15 +44,25 @@ unfolding leaveCall changed firstNo queueRight places200 every oneOf without
 no-such-table = refl
 
 -- table 2 at place 4 is not taken within one call of three, and is within two
-not-in-one : takenWithin 1 3 four (handle ∷ handle ∷ []) 2 ≡ false
+not-in-one : takenWithin 1 four (handle 3 ∷ handle 3 ∷ []) 2 ≡ false
 unfolding takenWithin handleCall firstNo queueRight places200 every oneOf
 not-in-one = refl
 
-in-two : takenWithin 2 3 four (handle ∷ join 0 ∷ handle ∷ []) 2 ≡ true
+in-two : takenWithin 2 four (handle 3 ∷ join 0 ∷ handle 3 ∷ []) 2 ≡ true
 unfolding takenWithin handleCall joinCall changed firstNo queueRight places200 every oneOf
 in-two = refl
 
+-- the same with refused calls between them, of 0 and of 250 tables: b stays the same, and they don't count
+refused-between : (staysSame 3 four (handle 3 ∷ handle 0 ∷ handle 250 ∷ handle 3 ∷ []) ≡ true) × (takenWithin 2 four (handle 3 ∷ handle 0 ∷ handle 250 ∷ handle 3 ∷ []) 2 ≡ true)
+unfolding staysSame takenWithin handleCall firstNo queueRight places200 every oneOf
+refused-between = (refl, refl)
+
+-- an accepted call of two is another b
+another-between : staysSame 3 four (handle 3 ∷ handle 2 ∷ []) ≡ false
+unfolding staysSame handleCall firstNo queueRight places200 every oneOf
+another-between = refl
+
 -- where 5, 7 and 9 leave first, it is taken within one
-in-one : takenWithin 1 3 four (leave 5 ∷ leave 7 ∷ leave 9 ∷ handle ∷ []) 2 ≡ true
+in-one : takenWithin 1 four (leave 5 ∷ leave 7 ∷ leave 9 ∷ handle 3 ∷ []) 2 ≡ true
 unfolding takenWithin handleCall leaveCall changed without firstNo queueRight places200 every oneOf
 in-one = refl

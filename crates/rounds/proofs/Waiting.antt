@@ -1,4 +1,4 @@
--- A table waits at most as many calls of the round as its place, divided by b and rounded up.
+-- A table waits at most as many accepted calls of the round as its place, divided by b and rounded up: each of them takes it or moves it up by b places, and nothing else moves it back.
 -- Assumes nothing.
 use Prim.Native.Nat.{ℕ, zero, suc, _+_, _-_, _*_, _≤_, _<_}
 use mathlib.Core.Path.{_≡_, refl, _∙_, sym, ap}
@@ -10,16 +10,16 @@ use native.Mathlib.Omega.{arith}
 use lib.Dec.{ltb, eqb}
 use lib.ListN.{length, take, drop, getD, replicate, length-drop}
 use lib.Seq.{take-append-seam, take-append-le, drop-append-le, take-append-add, split-at, length-take-le}
-use borrow.Author.Tests.{eq-eqb, ne-eqb, lt-ltb}
+use borrow.Author.Tests.{eq-eqb, ne-eqb, lt-ltb, eqb-true}
 use Rattle.questions.specs.Questions.{Ask, firstNo}
 use Rattle.questions.specs.Search.{oneOf}
-use Rattle.questions.proofs.Bools.{clash, and-both, or-left, or-right, lt-or-ge}
+use Rattle.questions.proofs.Bools.{clash, both, and-both, or-left, or-right, lt-or-ge}
 use Rattle.rounds.proofs.Rights.{handle-right, join-right, leave-right, has-room}
 use Rattle.rounds.specs.declared.Queue.{Queue}
 use Rattle.rounds.specs.declared.Handled.{Handled}
 use Rattle.rounds.specs.declared.Changed.{Changed}
 use Rattle.rounds.specs.Rounds.{queued, queueRight, places200, queueOf, handleAsks, handled, handleCall, changed, joinAsks, joinCall, leaveAsks, without, leaveCall}
-use Rattle.rounds.specs.Waiting.{Event, handle, join, leave, queueRun, callsIn, takenWithin, leavesIn, roundedUp, Waiting}
+use Rattle.rounds.specs.Waiting.{Event, handle, join, leave, queueRun, callCount, callsIn, sameAt, staysSame, takes, takenWithin, leavesIn, roundedUp, Waiting}
 
 -- the numbers of a queue of numbers
 queued-of : (xs : List ℕ) → queued (queueOf xs) ≡ xs
@@ -81,6 +81,14 @@ module _ (q : Queue) (b : ℕ) where
   unfolding handleCall
   handle-no e = rw e
 
+-- an accepted call has the b that stays the same
+same-b : (b : ℕ) (q : Queue) (other : ℕ) → sameAt b q (handle other) ≡ true → eqb (handleCall q other .refusal) 0 ≡ true → other ≡ b
+same-b b q other o e = eqb-true other b (rw e at o)
+
+-- a refused one does not count
+not-counted : (q : Queue) (b : ℕ) → eqb (handleCall q b .refusal) 0 ≡ false → callCount q (handle b) ≡ 0
+not-counted q b e = rw e
+
 module _ (q : Queue) (asks : List Ask) (tables : List ℕ) where
   changed-yes : eqb (firstNo asks) 0 ≡ true → changed q asks tables ≡ record { refusal = 0; queue = queueOf tables }
   unfolding changed
@@ -96,7 +104,7 @@ one-more b n = mul-add b 1 n ∙ ap (λ (m : ℕ). m + b * n) (mul-one b)
 
 -- a table with fewer than b · n before it is taken within n calls of the events that follow, whatever the queue then is
 abbrev Waits : ℕ → List Event → ℕ → Type 0
-Waits b es x = (n : ℕ) (q : Queue) (s t : List ℕ) → queued q ≡ s ++ (x ∷ t) → leavesIn b q es x ≡ false → length s < b * n → n ≤ callsIn b q es → takenWithin n b q es x ≡ true
+Waits b es x = (n : ℕ) (q : Queue) (s t : List ℕ) → queued q ≡ s ++ (x ∷ t) → staysSame b q es ≡ true → leavesIn q es x ≡ false → length s < b * n → n ≤ callsIn q es → takenWithin n q es x ≡ true
 
 -- some calls are left
 some-left : (b n k : ℕ) → k < b * n → ltb 0 n ≡ true
@@ -108,92 +116,101 @@ module _ (b : ℕ) (es : List Event) (x : ℕ) (later : Waits b es x) (q : Queue
   rotated = queueOf (drop b (queued q) ++ take b (queued q))
 
   -- an accepted call takes the table, or moves it up
-  handle-accepted : (n : ℕ) → leavesIn b rotated es x ≡ false → length s < b * (1 + n) → n ≤ callsIn b rotated es → (oneOf (queued (queueOf (take b (queued q)))) x || takenWithin n b rotated es x) ≡ true
-  handle-accepted n l h m = side (lt-or-ge (length s) b)
+  handle-accepted : (n : ℕ) → staysSame b rotated es ≡ true → leavesIn rotated es x ≡ false → length s < b * (1 + n) → n ≤ callsIn rotated es → (oneOf (queued (queueOf (take b (queued q)))) x || takenWithin n rotated es x) ≡ true
+  handle-accepted n u l h m = side (lt-or-ge (length s) b)
     where
-      side : (length s < b) ⊎ (b ≤ length s) → (oneOf (queued (queueOf (take b (queued q)))) x || takenWithin n b rotated es x) ≡ true
+      side : (length s < b) ⊎ (b ≤ length s) → (oneOf (queued (queueOf (take b (queued q)))) x || takenWithin n rotated es x) ≡ true
       side (inl k) =
-          or-left (takenWithin n b rotated es x)
+          or-left (takenWithin n rotated es x)
           (ap (λ (l : List ℕ). oneOf l x) (queued-of (take b (queued q)) ∙ ap (take b) e) ∙ first-taken b s x t k)
       side (inr k) =
           or-right (oneOf (queued (queueOf (take b (queued q)))) x)
           (later n rotated (drop b s) (t ++ take b s)
           (queued-of (drop b (queued q) ++ take b (queued q)) ∙ ap (λ (l : List ℕ). drop b l ++ take b l) e ∙ moved-up b s x t k)
+          u
           l
           (omega (arith, length-drop b s, one-more b n))
           m)
 
-  handle-next : (n : ℕ) (r : Handled) → r ≡ handleCall q b → leavesIn b (r .queue) es x ≡ false → length s < b * suc n → suc n ≤ cond (eqb (r .refusal) 0) 1 0 + callsIn b (r .queue) es
-      → (oneOf (queued (r .taken)) x || takenWithin (suc n - cond (eqb (r .refusal) 0) 1 0) b (r .queue) es x) ≡ true
-  handle-next n r d l h m = go (eqb (firstNo (handleAsks q b)) 0) refl
+  -- what a call of the round leaves of the events
+  abbrev Handles : ℕ → ℕ → Type 0
+  Handles n other = (takes q (handle other) x || takenWithin (suc n - callCount q (handle other)) (handleCall q other .queue) es x) ≡ true
+
+  handle-next : (n other : ℕ) → sameAt b q (handle other) ≡ true → staysSame b (handleCall q other .queue) es ≡ true → leavesIn (handleCall q other .queue) es x ≡ false
+      → length s < b * suc n → suc n ≤ callCount q (handle other) + callsIn (handleCall q other .queue) es → Handles n other
+  handle-next n other o u l h m = go (eqb (firstNo (handleAsks q other)) 0) refl
     where
-      go : (a : Bool) → eqb (firstNo (handleAsks q b)) 0 ≡ a → (oneOf (queued (r .taken)) x || takenWithin (suc n - cond (eqb (r .refusal) 0) 1 0) b (r .queue) es x) ≡ true
+      go : (a : Bool) → eqb (firstNo (handleAsks q other)) 0 ≡ a → Handles n other
       go true a =
-          let j : r ≡ handled (queued q) b = d ∙ handle-yes q b a in
-          let m1 : suc n ≤ 1 + callsIn b rotated es = rw j at m in
+          let accepted : handleCall q other ≡ handled (queued q) other = handle-yes q other a in
+          let same : other ≡ b = same-b b q other o (ap (λ (c : Handled). eqb (c .refusal) 0) accepted) in
+          let j : handleCall q other ≡ handled (queued q) b = accepted ∙ ap (handled (queued q)) same in
+          let m1 : suc n ≤ 1 + callsIn rotated es = rw j at m in
           let one-less : suc n - 1 ≡ n = omega arith in
-          let g : (oneOf (queued (queueOf (take b (queued q)))) x || takenWithin (suc n - 1) b rotated es x) ≡ true = rw one-less (handle-accepted n (rw j at l) (omega (arith, one-more b n)) (omega arith)) in
+          let g : (oneOf (queued (queueOf (take b (queued q)))) x || takenWithin (suc n - 1) rotated es x) ≡ true = rw one-less (handle-accepted n (rw j at u) (rw j at l) (omega (arith, one-more b n)) (omega arith)) in
           rw j g
       go false a =
-          let j : r ≡ record { refusal = firstNo (handleAsks q b); taken = queueOf []; queue = q } = d ∙ handle-no q b a in
-          let k : eqb (r .refusal) 0 ≡ false = ap (λ (c : Handled). eqb (c .refusal) 0) j ∙ a in
-          or-right (oneOf (queued (r .taken)) x)
-          (rw (k, sub-zero (suc n)) (later (suc n) (r .queue) s t (ap (λ (c : Handled). queued (c .queue)) j ∙ e) l h (rw (k, zero-add (callsIn b (r .queue) es)) at m)))
+          let j : handleCall q other ≡ record { refusal = firstNo (handleAsks q other); taken = queueOf []; queue = q } = handle-no q other a in
+          let k : callCount q (handle other) ≡ 0 = not-counted q other (ap (λ (c : Handled). eqb (c .refusal) 0) j ∙ a) in
+          or-right (takes q (handle other) x)
+          (rw (k, sub-zero (suc n)) (later (suc n) (handleCall q other .queue) s t (ap (λ (c : Handled). queued (c .queue)) j ∙ e) u l h (rw (k, zero-add (callsIn (handleCall q other .queue) es)) at m)))
 
-  handle-waits : (n : ℕ) → leavesIn b q (handle ∷ es) x ≡ false → length s < b * n → n ≤ callsIn b q (handle ∷ es) → takenWithin n b q (handle ∷ es) x ≡ true
-  unfolding callsIn takenWithin leavesIn
-  handle-waits zero l h m = absurd (omega (arith, mul-zero b))
-  handle-waits (suc n) l h m = and-both (some-left b (suc n) (length s) h) (handle-next n (handleCall q b) refl l h m)
+  handle-waits : (n other : ℕ) → staysSame b q (handle other ∷ es) ≡ true → leavesIn q (handle other ∷ es) x ≡ false → length s < b * n → n ≤ callsIn q (handle other ∷ es) → takenWithin n q (handle other ∷ es) x ≡ true
+  unfolding callsIn staysSame takenWithin leavesIn
+  handle-waits zero other u l h m = absurd (omega (arith, mul-zero b))
+  handle-waits (suc n) other u l h m =
+      let (o, later-same) = both (sameAt b q (handle other)) (staysSame b (handleCall q other .queue) es) u in
+      and-both (some-left b (suc n) (length s) h) (handle-next n other o later-same l h m)
 
   -- a joining
-  join-next : (n y : ℕ) (r : Changed) → r ≡ changed q (joinAsks q y) (queued q ++ (y ∷ [])) → leavesIn b (r .queue) es x ≡ false → length s < b * n → n ≤ callsIn b (r .queue) es → takenWithin n b (r .queue) es x ≡ true
-  join-next n y r d l h m = go (eqb (firstNo (joinAsks q y)) 0) refl
+  join-next : (n y : ℕ) (r : Changed) → r ≡ changed q (joinAsks q y) (queued q ++ (y ∷ [])) → staysSame b (r .queue) es ≡ true → leavesIn (r .queue) es x ≡ false → length s < b * n → n ≤ callsIn (r .queue) es → takenWithin n (r .queue) es x ≡ true
+  join-next n y r d u l h m = go (eqb (firstNo (joinAsks q y)) 0) refl
     where
-      go : (a : Bool) → eqb (firstNo (joinAsks q y)) 0 ≡ a → takenWithin n b (r .queue) es x ≡ true
+      go : (a : Bool) → eqb (firstNo (joinAsks q y)) 0 ≡ a → takenWithin n (r .queue) es x ≡ true
       go true a =
           let j : r ≡ record { refusal = 0; queue = queueOf (queued q ++ (y ∷ [])) } = d ∙ changed-yes q (joinAsks q y) (queued q ++ (y ∷ [])) a in
           later n (r .queue) s (t ++ (y ∷ []))
           (ap (λ (c : Changed). queued (c .queue)) j ∙ queued-of (queued q ++ (y ∷ [])) ∙ ap (λ (l : List ℕ). l ++ (y ∷ [])) e ∙ append-assoc s (x ∷ t) (y ∷ []))
-          l h m
+          u l h m
       go false a =
           let j : r ≡ record { refusal = firstNo (joinAsks q y); queue = q } = d ∙ changed-no q (joinAsks q y) (queued q ++ (y ∷ [])) a in
-          later n (r .queue) s t (ap (λ (c : Changed). queued (c .queue)) j ∙ e) l h m
+          later n (r .queue) s t (ap (λ (c : Changed). queued (c .queue)) j ∙ e) u l h m
 
-  join-waits : (n y : ℕ) → leavesIn b q (join y ∷ es) x ≡ false → length s < b * n → n ≤ callsIn b q (join y ∷ es) → takenWithin n b q (join y ∷ es) x ≡ true
-  unfolding callsIn takenWithin leavesIn joinCall
-  join-waits n y l h m = rw (sub-zero n) (and-both (some-left b n (length s) h) (join-next n y (joinCall q y) refl l h (rw (zero-add (callsIn b (joinCall q y .queue) es)) at m)))
+  join-waits : (n y : ℕ) → staysSame b q (join y ∷ es) ≡ true → leavesIn q (join y ∷ es) x ≡ false → length s < b * n → n ≤ callsIn q (join y ∷ es) → takenWithin n q (join y ∷ es) x ≡ true
+  unfolding callsIn staysSame takenWithin leavesIn joinCall
+  join-waits n y u l h m = rw (sub-zero n) (and-both (some-left b n (length s) h) (join-next n y (joinCall q y) refl u l h (rw (zero-add (callsIn (joinCall q y .queue) es)) at m)))
 
   -- a leaving, of another table
-  leave-next : (n y : ℕ) (r : Changed) → r ≡ changed q (leaveAsks q y) (without y (queued q)) → (eqb y x && eqb (r .refusal) 0) ≡ false → leavesIn b (r .queue) es x ≡ false → length s < b * n → n ≤ callsIn b (r .queue) es → takenWithin n b (r .queue) es x ≡ true
-  leave-next n y r d o l h m = go (eqb (firstNo (leaveAsks q y)) 0) refl
+  leave-next : (n y : ℕ) (r : Changed) → r ≡ changed q (leaveAsks q y) (without y (queued q)) → (eqb y x && eqb (r .refusal) 0) ≡ false → staysSame b (r .queue) es ≡ true → leavesIn (r .queue) es x ≡ false → length s < b * n → n ≤ callsIn (r .queue) es → takenWithin n (r .queue) es x ≡ true
+  leave-next n y r d o u l h m = go (eqb (firstNo (leaveAsks q y)) 0) refl
     where
-      go : (a : Bool) → eqb (firstNo (leaveAsks q y)) 0 ≡ a → takenWithin n b (r .queue) es x ≡ true
+      go : (a : Bool) → eqb (firstNo (leaveAsks q y)) 0 ≡ a → takenWithin n (r .queue) es x ≡ true
       go true a =
           let j : r ≡ record { refusal = 0; queue = queueOf (without y (queued q)) } = d ∙ changed-yes q (leaveAsks q y) (without y (queued q)) a in
           let other : eqb x y ≡ false = ne-eqb x y (λ z. clash (and-both (eq-eqb y x (sym z)) (ap (λ (c : Changed). eqb (c .refusal) 0) j)) o) in
           later n (r .queue) (without y s) (without y t)
           (ap (λ (c : Changed). queued (c .queue)) j ∙ queued-of (without y (queued q)) ∙ ap (without y) e ∙ without-append y s (x ∷ t) ∙ ap (λ (l : List ℕ). without y s ++ l) (without-other y x t other))
-          l (omega (arith, without-fewer y s)) m
+          u l (omega (arith, without-fewer y s)) m
       go false a =
           let j : r ≡ record { refusal = firstNo (leaveAsks q y); queue = q } = d ∙ changed-no q (leaveAsks q y) (without y (queued q)) a in
-          later n (r .queue) s t (ap (λ (c : Changed). queued (c .queue)) j ∙ e) l h m
+          later n (r .queue) s t (ap (λ (c : Changed). queued (c .queue)) j ∙ e) u l h m
 
-  leave-waits : (n y : ℕ) → leavesIn b q (leave y ∷ es) x ≡ false → length s < b * n → n ≤ callsIn b q (leave y ∷ es) → takenWithin n b q (leave y ∷ es) x ≡ true
-  unfolding callsIn takenWithin leavesIn leaveCall
-  leave-waits n y l h m =
-      let (o, later-none) = neither (eqb y x && eqb (leaveCall q y .refusal) 0) (leavesIn b (leaveCall q y .queue) es x) l in
-      rw (sub-zero n) (and-both (some-left b n (length s) h) (leave-next n y (leaveCall q y) refl o later-none h (rw (zero-add (callsIn b (leaveCall q y .queue) es)) at m)))
+  leave-waits : (n y : ℕ) → staysSame b q (leave y ∷ es) ≡ true → leavesIn q (leave y ∷ es) x ≡ false → length s < b * n → n ≤ callsIn q (leave y ∷ es) → takenWithin n q (leave y ∷ es) x ≡ true
+  unfolding callsIn staysSame takenWithin leavesIn leaveCall
+  leave-waits n y u l h m =
+      let (o, later-none) = neither (eqb y x && eqb (leaveCall q y .refusal) 0) (leavesIn (leaveCall q y .queue) es x) l in
+      rw (sub-zero n) (and-both (some-left b n (length s) h) (leave-next n y (leaveCall q y) refl o u later-none h (rw (zero-add (callsIn (leaveCall q y .queue) es)) at m)))
 
-no-calls : (b : ℕ) (q : Queue) → callsIn b q [] ≡ 0
+no-calls : (q : Queue) → callsIn q [] ≡ 0
 unfolding callsIn
-no-calls b q = refl
+no-calls q = refl
 
 waits : (b : ℕ) (es : List Event) (x : ℕ) → Waits b es x
-waits b [] x zero q s t e l h m = absurd (omega (arith, mul-zero b))
-waits b [] x (suc n) q s t e l h m = absurd (omega (arith, no-calls b q))
-waits b (handle ∷ es) x n q s t e l h m = handle-waits b es x (waits b es x) q s t e n l h m
-waits b (join y ∷ es) x n q s t e l h m = join-waits b es x (waits b es x) q s t e n y l h m
-waits b (leave y ∷ es) x n q s t e l h m = leave-waits b es x (waits b es x) q s t e n y l h m
+waits b [] x zero q s t e u l h m = absurd (omega (arith, mul-zero b))
+waits b [] x (suc n) q s t e u l h m = absurd (omega (arith, no-calls q))
+waits b (handle other ∷ es) x n q s t e u l h m = handle-waits b es x (waits b es x) q s t e n other u l h m
+waits b (join y ∷ es) x n q s t e u l h m = join-waits b es x (waits b es x) q s t e n y u l h m
+waits b (leave y ∷ es) x n q s t e u l h m = leave-waits b es x (waits b es x) q s t e n y u l h m
 
 -- a place, divided by b and rounded up: so many calls have at least as many places
 rounded : (p b : ℕ) → 1 ≤ b → 1 ≤ p → p - 1 < b * roundedUp p b
@@ -202,21 +219,21 @@ rounded p b hb hp =
     omega (arith, mul-comm (roundedUp p b + 1) b, mul-add b (roundedUp p b) 1, mul-one b)
 
 -- the queue after the events
-run-right : (b : ℕ) (es : List Event) (q : Queue) → queueRight q ≡ true → queueRight (queueRun b q es) ≡ true
+run-right : (es : List Event) (q : Queue) → queueRight q ≡ true → queueRight (queueRun q es) ≡ true
 unfolding queueRun
-run-right b [] q r = r
-run-right b (handle ∷ es) q r = run-right b es (handleCall q b .queue) (handle-right q r b)
-run-right b (join y ∷ es) q r = run-right b es (joinCall q y .queue) (join-right q r y)
-run-right b (leave y ∷ es) q r = run-right b es (leaveCall q y .queue) (leave-right q r y)
+run-right [] q r = r
+run-right (handle b ∷ es) q r = run-right es (handleCall q b .queue) (handle-right q r b)
+run-right (join y ∷ es) q r = run-right es (joinCall q y .queue) (join-right q r y)
+run-right (leave y ∷ es) q r = run-right es (leaveCall q y .queue) (leave-right q r y)
 
 pub waiting : (b : ℕ) (q : Queue) (es : List Event) → Waiting b q es
 waiting b q es =
     record {
-      within = λ p hp hl hb l h.
+      within = λ p hp hl hb u l h.
           waits b es (getD (queued q) (p - 1) 0) (roundedUp p b) q (take (p - 1) (queued q)) (drop (suc (p - 1)) (queued q))
-          (split-at (queued q) (p - 1) 0 (omega arith)) l
+          (split-at (queued q) (p - 1) 0 (omega arith)) u l
           (omega (arith, rounded p b hb hp, length-take-le (p - 1) (queued q) (omega arith)))
           h;
-      right = run-right b es q;
-      room = has-room (queueRun b q es);
+      right = run-right es q;
+      room = has-room (queueRun q es);
     }
