@@ -1,7 +1,7 @@
--- Lists in which no number stands twice, as the months that left.
+-- The months that left: none at the opening; and lists in which no number stands twice, as theirs.
 -- Assumes nothing.
 use mathlib.Core.Path.{_≡_, refl}
-use mathlib.Core.Bool.{Bool, true, not, _&&_}
+use mathlib.Core.Bool.{Bool, true, false, not, _&&_}
 use mathlib.Core.List.{List, [], _∷_, _++_, map}
 use Prim.Native.Nat.{ℕ, zero, suc, _<_}
 use native.Mathlib.Omega.{arith}
@@ -10,10 +10,18 @@ use lib.ListN.{length, getD}
 use borrow.Author.Tests.{eq-eqb, not-true}
 use Rattle.questions.specs.Search.{oneOf}
 use Rattle.questions.proofs.Bools.{clash, both, and-both, or-left, or-right, is-false}
+use Rattle.calendar.specs.declared.Calendar.{Calendar}
+use Rattle.product.specs.declared.Kind.{Kind}
 use Rattle.listing.specs.declared.Maturity.{Maturity}
 use Rattle.places.specs.Laws.{Rising}
 use Rattle.places.proofs.Rising.{rising-tail, rising-once}
+use Rattle.history.specs.Book.{bookOpened}
 use Rattle.history.proofs.Numbers.{one-append, listed-one}
+
+-- 'no month has left' at the opening
+pub none-left : (kind : Kind) (group : List ℕ) (size : ℕ) (cal : Calendar) (date k : ℕ) → oneOf (bookOpened kind group size cal date .gone) k ≡ false
+unfolding bookOpened oneOf
+none-left kind group size cal date k = refl
 
 -- no number stands in the list twice
 abbrev pub once : List ℕ → Bool
