@@ -26,7 +26,7 @@ use Rattle.history.specs.Book.{Call, roll, close, reopen, measure, Reply
 use Rattle.history.specs.History.{tableRun, tableReplies, calendarOfCalls, Demand3}
 use Rattle.history.proofs.FromFile.{from-file}
 
-exchange-after : (cal : Calendar) (c : Call) (s : ℕ) → bitAt (calendarAfter cal c .exchange) s ≡ true → bitAt (cal .exchange) s ≡ true
+pub exchange-after : (cal : Calendar) (c : Call) (s : ℕ) → bitAt (calendarAfter cal c .exchange) s ≡ true → bitAt (cal .exchange) s ≡ true
 exchange-after cal (roll date) s t = t
 exchange-after cal (close day) s t = rw (close-exchange cal day) at t
 exchange-after cal (reopen day) s t = exchange-bits cal day s t
