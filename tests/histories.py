@@ -25,7 +25,7 @@ from tables.measures import measured_tables
 from tables.moments import (PRICES, push_calls, some_calls, some_calls_and_measures, some_calls_and_reopenings,
                             some_value)
 from tables.reopenings import reopened_tables
-from tables.script import CALLS, Script, book_call, make
+from tables.script import CALLS, NO_KIND, Script, book_call, make
 
 
 # ---- Mixed histories ----
@@ -282,6 +282,20 @@ def odd_histories(script, numbers):
     script.history(EXAMPLE, b'AXA ', 3000, calls, numbers_lent=19)
     script.history(EXAMPLE, b'AXA ', 3000, calls, numbers_lent=21, buffer_lent=24)
     script.history_without_open(EXAMPLE, b'NONE', 3000, calls)
+
+
+# A call whose kind number is none of 0 to 3, with the day of a close that would be
+# accepted, first, in the middle and last: nothing is done. Numbers whose low bytes are
+# those of a kind are among them. Where only the calls before it are lent, these are made.
+def histories_of_no_kind(script):
+    day = dates.day_of(2008, 3, 20)
+    for kind in (4, 5, 255, 256, 257, 65536, 65539, 2**24 - 1):
+        script.history(EXAMPLE, b'AXA ', 2930, [('R', 2940), (NO_KIND, kind, day), ('C', day)])
+    script.history(EXAMPLE, b'AXA ', 2930, [(NO_KIND, 4, day)])
+    script.history(EXAMPLE, b'AXA ', 2930, [(NO_KIND, 4, day), ('R', 2940)])
+    script.history(EXAMPLE, b'AXA ', 2930, [('R', 2940), ('C', day), (NO_KIND, 4, 1, 2, 300)])
+    script.history(EXAMPLE, b'AXA ', 2930, [('R', 2940), ('C', day), (NO_KIND, 4, day)], numbers_lent=8)
+    script.history_without_open(EXAMPLE, b'NONE', 3000, [('C', day), (NO_KIND, 4, day)])
 
 
 # ---- Futures of 2005 ----
@@ -764,6 +778,7 @@ def whole_script():
     every_call_on_zeros(script)
     whole_histories(script, numbers)
     odd_histories(script, numbers)
+    histories_of_no_kind(script)
     all_of_2005(script, Numbers(SEED + 3))
     all_of_second_maps(script, Numbers(SEED + 5))
     all_of_weekly_options(script, Numbers(SEED + 7))

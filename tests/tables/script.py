@@ -22,6 +22,10 @@ CALLS = {'R': 'roll', 'C': 'close', 'E': 'reopen', 'Z': 'measure'}
 NUMBERS_TO_A_CALL = 4
 NO_ANSWER = (0, 0, 0, 0)
 
+# The letter of a call of a whole history that has a kind number of its own, none of 0 to
+# 3: it has that number before its arguments.
+NO_KIND = 'K'
+
 
 # ---- Records of the script ----
 
@@ -142,6 +146,14 @@ def out_of_range(size, p, q, price):
     if not product.size_is_right(changed):
         return 'size too large' if changed else 'size 0'
     return 'price too large' if product.new_price(price, size, changed) else 'price 0'
+
+
+# Whether numbers lent and a buffer fit: the numbers are whole calls, each of one of the
+# four kinds, and not more than the buffer has places.
+def fits(calls, numbers_lent, buffer_lent):
+    lent = calls[:numbers_lent // NUMBERS_TO_A_CALL]
+    return (numbers_lent % NUMBERS_TO_A_CALL == 0 and numbers_lent <= buffer_lent
+            and all(letter in CALLS for letter, *_ in lent))
 
 
 # A difference between the table and the book.
@@ -326,7 +338,8 @@ class Script:
     # to the same statement"; note 11: a measure "joins the calls a history may hold". The
     # expected table and answers are the book's. A call is lent as four numbers and
     # answered with four; where the numbers lent are no whole calls, or more than the
-    # buffer, no call is made. The answer of a call that is not made stays 0.
+    # buffer, or one has none of the four kinds, no call is made. The answer of a call that
+    # is not made stays 0.
     def history(self, number, code, date, calls, numbers_lent=None, buffer_lent=None):
         calendar, products = master.contents(self.file(number))
         item = products[code]
@@ -334,29 +347,33 @@ class Script:
         all_numbers = NUMBERS_TO_A_CALL * len(calls)
         numbers_lent = all_numbers if numbers_lent is None else numbers_lent
         buffer_lent = all_numbers if buffer_lent is None else buffer_lent
-        fits = numbers_lent % NUMBERS_TO_A_CALL == 0 and numbers_lent <= buffer_lent
-        made = calls[:numbers_lent // NUMBERS_TO_A_CALL] if fits else []
+        fitting = fits(calls, numbers_lent, buffer_lent)
+        made = calls[:numbers_lent // NUMBERS_TO_A_CALL] if fitting else []
         answers = [book_call(book, *call) for call in made]
         self.write_history(number, code, date, calls, (numbers_lent, buffer_lent))
-        self.write_answers((int(fits), 0), calls, answers, table_words(
+        self.write_answers((int(fitting), 0), calls, answers, table_words(
             replace(item, size=book.size), book.calendar, book.date, book.maturities, book.given))
 
-    # The same with an id that the file has not: every call is refused by 10.
+    # The same with an id that the file has not: every call that is made is refused by 10.
     def history_without_open(self, number, code, date, calls):
         zero = table.ZERO_TABLE
-        self.write_history(number, code, date, calls, (NUMBERS_TO_A_CALL * len(calls),) * 2)
-        self.write_answers((1, 9), calls, [(10, 0, 0, 0)] * len(calls), table_words(
+        lent = (NUMBERS_TO_A_CALL * len(calls),) * 2
+        fitting = fits(calls, *lent)
+        self.write_history(number, code, date, calls, lent)
+        self.write_answers((int(fitting), 9), calls, [(10, 0, 0, 0)] * (fitting * len(calls)), table_words(
             zero.product, zero.calendar, zero.date, zero.places, zero.given))
 
-    # The record of a history and those of its calls: a letter and three numbers. A roll,
-    # close or reopening reads the first of them alone; the others are not 0 where the
-    # first is odd.
+    # The record of a history and those of its calls: a letter and three numbers; before
+    # these a kind number of three bytes where the call has its own. A roll, close or
+    # reopening reads the first of the three alone; the others are not 0 where the first is
+    # odd.
     def write_history(self, number, code, date, calls, lent):
         lengths = b''.join(map(master.two_bytes, (len(calls), *lent)))
         self.records.append(record('H', number, date, code + lengths))
         for letter, *arguments in calls:
+            kind = divmod(arguments.pop(0), 65536) if letter == NO_KIND else (0, 0)
             unread = (2, 3) if arguments[0] % 2 else (0, 0)
-            self.records.append(record(letter, rest=long_numbers(*(*arguments, *unread)[:3])))
+            self.records.append(record(letter, *kind, long_numbers(*(*arguments, *unread)[:3])))
 
     # The line of a history and those of its calls' answers. No table is left.
     def write_answers(self, verdict, calls, answers, held):

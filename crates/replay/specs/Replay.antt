@@ -1,11 +1,12 @@
 -- A history from a lent list: the open, the calls, and what a lent buffer then holds of their answers (01, The table; 02, notes 9 and 11).
 -- Assumes nothing.
-use Prim.Native.Nat.{ℕ, _+_, _*_, _%_}
+use Prim.Native.Nat.{ℕ, _+_, _*_, _/_, _%_}
 use mathlib.Core.Path.{_≡_}
 use mathlib.Core.Bool.{Bool, true, false, _&&_, cond}
 use mathlib.Core.List.{List, [], _∷_, _++_}
 use lib.Dec.{eqb, leb}
 use lib.ListN.{length, getD, drop}
+use Rattle.questions.specs.Search.{every}
 use Rattle.table.specs.declared.Table.{Table}
 use Rattle.table.specs.Table.{openCall}
 use Rattle.history.specs.Book.{Call, roll, close, reopen, measure, Reply}
@@ -16,7 +17,7 @@ use Rattle.replay.specs.declared.Replay.{Replay}
 abbrev pub shortIn : ℕ → ℕ
 shortIn number = cond (leb number 65535) number 65535
 
--- a call of the lent list by its kind and three numbers: 0 a roll to a date, 2 a reopening of a day, 3 a measure of p for q with a price, anything else a close of a day
+-- a call of the lent list by its kind, 0 to 3, and three numbers: 0 a roll to a date, 1 a close of a day, 2 a reopening of a day, 3 a measure of p for q with a price; a list with any other kind number does not fit (`kindsFit`)
 abbrev pub callOf : ℕ → ℕ → ℕ → ℕ → Call
 callOf kind first second third =
     cond (eqb kind 0) (roll (shortIn first))
@@ -44,9 +45,13 @@ numbersOf (r ∷ rs) = r .refusal ∷ r .entered ∷ r .left ∷ r .price ∷ nu
 abbrev pub lengthsFit : ℕ → ℕ → Bool
 lengthsFit calls buffer = eqb (calls % 4) 0 && leb calls buffer
 
--- the same of a list and a buffer
-unfoldable pub replayFits : List ℕ → List ℕ → Bool
-replayFits calls buffer = lengthsFit (length calls) (length buffer)
+-- every call of the list has a kind of 0 to 3
+unfoldable pub kindsFit : List ℕ → Bool
+kindsFit calls = every (length calls / 4) (λ i. leb (getD calls (4 * i) 0) 3)
+
+-- both of a list, with a buffer of so many places
+unfoldable pub replayFits : List ℕ → ℕ → Bool
+replayFits calls buffer = lengthsFit (length calls) buffer && kindsFit calls
 
 -- of a table, a list that fits and a buffer before and after: the table is the one that the calls leave, and the buffer starts with their answers
 pub record CallsMade (t : Table) (calls before after : List ℕ) (r : Table) : Type 0 where
@@ -55,7 +60,7 @@ pub record CallsMade (t : Table) (calls before after : List ℕ) (r : Table) : T
 
 -- where the list fits, the table is the one that the calls leave and the buffer starts with their answers; where it does not, no call is made and nothing is written
 pub record Replayed (f id : List ℕ) (date : ℕ) (calls before after : List ℕ) (r : Replay) : Type 0 where
-  pub fits : r .fits ≡ replayFits calls before
+  pub fits : r .fits ≡ replayFits calls (length before)
   pub refusal : r .refusal ≡ openCall f id date .refusal
   pub made : r .fits ≡ true → CallsMade (openCall f id date .table) calls before after (r .table)
   pub idle : r .fits ≡ false → (r .table ≡ openCall f id date .table) × (after ≡ before)

@@ -8,9 +8,9 @@ ghost use Prim.Native.Nat.{_+_, _*_, _%_, _≤_};
 ghost use lib.ListN.{length, set};
 ghost use Rattle.table.specs.Table.{openCall};
 ghost use Rattle.history.specs.History.{unpriced, uncounted, tableCall};
-ghost use Rattle.replay.specs.Replay.{shortIn, callOf, callAt, lengthsFit, CallsMade, Replayed};
+ghost use Rattle.replay.specs.Replay.{shortIn, callOf, callAt, lengthsFit, kindsFit, replayFits, CallsMade, Replayed};
 
-// What a run of calls ends with: whether the list has whole calls and the buffer room for their answers, open's refusal, and the table.
+// What a run of calls ends with: whether the list has whole calls, each of a kind of 0 to 3, and the buffer room for their answers, open's refusal, and the table.
 pub struct Replay {
     pub fits: bool,
     pub refusal: u8,
@@ -55,8 +55,8 @@ fn without_counts(m: Measured) -> Called
     }
 }
 
-// One call: 0 rolls to a date, 2 reopens a day, 3 is a measure of p for q with a price, anything else closes a day.
-pub fn call(t: Table, kind: u32, first: u32, second: u32, third: u32) -> Called
+// One call of a list that fits: 0 rolls to a date, 2 reopens a day, 3 is a measure of p for q with a price, and 1, the only other kind, closes a day.
+fn call(t: Table, kind: u32, first: u32, second: u32, third: u32) -> Called
     ensures { λ r. ⌜ r ≡ tableCall t (callOf kind first second third) ⌝ }
 {
     let number = short_in(first);
@@ -124,6 +124,28 @@ fn lengths_fit(calls: usize, buffer: usize) -> bool
     (calls % 4 == 0) & (calls <= buffer)
 }
 
+// Whether every call of a list has a kind of 0 to 3.
+fn kinds_fit(calls: &[u32]) -> bool
+    ensures { λ r. ⌜ r ≡ kindsFit (now (calls .entry)) ⌝ }
+{
+    let n = calls.len() / 4;
+    let mut k: usize = 0;
+    while k < n {
+        if 3 < calls[4 * k] {
+            return false;
+        }
+        k += 1;
+    }
+    true
+}
+
+// Whether a list and a buffer of so many places fit each other, and every call has a kind.
+fn replay_fits(calls: &[u32], buffer: usize) -> bool
+    ensures { λ r. ⌜ r ≡ replayFits (now (calls .entry)) buffer ⌝ }
+{
+    lengths_fit(calls.len(), buffer) & kinds_fit(calls)
+}
+
 // Opens a table and runs the calls of a lent list on it, four numbers each, and writes each call's number, counts and price to a lent buffer, four numbers each.
 pub fn run(file: &[u8], id: [u8; 4], date: u16, calls: &[u32], buffer: &mut [u32]) -> Replay
     ensures { λ r. ⌜ Replayed (now (file .entry)) id date (now (calls .entry)) (now (buffer .entry)) (now (buffer .exit)) r ⌝ }
@@ -131,7 +153,7 @@ pub fn run(file: &[u8], id: [u8; 4], date: u16, calls: &[u32], buffer: &mut [u32
     let opened = open_table(file, id, date);
     let refusal = opened.refusal;
     let table = opened.table;
-    if !lengths_fit(calls.len(), buffer.len()) {
+    if !replay_fits(calls, buffer.len()) {
         return Replay {
             fits: false,
             refusal,

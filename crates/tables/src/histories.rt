@@ -24,10 +24,13 @@ fn at_most(number: u16, most: u16) -> usize
     number as usize
 }
 
-// A call's kind, from the letter of its record: 0 for a roll, 2 for a reopening, 3 for a measure, 1 for a close.
-fn kind_of(letter: u8) -> u32 {
+// A call's kind, from the letter of its record: 0 for a roll, 1 for a close, 2 for a reopening, 3 for a measure, and for any other letter the number in the three bytes after it.
+fn kind_of(letter: u8, a: u8, b: u8, c: u8) -> u32 {
     if letter == b'R' {
         return 0;
+    }
+    if letter == b'C' {
+        return 1;
     }
     if letter == b'E' {
         return 2;
@@ -35,13 +38,13 @@ fn kind_of(letter: u8) -> u32 {
     if letter == b'Z' {
         return 3;
     }
-    1
+    four(0, a, b, c)
 }
 
 // The four numbers of a call: the kind, and three as they stand in its record.
 fn call_in(bytes: [u8; 16]) -> [u32; 4] {
     [
-        kind_of(bytes[0]),
+        kind_of(bytes[0], bytes[1], bytes[2], bytes[3]),
         four(bytes[4], bytes[5], bytes[6], bytes[7]),
         four(bytes[8], bytes[9], bytes[10], bytes[11]),
         four(bytes[12], bytes[13], bytes[14], bytes[15]),
