@@ -1,3 +1,4 @@
 pub mod Undo
 mod Answers
 pub mod AsItCame
+pub mod Histories

@@ -17,7 +17,7 @@ use Rattle.flat.specs.declared.FlatProduct.{FlatProduct}
 use Rattle.flat.specs.declared.FlatTable.{FlatTable}
 use Rattle.flat.specs.Flat.{unflatProduct, flatProduct, flatTable, unflatTable, recordFlat, Undo}
 
-kind-right : (kind : Kind) → kindRight (kindNumber kind) ≡ true
+pub kind-right : (kind : Kind) → kindRight (kindNumber kind) ≡ true
 kind-right (Future Of2008) = refl
 kind-right (Future Of2005) = refl
 kind-right (Option Months12) = refl

@@ -1,0 +1,55 @@
+-- A list of calls on a flat table, as a program in another language makes them one by one: it is the list of demand 3 (01, The table; 02, notes 9 and 11).
+-- Assumes nothing.
+use Prim.Native.Nat.{ℕ}
+use mathlib.Core.Path.{_≡_}
+use mathlib.Core.List.{List, [], _∷_}
+use Rattle.years.specs.Calendars.{calendarOf}
+use Rattle.master.specs.Load.{productOf}
+use Rattle.table.specs.Table.{openCall, rollCall, closeCall, reopenCall}
+use Rattle.measures.specs.Measures.{measureCall}
+use Rattle.history.specs.Book.{Call, roll, close, reopen, measure, Reply}
+use Rattle.history.specs.History.{after, answers, FromFile}
+use Rattle.flat.specs.declared.FlatTable.{FlatTable}
+use Rattle.flat.specs.declared.FlatOutcome.{FlatOutcome}
+use Rattle.flat.specs.declared.FlatMeasured.{FlatMeasured}
+use Rattle.flat.specs.Flat.{unflatTable, flatTable, flatOutcome, outcomeOn, measuredOn}
+use Rattle.flat.specs.AsItCame.{tableAfter}
+
+-- what a roll, close or reopening answers beside the table; it gives no price
+abbrev pub outcomeReply : FlatOutcome → Reply
+outcomeReply o = record { refusal = o .refusal; entered = o .entered; left = o .left; price = 0 }
+
+-- what a measure answers; in it no month enters or leaves
+abbrev pub measuredReply : FlatMeasured → Reply
+measuredReply m = record { refusal = m .refusal; entered = 0; left = 0; price = m .price }
+
+-- what a call on a flat table answers, by the definition that the exported call promises
+abbrev pub answerOn : FlatTable → Call → Reply
+answerOn t (roll date) = outcomeReply (outcomeOn t (rollCall (unflatTable t) date))
+answerOn t (close day) = outcomeReply (outcomeOn t (closeCall (unflatTable t) day))
+answerOn t (reopen day) = outcomeReply (outcomeOn t (reopenCall (unflatTable t) day))
+answerOn t (measure p q price) = measuredReply (measuredOn t (measureCall (unflatTable t) p q price))
+
+-- the flat table after a list of calls, each on the table that the call before it gave back: 'nothing else changes the table between its calls'
+unfoldable pub flatRun : FlatTable → List Call → FlatTable
+flatRun t [] = t
+flatRun t (c ∷ cs) = flatRun (tableAfter t c) cs
+
+-- their answers
+unfoldable pub flatReplies : FlatTable → List Call → List Reply
+flatReplies t [] = []
+flatReplies t (c ∷ cs) = answerOn t c ∷ flatReplies (tableAfter t c) cs
+
+-- the flat table that an open gives back
+abbrev pub flatOpened : List ℕ → List ℕ → ℕ → FlatTable
+flatOpened f id date = flatOutcome (openCall f id date) .table
+
+-- of every file, id and date with an accepted open, and every list of calls; no claim of its own, it joins those of demand 3
+pub record FlatHistory (f id : List ℕ) (date : ℕ) (cs ds : List Call) : Type 0 where
+  -- the flat table after the list stands for the table of demand 3 after the list, and is that table's flat form
+  pub stands : unflatTable (flatRun (flatOpened f id date) cs) ≡ after (productOf f id) (calendarOf f) date cs
+  pub flat : flatRun (flatOpened f id date) cs ≡ flatTable (after (productOf f id) (calendarOf f) date cs)
+  -- every answer is demand 3's: 'every call's acceptance or refusal number and its two counts', and the price of a measure (02, note 11)
+  pub replies : flatReplies (flatOpened f id date) cs ≡ answers (productOf f id) (calendarOf f) date cs
+  -- of which demand 3 holds
+  pub history : FromFile f id date cs ds
