@@ -105,7 +105,8 @@ dateReply r = record { refusal = r .refusal; value = record { year = r .year; mo
 abbrev pub verdictReply : VerdictReply → Answer Judgement
 verdictReply r = record { refusal = r .refusal; value = record { same = r .same; key = r .key } }
 
--- the bytes of a product's record; a kind number that is no kind stands as it is, and a size above 65,535.9999 shares as 0 shares: writing refuses both, with 7 where 3 to 6 are answered yes
+-- the bytes of a product's record: a kind number that is no kind stands as it is; a size below one share has 0 shares, and so has one above 65,535.9999 shares, each with the rest of its ten-thousandths (size mod 10,000)
+-- question 7 refuses each of these records, so writing refuses it with 7, or with a lower number where one of 3 to 6 is answered no
 unfoldable pub recordFlat : FlatProduct → List ℕ
 recordFlat p = sizedBytes (p .id) (p .group) (p .market) (p .kind) (p .size) (p .tick) (p .currency)
 
