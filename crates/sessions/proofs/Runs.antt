@@ -1,42 +1,89 @@
--- All that a run of the program hands out is the text of the definition, however its input arrives.
+-- All that a run of the program writes is the text of the definition, however its input arrives, and so many bytes were counted.
 -- Assumes nothing.
 use mathlib.Core.Path.{_≡_, refl, sym, ap, _∙_}
-use mathlib.Core.List.{List, [], _++_, append-assoc}
-use Prim.Native.Nat.{ℕ, _≤_}
-use lib.ListN.{length, take, drop, drop-of-length-le}
+use mathlib.Core.List.{List, [], _∷_, _++_, append-assoc}
+use Prim.Native.Nat.{ℕ, _+_, _^_, _≤_, _<_}
+use native.Mathlib.Omega.{arith}
+use lib.ListN.{length, take, drop, drop-of-length-le, length-append}
+use lib.Seq.{length-take-le}
 use Rattle.lines.specs.declared.Line.{Line}
 use Rattle.lines.specs.Lines.{emptyLine}
 use Rattle.command.specs.declared.Kept.{Kept}
 use Rattle.command.specs.Sessions.{nothingKept, restText, termsText}
 use Rattle.command.proofs.Session.{whole-text}
 use Rattle.sessions.specs.declared.Progress.{Progress}
-use Rattle.sessions.specs.Parts.{Answers, Handed, inOne, Run, ended, goes-on}
+use Rattle.sessions.specs.Parts.{counted, Answers, LastAnswer, ComesNext, answers, last, Handed, inOne, Run, ended, goes-on, Ran}
 
-module _ (file : List ℕ) (h : Kept) (l : Line) (part : List ℕ) where
+-- counted twice
+counted-twice : (n a b : ℕ) → counted (counted n a) b ≡ counted n (a + b)
+counted-twice n a b = omega arith
+
+-- a count below 2^64 grows by nothing
+pub counted-none : (n : ℕ) → n < 2 ^ 64 → n ≡ counted n 0
+counted-none n h = omega arith
+
+module _ (file : List ℕ) (h : Kept) (l : Line) (part : List ℕ) (n : ℕ) where
   -- a part before its first byte
-  pub handed-none : Handed file h l part h l (drop 0 part)
-  handed-none = record { text = []; is = λ rest. refl; state = λ rest. refl }
+  pub handed-none : n < 2 ^ 64 → Handed file h l part n h l (drop 0 part) n
+  handed-none b = record { text = []; is = λ rest. refl; state = λ rest. refl; count = counted-none n b }
 
   -- the answers to some more of its lines
-  pub handed-more : (h′ : Kept) (l′ : Line) (at : ℕ) (before after : List ℕ) (r : Progress) → Handed file h l part h′ l′ (drop at part)
-      → Answers file h′ l′ part at before after r → Handed file h l part (r .kept) (r .line) (drop (r .at) part)
-  handed-more h′ l′ at before after r d a =
+  pub handed-more : (h′ : Kept) (l′ : Line) (at m n′ : ℕ) (before after : List ℕ) (r : Progress) → Handed file h l part n h′ l′ (drop at part) m
+      → Answers file h′ l′ part at before after r → n′ ≡ counted m (r .length) → Handed file h l part n (r .kept) (r .line) (drop (r .at) part) n′
+  handed-more h′ l′ at m n′ before after r d a c =
       record {
         text = d .text ++ take (r .length) after;
         is = λ rest. d .is rest ∙ ap (λ (t : List ℕ). d .text ++ t) (a .text rest) ∙ sym (append-assoc (d .text) (take (r .length) after) (restText file (r .kept) (r .line) (drop (r .at) part ++ rest)));
         state = λ rest. d .state rest ∙ a .state rest;
+        count = c ∙ ap (λ (k : ℕ). counted k (r .length)) (d .count) ∙ counted-twice n (length (d .text)) (r .length) ∙ ap (counted n) (sym long);
       }
+    where
+      long : length (d .text ++ take (r .length) after) ≡ length (d .text) + r .length
+      long = length-append (d .text) (take (r .length) after) ∙ ap (λ (k : ℕ). length (d .text) + k) (length-take-le (r .length) after (a .fits))
 
   -- it is used up
-  pub handed-all : (h′ : Kept) (l′ : Line) (at : ℕ) → length part ≤ at → Handed file h l part h′ l′ (drop at part) → Handed file h l part h′ l′ []
-  handed-all h′ l′ at k d = rw (drop-of-length-le part k) at d
+  pub handed-all : (h′ : Kept) (l′ : Line) (at m : ℕ) → length part ≤ at → Handed file h l part n h′ l′ (drop at part) m → Handed file h l part n h′ l′ [] m
+  handed-all h′ l′ at m k d = rw (drop-of-length-le part k) at d
 
--- what a run hands out
-pub run-text : {file : List ℕ} {h : Kept} {l : Line} {parts : List (List ℕ)} {text : List ℕ} → Run file h l parts text → restText file h l (inOne parts) ≡ text
+-- the count after the last line
+pub last-count : (file : List ℕ) (h : Kept) (l : Line) (before after : List ℕ) (n n′ r : ℕ) → 512 ≤ length before → LastAnswer file h l before after r → n′ ≡ counted n r → n′ ≡ counted n (length (restText file h l []))
+last-count file h l before after n n′ r room a c = c ∙ ap (counted n) (sym (length-take-le r after (a .fits)) ∙ ap length (sym (a .text room)))
+
+-- on the way: whatever a run from here writes, it is the rest of a run from the first command on
+pub record Came (file : List ℕ) (h : Kept) (l : Line) (n : ℕ) : Type 0 where
+  pub parts : List (List ℕ)
+  pub text : List ℕ
+  pub on : (later : List (List ℕ)) (t : List ℕ) (n′ : ℕ) → Run file h l n later t n′ → Run file nothingKept emptyLine 0 (parts ++ later) (text ++ t) n′
+
+pub came-none : (file : List ℕ) → Came file nothingKept emptyLine 0
+came-none file = record { parts = []; text = []; on = λ later t n′ r. r }
+
+pub came-more : (file : List ℕ) (h h′ : Kept) (l l′ : Line) (n m : ℕ) (part : List ℕ) → Came file h l n → Handed file h l part n h′ l′ [] m → Came file h′ l′ m
+came-more file h h′ l l′ n m part c d =
+    record {
+      parts = c .parts ++ (part ∷ []);
+      text = c .text ++ d .text;
+      on = λ later t n′ r. rw (append-assoc (c .parts) (part ∷ []) later, append-assoc (c .text) (d .text) t) (c .on (part ∷ later) (d .text ++ t) n′ (goes-on d r));
+    }
+
+pub came-all : (file : List ℕ) (h : Kept) (l : Line) (n n′ : ℕ) → Came file h l n → n′ ≡ counted n (length (restText file h l [])) → Ran file n′
+came-all file h l n n′ c e = record { parts = c .parts ++ []; text = c .text ++ restText file h l []; run = c .on [] (restText file h l []) n′ (ended e) }
+
+-- what a run writes, and the count of its bytes
+pub run-text : {file : List ℕ} {h : Kept} {l : Line} {n n′ : ℕ} {parts : List (List ℕ)} {text : List ℕ} → Run file h l n parts text n′ → restText file h l (inOne parts) ≡ text
 unfolding inOne
-run-text ended = refl
+run-text (ended e) = refl
 run-text (goes-on {parts = parts} d r) = d .is (inOne parts) ∙ ap (λ (t : List ℕ). d .text ++ t) (run-text r)
 
+run-count : {file : List ℕ} {h : Kept} {l : Line} {n n′ : ℕ} {parts : List (List ℕ)} {text : List ℕ} → Run file h l n parts text n′ → n′ ≡ counted n (length text)
+run-count (ended e) = e
+run-count {n = n} (goes-on {m = m} {text = text} d r) =
+    run-count r ∙ ap (λ (k : ℕ). counted k (length text)) (d .count) ∙ counted-twice n (length (d .text)) (length text) ∙ ap (counted n) (sym (length-append (d .text) text))
+
 -- for every file, every input and every way in which it arrives in parts, it is the text of the definition
-pub terms-text : (file : List ℕ) (parts : List (List ℕ)) (text : List ℕ) → Run file nothingKept emptyLine parts text → text ≡ termsText file (inOne parts)
-terms-text file parts text r = sym (run-text r) ∙ whole-text file (inOne parts)
+pub terms-text : (file : List ℕ) (parts : List (List ℕ)) (text : List ℕ) (n : ℕ) → Run file nothingKept emptyLine 0 parts text n → text ≡ termsText file (inOne parts)
+terms-text file parts text n r = sym (run-text r) ∙ whole-text file (inOne parts)
+
+-- and so many bytes were written
+pub terms-count : (file : List ℕ) (parts : List (List ℕ)) (text : List ℕ) (n : ℕ) → Run file nothingKept emptyLine 0 parts text n → n ≡ counted 0 (length (termsText file (inOne parts)))
+terms-count file parts text n r = run-count r ∙ ap (λ (t : List ℕ). counted 0 (length t)) (terms-text file parts text n r)

@@ -1,6 +1,6 @@
 -- The text of the program `terms`, part by part of its input (01, March 2008 and its neighbours, 'The program `terms`').
 -- Assumes nothing.
-use Prim.Native.Nat.{ℕ, _+_, _≤_, _<_}
+use Prim.Native.Nat.{ℕ, _+_, _%_, _^_, _≤_, _<_}
 use mathlib.Core.Path.{_≡_}
 use mathlib.Core.Bool.{Bool, _&&_}
 use mathlib.Core.List.{List, [], _∷_, _++_}
@@ -8,9 +8,10 @@ use mathlib.Core.Logic.{_⊎_}
 use lib.Dec.{ltb}
 use lib.ListN.{length, getD, take, drop}
 use Rattle.lines.specs.declared.Line.{Line}
+use Rattle.lines.specs.Lines.{emptyLine}
 use Rattle.printing.specs.Buffer.{roomy}
 use Rattle.command.specs.declared.Kept.{Kept}
-use Rattle.command.specs.Sessions.{restText, restKept}
+use Rattle.command.specs.Sessions.{nothingKept, restText, restKept}
 use Rattle.sessions.specs.declared.Progress.{Progress}
 
 -- where the line that goes on at `from` ends: at the first line feed, 10, or where the part does
@@ -61,21 +62,38 @@ pub record LastAnswer (file : List ℕ) (h : Kept) (l : Line) (before after : Li
   pub long : length after ≡ length before
   pub idle : length before < 512 → (r ≡ 0) × (after ≡ before)
 
--- a part of the input is used up but for what is left of it: a text was handed out, and for every rest of the input it is what comes next
-pub record Handed (file : List ℕ) (h : Kept) (l : Line) (part : List ℕ) (h′ : Kept) (l′ : Line) (left : List ℕ) : Type 0 where
+-- so many bytes more, counted modulo 2^64
+abbrev pub counted : ℕ → ℕ → ℕ
+counted n more = (n + more) % 2 ^ 64
+
+-- at a write, the bytes that stand in the lent buffer are what comes next of the session's text: the answers to the lines that end in the part between two places; or, where the input has ended, the answer to its last line
+pub data ComesNext (file part : List ℕ) (s r : Progress) (bytes : List ℕ) : Type 0 where
+  answers : ((rest : List ℕ) → restText file (s .kept) (s .line) (drop (s .at) part ++ rest) ≡ bytes ++ restText file (r .kept) (r .line) (drop (r .at) part ++ rest))
+      → ComesNext file part s r bytes
+  last : restText file (s .kept) (s .line) [] ≡ bytes → ComesNext file part s r bytes
+
+-- a part of the input is used up but for what is left of it: a text was written, for every rest of the input it is what comes next, and the count of the bytes that were written grew by its length
+pub record Handed (file : List ℕ) (h : Kept) (l : Line) (part : List ℕ) (n : ℕ) (h′ : Kept) (l′ : Line) (left : List ℕ) (n′ : ℕ) : Type 0 where
   pub text : List ℕ
   pub is : (rest : List ℕ) → restText file h l (part ++ rest) ≡ text ++ restText file h′ l′ (left ++ rest)
   pub state : (rest : List ℕ) → restKept file h l (part ++ rest) ≡ restKept file h′ l′ (left ++ rest)
+  pub count : n′ ≡ counted n (length text)
 
 -- an input that arrives in parts
 unfoldable pub inOne : List (List ℕ) → List ℕ
 inOne [] = []
 inOne (part ∷ parts) = part ++ inOne parts
 
--- a run of the program: one part of the input after the other, then the last line; and all that it hands out
-pub data Run : List ℕ → Kept → Line → List (List ℕ) → List ℕ → Type 0 where
-  ended : {file : List ℕ} {h : Kept} {l : Line} → Run file h l [] (restText file h l [])
-  goes-on : {file : List ℕ} {h h′ : Kept} {l l′ : Line} {part : List ℕ} {parts : List (List ℕ)} {text : List ℕ}
-      → (d : Handed file h l part h′ l′ [])
-      → Run file h′ l′ parts text
-      → Run file h l (part ∷ parts) (d .text ++ text)
+-- a run of the program from what is kept, a line begun and a count of bytes: one part of the input after the other, then the last line; all that it writes, and the count at its end
+pub data Run (file : List ℕ) : Kept → Line → ℕ → List (List ℕ) → List ℕ → ℕ → Type 0 where
+  ended : {h : Kept} {l : Line} {n n′ : ℕ} → n′ ≡ counted n (length (restText file h l [])) → Run file h l n [] (restText file h l []) n′
+  goes-on : {h h′ : Kept} {l l′ : Line} {n m n′ : ℕ} {part : List ℕ} {parts : List (List ℕ)} {text : List ℕ}
+      → (d : Handed file h l part n h′ l′ [] m)
+      → Run file h′ l′ m parts text n′
+      → Run file h l n (part ∷ parts) (d .text ++ text) n′
+
+-- a run from the first command on that has written so many bytes
+pub record Ran (file : List ℕ) (n : ℕ) : Type 0 where
+  pub parts : List (List ℕ)
+  pub text : List ℕ
+  pub run : Run file nothingKept emptyLine 0 parts text n

@@ -4,67 +4,87 @@ mod output;
 
 use command::Kept;
 use lines::Line;
+use output::Sent;
+use sessions::Progress;
 ghost use mathlib.Core.Path.{_≡_};
 ghost use mathlib.Core.Bool.{true};
 ghost use mathlib.Core.List.{[]};
 ghost use Prim.Native.Nat.{_≤_};
 ghost use lib.ListN.{length};
-ghost use Rattle.sessions.specs.Parts.{Handed};
+ghost use Rattle.command.specs.Sessions.{restText};
+ghost use Rattle.sessions.specs.Parts.{counted, Handed, Ran};
 
-// What is kept from one part of the input to the next: the table, the line so far, and whether the output takes more.
+// What is kept from one part of the input to the next: the table, the line so far, and what has been written.
 pub struct Carried {
     pub kept: Kept,
     pub line: Line,
-    pub open: bool,
+    pub sent: Sent,
 }
 
 // Writes the answers to all lines that end in a part of the input. A write that fails ends the run.
 fn write_part(file: &[u8], k: Carried, part: &[u8], out: &mut [u8]) -> Carried
     requires { ⌜ 512 ≤ length (now out) ⌝ }
-    ensures { λ r. ⌜ (r .open ≡ true → Handed (now (file .entry)) (k .kept) (k .line) (now (part .entry)) (r .kept) (r .line) []) ⌝ }
+    ensures { λ r. ⌜ (r .sent .open ≡ true → Handed (now (file .entry)) (k .kept) (k .line) (now (part .entry)) (k .sent .bytes) (r .kept) (r .line) [] (r .sent .bytes)) ⌝ }
 {
-    let mut kept = k.kept;
-    let mut line = k.line;
-    let mut at: usize = 0;
-    while at < part.len() {
-        let p = sessions::answer_part(file, kept, line, part, at, out);
-        kept = p.kept;
-        line = p.line;
-        at = p.at;
-        if !output::write_out(out, p.length) {
-            return Carried {
-                kept,
-                line,
-                open: false,
-            };
-        }
-    }
-    Carried {
+    let kept = k.kept;
+    let line = k.line;
+    let mut sent = k.sent;
+    let mut s = Progress {
         kept,
         line,
-        open: true,
+        at: 0,
+        length: 0,
+    };
+    while s.at < part.len() {
+        let p = sessions::answer_part(file, s.kept, s.line, part, s.at, out);
+        sent = output::write_out(sent, file, part, s, p, out);
+        s = p;
+        if !output::is_open(sent) {
+            return Carried { kept, line, sent };
+        }
+    }
+    let after = s.kept;
+    let begun = s.line;
+    Carried {
+        kept: after,
+        line: begun,
+        sent,
     }
 }
 
 // Writes the answer to a last line that no line feed ends.
-fn write_last(file: &[u8], k: Carried, out: &mut [u8]) {
+fn write_last(file: &[u8], k: Carried, out: &mut [u8]) -> Sent
+    requires { ⌜ 512 ≤ length (now out) ⌝ }
+    ensures { λ r. ⌜ (r .open ≡ true → r .bytes ≡ counted (k .sent .bytes) (length (restText (now (file .entry)) (k .kept) (k .line) []))) ⌝ }
+{
     let kept = k.kept;
     let line = k.line;
     let n = sessions::answer_last(file, kept, line, out);
-    output::write_out(out, n);
+    let from = Progress {
+        kept,
+        line,
+        at: 0,
+        length: 0,
+    };
+    let to = Progress {
+        kept,
+        line,
+        at: 0,
+        length: n,
+    };
+    output::write_out(k.sent, file, file, from, to, out)
 }
 
 // Reads the input part by part. What is answered is written before the next read. The loop has to be shown to end, so after 2^64 - 1 reads the input counts as ended.
-fn run(file: &[u8]) {
+fn run(file: &[u8]) -> Sent
+    ensures { λ r. ⌜ (r .open ≡ true → Ran (now (file .entry)) (r .bytes)) ⌝ }
+{
     let mut part = io::large_buffer();
     let mut out = io::large_buffer();
     let kept = command::nothing_kept();
     let line = lines::empty_line();
-    let mut k = Carried {
-        kept,
-        line,
-        open: true,
-    };
+    let sent = output::nothing_sent();
+    let mut k = Carried { kept, line, sent };
     let mut turns: u64 = 18446744073709551615;
     while 0 < turns {
         let n = input::read_part(&mut part);
@@ -72,12 +92,12 @@ fn run(file: &[u8]) {
             break;
         }
         k = write_part(file, k, &part[..n], &mut out);
-        if !k.open {
-            return;
+        if !output::is_open(k.sent) {
+            return k.sent;
         }
         turns -= 1;
     }
-    write_last(file, k, &mut out);
+    write_last(file, k, &mut out)
 }
 
 fn main() {

@@ -1,13 +1,16 @@
 use native.Mathlib.Omega.{arith}
-use mathlib.Core.Path.{_≡_, sym}
+use mathlib.Core.Path.{_≡_, sym, _∙_}
 use Prim.Native.Nat.{_-_}
 use lib.ListN.{length}
 use borrow.Author.Needs.{needs}
+use mathlib.Core.Bool.{true≢false}
+use Rattle.questions.proofs.Bools.{said-no, said-yes}
+use Rattle.sessions.proofs.Runs.{Came, came-none, came-more, came-all}
 use Rattle.terms.proofs.run.Statement.{statement}
 use Rattle.terms.proofs.run.Tie as tie
 
 abbrev Inv-loop : tie.InvT-loop
-Inv-loop file part₀ out₀ k₀ turns₀ part out k turns = (length part ≡ 65536) × (length out ≡ 65536)
+Inv-loop file part₀ out₀ k₀ turns₀ part out k turns = (length part ≡ 65536) × (length out ≡ 65536) × Came file (k .kept) (k .line) (k .sent .bytes)
 
 abbrev μ-loop : tie.MeasureT-loop
 μ-loop file part₀ out₀ k₀ turns₀ part out k turns = turns
@@ -25,7 +28,12 @@ empty-line-requires : tie.Need-empty-line-requires Inv-loop μ-loop
 empty-line-requires c κs = tt
 
 loop-holds : tie.Need-loop-holds Inv-loop μ-loop
-loop-holds c = (sym (c .before .before .before .large-buffer .ensures), sym (c .before .before .large-buffer2 .ensures))
+loop-holds c =
+    let at-large-buffer2 = c .before .before .before in
+    (sym (at-large-buffer2 .before .large-buffer .ensures), sym (at-large-buffer2 .large-buffer2 .ensures), rw (c .nothing-sent .ensures .1, c .before .empty-line .ensures, c .before .before .nothing-kept .ensures) (came-none _))
+
+nothing-sent-requires : tie.Need-nothing-sent-requires Inv-loop μ-loop
+nothing-sent-requires c κs = tt
 
 slice-aggregate-read-part : tie.Need-slice-aggregate-read-part Inv-loop μ-loop
 slice-aggregate-read-part c = search needs
@@ -48,7 +56,10 @@ write-part-requires c κs =
     omega (arith, at-loop .loop .inv .1)
 
 returns : tie.Need-returns Inv-loop μ-loop
-returns c = search needs
+returns c = λ e. absurd (true≢false (sym e ∙ said-no (c .before .before .is-open .ensures) (c .before .if2 .taken)))
+
+is-open-requires : tie.Need-is-open-requires Inv-loop μ-loop
+is-open-requires c κs = tt
 
 sub-turns : tie.Need-sub-turns Inv-loop μ-loop
 sub-turns c = search needs
@@ -58,17 +69,22 @@ loop-less c = search needs
 
 loop-again : tie.Need-loop-again Inv-loop μ-loop
 loop-again c =
-    let at-part2 = c .before .before .before .before .before .before .before in
-    (at-part2 .part2 .given, c .before .before .out2 .given)
+    let at-is-open = c .before in
+    let at-out2 = at-is-open .before in
+    let at-write-part = at-out2 .before in
+    let at-part2 = at-write-part .before .before .before .before in
+    let v = at-part2 .before .before .before .before .loop .inv in
+    let d = at-write-part .write-part .ensures (said-yes (at-is-open .is-open .ensures) (c .if2 .left)) in
+    (at-part2 .part2 .given, at-out2 .out2 .given, came-more _ _ _ _ _ _ _ _ (v .2) d)
 
 slice-aggregate-write-last : tie.Need-slice-aggregate-write-last Inv-loop μ-loop
 slice-aggregate-write-last c = search needs
 
 write-last-requires : tie.Need-write-last-requires Inv-loop μ-loop
-write-last-requires c κs = tt
+write-last-requires c κs = omega (arith, c .before .before .loop .inv .1)
 
 returns-2 : tie.Need-returns-2 Inv-loop μ-loop
-returns-2 c = search needs
+returns-2 c = λ e. came-all _ _ _ _ _ (c .before .before .before .before .loop .inv .2) (c .before .write-last .ensures e)
 
 pub run-spec : {M : Type 1} → statement M
 run-spec =
@@ -80,6 +96,7 @@ run-spec =
     large-buffer-requires-2
     nothing-kept-requires
     empty-line-requires
+    nothing-sent-requires
     loop-holds
     slice-aggregate-read-part
     read-part-requires
@@ -87,6 +104,7 @@ run-spec =
     slice-aggregate-write-part
     slice-aggregate-write-part-2
     write-part-requires
+    is-open-requires
     returns
     sub-turns
     loop-less

@@ -3,53 +3,64 @@ use Prim.Native.Nat.{_-_, _≤_}
 use mathlib.Core.Path.{_≡_, refl, sym, _∙_}
 use mathlib.Core.Bool.{true≢false}
 use lib.ListN.{length, drop}
-use Rattle.sessions.specs.Parts.{Handed}
+use borrow.Author.Needs.{needs}
+use Rattle.questions.proofs.Bools.{said-no, said-yes}
+use Rattle.sessions.specs.Parts.{Handed, answers}
 use Rattle.sessions.proofs.Runs.{handed-none, handed-more, handed-all}
 use Rattle.terms.proofs.write_part.Statement.{statement}
 use Rattle.terms.proofs.write_part.Tie as tie
 
 abbrev Inv-loop : tie.InvT-loop
-Inv-loop file part out₀ kept₀ line₀ at₀ out kept line at =
-    (512 ≤ length out₀) × (length out ≡ length out₀) × Handed file kept₀ line₀ part kept line (drop at part)
+Inv-loop file part out₀ kept line sent₀ s₀ out sent s =
+    (512 ≤ length out₀) × (length out ≡ length out₀) × Handed file (s₀ .kept) (s₀ .line) part (sent₀ .bytes) (s .kept) (s .line) (drop (s .at) part) (sent .bytes)
 
 abbrev μ-loop : tie.MeasureT-loop
-μ-loop file part out₀ kept₀ line₀ at₀ out kept line at = length part - at
+μ-loop file part out₀ kept line sent₀ s₀ out sent s = length part - s .at
 
 loop-holds : tie.Need-loop-holds Inv-loop μ-loop
-loop-holds c = (omega arith, refl, handed-none _ _ _ _)
+loop-holds c = (omega arith, refl, handed-none _ _ _ _ _ (search needs))
 
 answer-part-requires : tie.Need-answer-part-requires Inv-loop μ-loop
 answer-part-requires c κs = tt
 
 write-out-requires : tie.Need-write-out-requires Inv-loop μ-loop
-write-out-requires c κs = c .before .before .before .before .before .answer-part .ensures .fits
+write-out-requires c κs =
+    let a = c .before .before .before .answer-part .ensures in
+    (a .fits, answers (a .text))
+
+is-open-requires : tie.Need-is-open-requires Inv-loop μ-loop
+is-open-requires c κs = tt
 
 same-length : tie.Need-same-length Inv-loop μ-loop
 same-length c =
-    let at-answer-part = c .before .before .before .before .before .before .before in
-    at-answer-part .answer-part .ensures .long ∙ at-answer-part .before .before .before .loop .inv .1
+    let at-answer-part = c .before .before .before .before .before .before in
+    at-answer-part .answer-part .ensures .long ∙ at-answer-part .before .before .before .before .loop .inv .1
 
 returns : tie.Need-returns Inv-loop μ-loop
-returns c = λ e. absurd (true≢false (sym e))
+returns c = λ e. absurd (true≢false (sym e ∙ said-no (c .before .is-open .ensures) (c .if2 .taken)))
 
 loop-less : tie.Need-loop-less Inv-loop μ-loop
 loop-less c =
-    let at-answer-part = c .before .before .before .before .before .before .before in
+    let at-answer-part = c .before .before .before .before .before .before in
     let at-loop-test = at-answer-part .before .before in
-    let v = at-loop-test .before .loop .inv in
-    omega (arith, at-loop-test .loop-test .taken, at-answer-part .answer-part .ensures .moves (omega (arith, v .0, v .1)) (at-loop-test .loop-test .taken))
+    let v = at-loop-test .before .before .loop .inv in
+    omega (arith, at-loop-test .if1 .taken, at-answer-part .answer-part .ensures .moves (omega (arith, v .0, v .1)) (at-loop-test .if1 .taken))
 
 loop-again : tie.Need-loop-again Inv-loop μ-loop
 loop-again c =
-    let at-answer-part = c .before .before .before .before .before .before .before in
-    let v = at-answer-part .before .before .before .loop .inv in
-    (v .0, at-answer-part .answer-part .ensures .long ∙ v .1, handed-more _ _ _ _ _ _ _ _ _ _ (v .2) (at-answer-part .answer-part .ensures))
+    let at-is-open = c .before in
+    let at-write-out = at-is-open .before in
+    let at-answer-part = at-write-out .before .before .before .before in
+    let v = at-answer-part .before .before .before .before .loop .inv in
+    let a = at-answer-part .answer-part .ensures in
+    let w = at-write-out .write-out .ensures (said-yes (at-is-open .is-open .ensures) (c .if2 .left)) in
+    (v .0, a .long ∙ v .1, handed-more _ _ _ _ _ _ _ _ _ _ _ _ _ (v .2) a w)
 
 same-length-2 : tie.Need-same-length-2 Inv-loop μ-loop
-same-length-2 c = c .before .loop .inv .1
+same-length-2 c = c .before .before .before .before .loop .inv .1
 
 returns-2 : tie.Need-returns-2 Inv-loop μ-loop
-returns-2 c = λ e. handed-all _ _ _ _ _ _ _ (c .loop-test .left) (c .before .loop .inv .2)
+returns-2 c = λ e. handed-all _ _ _ _ _ _ _ _ _ (c .before .before .if1 .left) (c .before .before .before .before .loop .inv .2)
 
 pub write-part-spec : {M : Type 1} → statement M
 write-part-spec =
@@ -60,6 +71,7 @@ write-part-spec =
     loop-holds
     answer-part-requires
     write-out-requires
+    is-open-requires
     same-length
     returns
     loop-less

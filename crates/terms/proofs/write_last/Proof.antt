@@ -1,0 +1,27 @@
+use native.Mathlib.Omega.{arith}
+use borrow.Author.Needs.{needs}
+use Rattle.sessions.specs.Parts.{last}
+use Rattle.sessions.proofs.Runs.{last-count}
+use Rattle.terms.proofs.write_last.Statement.{statement}
+use Rattle.terms.proofs.write_last.Tie as tie
+
+answer-last-requires : tie.Need-answer-last-requires
+answer-last-requires c κs = tt
+
+write-out-requires : tie.Need-write-out-requires
+write-out-requires c κs =
+    let at-answer-last = c .before .before .before in
+    let start = at-answer-last .before .before .before .before .before .before in
+    (omega (arith, at-answer-last .answer-last .ensures .fits), last (at-answer-last .answer-last .ensures .text (start .pre)))
+
+same-length : tie.Need-same-length
+same-length c = search needs
+
+returns : tie.Need-returns
+returns c = λ e.
+    let at-answer-last = c .before .before .before .before in
+    let start = at-answer-last .before .before .before .before .before .before in
+    last-count _ _ _ _ _ _ _ _ (start .pre) (at-answer-last .answer-last .ensures) (c .write-out .ensures e)
+
+pub write-last-spec : {M : Type 1} → statement M
+write-last-spec = tie.close (tie.spec answer-last-requires write-out-requires same-length returns)
