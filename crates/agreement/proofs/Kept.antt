@@ -94,25 +94,25 @@ abbrev next : Table → Command → Table
 next t c = cond (isMove c) (tableCall t (moveOf c) .table) t
 
 module _ (file : List ℕ) (t : Table) (c : Command) where
-  after-other : c .letter ≡ 0 → keptAfter file (withTable t) c ≡ withTable (next t c)
+  after-other : c .letter ≡ 0 → keptAfter (openCall file) (withTable t) c ≡ withTable (next t c)
   unfolding keptAfter isMove
   after-other e = rw e refl
 
-  after-refused : c .letter ≡ 79 → isOpening file c ≡ false → keptAfter file (withTable t) c ≡ withTable (next t c)
+  after-refused : c .letter ≡ 79 → isOpening file c ≡ false → keptAfter (openCall file) (withTable t) c ≡ withTable (next t c)
   unfolding keptAfter outcomeOf isMove isOpening
   after-refused e n =
       let r : eqb (openCall file (c .id) (c .day) .refusal) 0 ≡ false = rw e at n in
       rw (e, r) refl
 
-  after-roll : c .letter ≡ 82 → keptAfter file (withTable t) c ≡ withTable (next t c)
+  after-roll : c .letter ≡ 82 → keptAfter (openCall file) (withTable t) c ≡ withTable (next t c)
   unfolding keptAfter outcomeOf isMove moveOf rollCall moved
   after-roll e = rw e (call-kept t (rollCall t (c .day)) (refused-keeps t (rollAsks t (c .day)) (moved t (t .calendar) (c .day)) refl))
 
-  after-close : c .letter ≡ 67 → keptAfter file (withTable t) c ≡ withTable (next t c)
+  after-close : c .letter ≡ 67 → keptAfter (openCall file) (withTable t) c ≡ withTable (next t c)
   unfolding keptAfter outcomeOf isMove moveOf closeCall moved
   after-close e = rw e (call-kept t (closeCall t (c .day)) (refused-keeps t (closeAsks t (c .day)) (moved t (closeDay (t .calendar) (c .day)) (t .date)) refl))
 
-  after-line : Letter (c .letter) → isOpening file c ≡ false → keptAfter file (withTable t) c ≡ withTable (next t c)
+  after-line : Letter (c .letter) → isOpening file c ≡ false → keptAfter (openCall file) (withTable t) c ≡ withTable (next t c)
   after-line (none e) n = after-other e
   after-line (O e) n = after-refused e n
   after-line (R e) n = after-roll e
@@ -120,11 +120,11 @@ module _ (file : List ℕ) (t : Table) (c : Command) where
 
 -- an accepted O, whatever was kept before
 module _ (file : List ℕ) (h : Kept) (c : Command) where
-  after-accepted : c .letter ≡ 79 → eqb (openCall file (c .id) (c .day) .refusal) 0 ≡ true → keptAfter file h c ≡ withTable (openCall file (c .id) (c .day) .table)
+  after-accepted : c .letter ≡ 79 → eqb (openCall file (c .id) (c .day) .refusal) 0 ≡ true → keptAfter (openCall file) h c ≡ withTable (openCall file (c .id) (c .day) .table)
   unfolding keptAfter outcomeOf
   after-accepted e r = rw (e, r) refl
 
-  after-opening : isOpening file c ≡ true → (openCall file (c .id) (c .day) .refusal ≡ 0) × (keptAfter file h c ≡ withTable (openCall file (c .id) (c .day) .table))
+  after-opening : isOpening file c ≡ true → (openCall file (c .id) (c .day) .refusal ≡ 0) × (keptAfter (openCall file) h c ≡ withTable (openCall file (c .id) (c .day) .table))
   unfolding isOpening
   after-opening m =
       let b : (eqb (c .letter) 79 ≡ true) × (eqb (openCall file (c .id) (c .day) .refusal) 0 ≡ true) = both (eqb (c .letter) 79) (eqb (openCall file (c .id) (c .day) .refusal) 0) m in
@@ -139,7 +139,7 @@ run-next t true m ms = refl
 run-next t false m ms = refl
 
 -- lines with no accepted O among them, on a table
-after-lines : (file : List ℕ) (t : Table) (lines : List (List ℕ)) → noOpening file lines ≡ true → keptRun file (withTable t) lines ≡ withTable (tableRun t (movesOf lines))
+after-lines : (file : List ℕ) (t : Table) (lines : List (List ℕ)) → noOpening file lines ≡ true → keptRun (openCall file) (withTable t) lines ≡ withTable (tableRun t (movesOf lines))
 unfolding keptRun noOpening movesOf tableRun
 after-lines file t [] m = refl
 after-lines file t (line ∷ lines) m = go (both (not (isOpening file c)) (noOpening file lines) m) (after-lines file (next t c) lines)
@@ -147,32 +147,32 @@ after-lines file t (line ∷ lines) m = go (both (not (isOpening file c)) (noOpe
     c : Command
     c = commandOf line
 
-    go : (not (isOpening file c) ≡ true) × (noOpening file lines ≡ true) → (noOpening file lines ≡ true → keptRun file (withTable (next t c)) lines ≡ withTable (tableRun (next t c) (movesOf lines)))
-        → keptRun file (keptAfter file (withTable t) c) lines ≡ withTable (tableRun t (cond (isMove c) (moveOf c ∷ movesOf lines) (movesOf lines)))
+    go : (not (isOpening file c) ≡ true) × (noOpening file lines ≡ true) → (noOpening file lines ≡ true → keptRun (openCall file) (withTable (next t c)) lines ≡ withTable (tableRun (next t c) (movesOf lines)))
+        → keptRun (openCall file) (keptAfter (openCall file) (withTable t) c) lines ≡ withTable (tableRun t (cond (isMove c) (moveOf c ∷ movesOf lines) (movesOf lines)))
     go b more =
-        ap (λ (h : Kept). keptRun file h lines) (after-line file t c (letter-of line) (not-true (isOpening file c) (b .0)))
+        ap (λ (h : Kept). keptRun (openCall file) h lines) (after-line file t c (letter-of line) (not-true (isOpening file c) (b .0)))
         ∙ more (b .1)
         ∙ ap withTable (run-next t (isMove c) (moveOf c) (movesOf lines))
 
 -- what is kept after a session, from its last accepted O on: the table of demand 3, for the R and C after it
 pub session-history : (file : List ℕ) (h : Kept) (earlier : List (List ℕ)) (line : List ℕ) (lines : List (List ℕ)) → isOpening file (commandOf line) ≡ true → noOpening file lines ≡ true
-    → KeptHistory file (commandOf line) (movesOf lines) (keptRun file h (earlier ++ (line ∷ lines)))
+    → KeptHistory file (commandOf line) (movesOf lines) (keptRun (openCall file) h (earlier ++ (line ∷ lines)))
 unfolding keptRun
-session-history file h earlier line lines o m = rw (kept-append file h earlier (line ∷ lines)) (rw is (record { opened = refl; table = ap (λ (t : Table). tableRun t (movesOf lines)) (all [] .opened); demand = all }))
+session-history file h earlier line lines o m = rw (kept-append (openCall file) h earlier (line ∷ lines)) (rw is (record { opened = refl; table = ap (λ (t : Table). tableRun t (movesOf lines)) (all [] .opened); demand = all }))
   where
     c : Command
     c = commandOf line
 
-    a : (openCall file (c .id) (c .day) .refusal ≡ 0) × (keptAfter file (keptRun file h earlier) c ≡ withTable (openCall file (c .id) (c .day) .table))
-    a = after-opening file (keptRun file h earlier) c o
+    a : (openCall file (c .id) (c .day) .refusal ≡ 0) × (keptAfter (openCall file) (keptRun (openCall file) h earlier) c ≡ withTable (openCall file (c .id) (c .day) .table))
+    a = after-opening file (keptRun (openCall file) h earlier) c o
 
-    is : keptRun file (keptAfter file (keptRun file h earlier) c) lines ≡ withTable (tableRun (openCall file (c .id) (c .day) .table) (movesOf lines))
-    is = ap (λ (k : Kept). keptRun file k lines) (a .1) ∙ after-lines file (openCall file (c .id) (c .day) .table) lines m
+    is : keptRun (openCall file) (keptAfter (openCall file) (keptRun (openCall file) h earlier) c) lines ≡ withTable (tableRun (openCall file (c .id) (c .day) .table) (movesOf lines))
+    is = ap (λ (k : Kept). keptRun (openCall file) k lines) (a .1) ∙ after-lines file (openCall file (c .id) (c .day) .table) lines m
 
     all : (more : List Call) → FromFile file (c .id) (c .day) (movesOf lines) more
     all more = from-file file (c .id) (c .day) (a .0) (movesOf lines) more
 
 -- the same of an input that the program is given: what it holds at the end, in the form that the contract of a part speaks of
 pub input-history : (file input : List ℕ) (earlier : List (List ℕ)) (line : List ℕ) (lines : List (List ℕ)) → linesFrom [] input ≡ earlier ++ (line ∷ lines)
-    → isOpening file (commandOf line) ≡ true → noOpening file lines ≡ true → KeptHistory file (commandOf line) (movesOf lines) (restKept file nothingKept emptyLine input)
-input-history file input earlier line lines e o m = rw (whole-kept file input, e) (session-history file nothingKept earlier line lines o m)
+    → isOpening file (commandOf line) ≡ true → noOpening file lines ≡ true → KeptHistory file (commandOf line) (movesOf lines) (restKept (openCall file) nothingKept emptyLine input)
+input-history file input earlier line lines e o m = rw (whole-kept (openCall file) input, e) (session-history file nothingKept earlier line lines o m)

@@ -10,15 +10,17 @@ use borrow.Author.Tests.{ltb-true}
 use Rattle.questions.specs.Questions.{Ask, ask, firstNo, Answer, answer}
 use Rattle.questions.proofs.Bools.{and-fst, and-snd}
 use Rattle.questions.proofs.Asks.{none-no, no-asks, first-yes, accepted}
+use Rattle.calendar.specs.declared.Calendar.{Calendar}
 use Rattle.calendar.specs.Trading.{inCover}
 use Rattle.listing.specs.Months.{listingOf, allInCover, weekIntoCover}
 use Rattle.years.specs.Calendars.{calendarOf}
 use Rattle.master.specs.Products.{productAt}
-use Rattle.master.specs.Load.{loadAsks, found, placeFrom, placeOf, findAsks, findCall, findAnswer, productOf}
+use Rattle.master.specs.Load.{loadAsks, judgeCall, found, placeFrom, placeOf, findAsks, findCall, findAnswer, productOf}
 use Rattle.master.specs.declared.Found.{Found}
 use Rattle.master.specs.declared.Found.the-variants.{At, Nothing}
 use Rattle.master.specs.declared.Place.{Place}
-use Rattle.opening.specs.Opening.{openAsks, refusedOpening, openingOf}
+use Rattle.master.proofs.Answers.{judge-accepted}
+use Rattle.opening.specs.Opening.{openAsks, refusedOpening, openingOf, asksIn, openingIn}
 
 -- of two lists of questions, one after the other
 append-no : (qs rs : List Ask) (n : ℕ) → firstNo qs ≡ suc n → firstNo (qs ++ rs) ≡ suc n
@@ -67,50 +69,74 @@ find-none f id e = go (found f id) refl (find-refusal f id Nothing e)
     go true q r = let z : _≡_ {A = ℕ} 9 0 = rw q at r in absurd (omega arith)
     go false q r = q
 
--- an opening by its questions' answer
-opening-no : (f id : List ℕ) (date n : ℕ) → firstNo (openAsks f id date) ≡ suc n → openingOf f id date ≡ refusedOpening (suc n)
-unfolding openingOf
-opening-no f id date n e = rw (e, eqb·suc-zero n)
+-- an opening by a verdict, question by question
+module _ (verdict : Answer Calendar) (f id : List ℕ) (date : ℕ) where
+  in-no : (n : ℕ) → firstNo (asksIn verdict f id date) ≡ suc n → openingIn verdict f id date ≡ refusedOpening (suc n)
+  unfolding openingIn
+  in-no n e = rw (e, eqb·suc-zero n)
 
-module _ (f id : List ℕ) (date : ℕ) where
   -- 1 to 8
-  open-load : (n : ℕ) → firstNo (loadAsks f) ≡ suc n → openingOf f id date ≡ refusedOpening (suc n)
-  unfolding openAsks
-  open-load n e = opening-no f id date n (append-no (loadAsks f) _ n e)
+  first-in : (n : ℕ) → verdict .refusal ≡ suc n → firstNo (asksIn verdict f id date) ≡ suc n
+  unfolding asksIn firstNo
+  first-in n e = rw (e, eqb·suc-zero n) refl
 
-  pub open-refused : (q : ℕ) → q ≡ firstNo (loadAsks f) → (q ≡ 0 → ⊥) → refusedOpening q ≡ openingOf f id date
-  open-refused zero e h = absurd (h refl)
-  open-refused (suc n) e h = sym (open-load n (sym e))
+  pub in-refused : (q : ℕ) → verdict .refusal ≡ q → (q ≡ 0 → ⊥) → refusedOpening q ≡ openingIn verdict f id date
+  in-refused zero e h = absurd (h refl)
+  in-refused (suc n) e h = sym (in-no n (first-in n e))
 
-  module _ (a : firstNo (loadAsks f) ≡ 0) where
-    -- the questions after load's
-    rest-is : firstNo (openAsks f id date) ≡ firstNo (ask 9 (found f id) ∷ ask 11 (inCover (calendarOf f .cover) date) ∷ ask 24 (weekIntoCover (productOf f id .kind) (calendarOf f .cover) date) ∷ ask 16 (allInCover (calendarOf f) (productOf f id .kind) (productOf f id .group) date) ∷ [])
-    unfolding openAsks
-    rest-is = append-yes (loadAsks f) _ (load-numbers f) a
+  module _ (a : verdict .refusal ≡ 0) where
+    -- the questions after those of load
+    rest-in : firstNo (asksIn verdict f id date)
+        ≡ firstNo (ask 9 (found f id) ∷ ask 11 (inCover (verdict .value .cover) date) ∷ ask 24 (weekIntoCover (productOf f id .kind) (verdict .value .cover) date) ∷ ask 16 (allInCover (verdict .value) (productOf f id .kind) (productOf f id .group) date) ∷ [])
+    unfolding asksIn firstNo
+    rest-in = rw a refl
 
-    pub open-9 : found f id ≡ false → openingOf f id date ≡ refusedOpening 9
+    pub in-9 : found f id ≡ false → openingIn verdict f id date ≡ refusedOpening 9
     unfolding firstNo
-    open-9 b = opening-no f id date 8 (rest-is ∙ rw b)
+    in-9 b = in-no 8 (rest-in ∙ rw b)
 
     module _ (b : found f id ≡ true) where
-      pub open-11 : inCover (calendarOf f .cover) date ≡ false → openingOf f id date ≡ refusedOpening 11
+      pub in-11 : inCover (verdict .value .cover) date ≡ false → openingIn verdict f id date ≡ refusedOpening 11
       unfolding firstNo
-      open-11 c = opening-no f id date 10 (rest-is ∙ rw (b, c))
+      in-11 c = in-no 10 (rest-in ∙ rw (b, c))
 
-      module _ (c : inCover (calendarOf f .cover) date ≡ true) where
-        pub open-24 : weekIntoCover (productOf f id .kind) (calendarOf f .cover) date ≡ false → openingOf f id date ≡ refusedOpening 24
+      module _ (c : inCover (verdict .value .cover) date ≡ true) where
+        pub in-24 : weekIntoCover (productOf f id .kind) (verdict .value .cover) date ≡ false → openingIn verdict f id date ≡ refusedOpening 24
         unfolding firstNo
-        open-24 w = opening-no f id date 23 (rest-is ∙ rw (b, c, w))
+        in-24 w = in-no 23 (rest-in ∙ rw (b, c, w))
 
-        module _ (w : weekIntoCover (productOf f id .kind) (calendarOf f .cover) date ≡ true) where
-          pub open-16 : allInCover (calendarOf f) (productOf f id .kind) (productOf f id .group) date ≡ false → openingOf f id date ≡ refusedOpening 16
+        module _ (w : weekIntoCover (productOf f id .kind) (verdict .value .cover) date ≡ true) where
+          pub in-16 : allInCover (verdict .value) (productOf f id .kind) (productOf f id .group) date ≡ false → openingIn verdict f id date ≡ refusedOpening 16
           unfolding firstNo
-          open-16 d = opening-no f id date 15 (rest-is ∙ rw (b, c, w, d))
+          in-16 d = in-no 15 (rest-in ∙ rw (b, c, w, d))
 
-          pub open-yes : allInCover (calendarOf f) (productOf f id .kind) (productOf f id .group) date ≡ true
-              → openingOf f id date ≡ record { refusal = 0; product = productOf f id; calendar = calendarOf f; fresh = listingOf (calendarOf f) (productOf f id .kind) (productOf f id .group) date .maturities }
-          unfolding openingOf listingOf firstNo
-          open-yes d = let z : firstNo (openAsks f id date) ≡ 0 = rest-is ∙ rw (b, c, w, d) in rw z
+          pub in-yes : allInCover (verdict .value) (productOf f id .kind) (productOf f id .group) date ≡ true
+              → openingIn verdict f id date ≡ record { refusal = 0; product = productOf f id; calendar = verdict .value; fresh = listingOf (verdict .value) (productOf f id .kind) (productOf f id .group) date .maturities }
+          unfolding openingIn listingOf firstNo
+          in-yes d = let z : firstNo (asksIn verdict f id date) ≡ 0 = rest-in ∙ rw (b, c, w, d) in rw z
+
+-- the questions after load's
+module _ (f id : List ℕ) (date : ℕ) where
+  rest-is : firstNo (loadAsks f) ≡ 0 → firstNo (openAsks f id date) ≡ firstNo (ask 9 (found f id) ∷ ask 11 (inCover (calendarOf f .cover) date) ∷ ask 24 (weekIntoCover (productOf f id .kind) (calendarOf f .cover) date) ∷ ask 16 (allInCover (calendarOf f) (productOf f id .kind) (productOf f id .group) date) ∷ [])
+  unfolding openAsks
+  rest-is a = append-yes (loadAsks f) _ (load-numbers f) a
+
+  -- a file that is refused, and an accepted one, by its own verdict
+  pub verdict-no : (n : ℕ) → firstNo (loadAsks f) ≡ suc n → (firstNo (asksIn (judgeCall f) f id date) ≡ suc n) × (firstNo (openAsks f id date) ≡ suc n)
+  unfolding openAsks asksIn firstNo judgeCall answer
+  verdict-no n e = (rw (e, eqb·suc-zero n) refl, append-no (loadAsks f) _ n e)
+
+  pub verdict-yes : firstNo (loadAsks f) ≡ 0 → (judgeCall f ≡ record { refusal = 0; value = calendarOf f }) × (firstNo (asksIn (record { refusal = 0; value = calendarOf f }) f id date) ≡ firstNo (openAsks f id date))
+  verdict-yes e = (judge-accepted f e, rest-in (record { refusal = 0; value = calendarOf f }) f id date refl ∙ sym (rest-is e))
+
+  -- an opening by the file's own verdict
+  pub opening-is : openingIn (judgeCall f) f id date ≡ openingOf f id date
+  unfolding openingIn openingOf
+  opening-is = go (firstNo (loadAsks f)) refl
+    where
+      go : (n : ℕ) → firstNo (loadAsks f) ≡ n → openingIn (judgeCall f) f id date ≡ openingOf f id date
+      go zero e = rw (verdict-yes e .0) (rw (verdict-yes e .1) refl)
+      go (suc n) e = rw (verdict-no n e .0, verdict-no n e .1, eqb·suc-zero n) refl
 
 -- what the questions of an accepted open leave
 pub record OpenedFrom (f id : List ℕ) (date : ℕ) : Type 0 where
@@ -135,4 +161,28 @@ opened-from f id date q =
     let (b, r2) = none-no 10 (inCover (calendarOf f .cover) date) _ r1 in
     let (w, r3) = none-no 23 (weekIntoCover (productOf f id .kind) (calendarOf f .cover) date) _ r2 in
     let (c, r4) = none-no 15 (allInCover (calendarOf f) (productOf f id .kind) (productOf f id .group) date) [] r3 in
+    record { loaded = l; there = a; dated = b; week = w; whole = c }
+
+-- and those of an accepted open by a verdict
+pub record OpenedIn (verdict : Answer Calendar) (f id : List ℕ) (date : ℕ) : Type 0 where
+  pub loaded : verdict .refusal ≡ 0
+  pub there : found f id ≡ true
+  pub dated : inCover (verdict .value .cover) date ≡ true
+  pub week : weekIntoCover (productOf f id .kind) (verdict .value .cover) date ≡ true
+  pub whole : allInCover (verdict .value) (productOf f id .kind) (productOf f id .group) date ≡ true
+
+verdict-first : (verdict : Answer Calendar) (f id : List ℕ) (date : ℕ) → firstNo (asksIn verdict f id date) ≡ 0 → verdict .refusal ≡ 0
+verdict-first verdict f id date q = go (verdict .refusal) refl
+  where
+    go : (n : ℕ) → verdict .refusal ≡ n → verdict .refusal ≡ 0
+    go zero e = e
+    go (suc n) e = absurd (omega (arith, q, first-in verdict f id date n e))
+
+pub opened-in : (verdict : Answer Calendar) (f id : List ℕ) (date : ℕ) → firstNo (asksIn verdict f id date) ≡ 0 → OpenedIn verdict f id date
+opened-in verdict f id date q =
+    let l = verdict-first verdict f id date q in
+    let (a, r1) = none-no 8 (found f id) _ (sym (rest-in verdict f id date l) ∙ q) in
+    let (b, r2) = none-no 10 (inCover (verdict .value .cover) date) _ r1 in
+    let (w, r3) = none-no 23 (weekIntoCover (productOf f id .kind) (verdict .value .cover) date) _ r2 in
+    let (c, r4) = none-no 15 (allInCover (verdict .value) (productOf f id .kind) (productOf f id .group) date) [] r3 in
     record { loaded = l; there = a; dated = b; week = w; whole = c }

@@ -5,7 +5,7 @@ use mathlib.Core.Bool.{cond}
 use mathlib.Core.List.{List, [], _∷_, _++_}
 use lib.Dec.{eqb}
 use lib.ListN.{replicate}
-use Rattle.questions.specs.Questions.{Ask, ask, firstNo}
+use Rattle.questions.specs.Questions.{Ask, ask, firstNo, Answer}
 use Rattle.calendar.specs.Trading.{inCover, zeroCalendar}
 use Rattle.calendar.specs.declared.Calendar.{Calendar}
 use Rattle.product.specs.declared.Product.{Product}
@@ -55,3 +55,25 @@ openingOf f id date =
       fresh = places15 (freshOf (calendarOf f) (productOf f id .kind) (productOf f id .group) date);
     })
     (refusedOpening (firstNo (openAsks f id date)))
+
+-- the questions of open where the verdict of 1 to 8 is at hand: its number, 0 where all are answered yes, and the file's calendar
+unfoldable pub asksIn : Answer Calendar → List ℕ → List ℕ → ℕ → List Ask
+asksIn verdict f id date =
+    ask (verdict .refusal) (eqb (verdict .refusal) 0)
+    ∷ ask 9 (found f id)
+    ∷ ask 11 (inCover (verdict .value .cover) date)
+    ∷ ask 24 (weekIntoCover (productOf f id .kind) (verdict .value .cover) date)
+    ∷ ask 16 (allInCover (verdict .value) (productOf f id .kind) (productOf f id .group) date)
+    ∷ []
+
+-- what is found in a file by a verdict; by the file's own it is `openingOf`
+unfoldable pub openingIn : Answer Calendar → List ℕ → List ℕ → ℕ → Opening
+openingIn verdict f id date =
+    cond (eqb (firstNo (asksIn verdict f id date)) 0)
+    (record {
+      refusal = 0;
+      product = productOf f id;
+      calendar = verdict .value;
+      fresh = places15 (freshOf (verdict .value) (productOf f id .kind) (productOf f id .group) date);
+    })
+    (refusedOpening (firstNo (asksIn verdict f id date)))

@@ -5,8 +5,10 @@ use master::Found;
 use product::Kind;
 use product::Product;
 use product::Text;
+use years::FileCalendar;
 ghost use mathlib.Core.Path.{_≡_};
-ghost use Rattle.opening.specs.Opening.{zeroProduct, refusedOpening, openingOf};
+ghost use Rattle.years.specs.Calendars.{calendarAnswer};
+ghost use Rattle.opening.specs.Opening.{zeroProduct, refusedOpening, openingOf, openingIn};
 
 // The number of the refusal, 0 where there is none; the product, the file's calendar, and the fresh listing, not yet numbered.
 pub struct Opening {
@@ -46,11 +48,10 @@ fn refused_opening(number: u8) -> Opening
     }
 }
 
-// The product with an id, the file's calendar, and the fresh listing on a date.
-pub fn opening_of(file: &[u8], id: [u8; 4], date: u16) -> Opening
-    ensures { λ r. ⌜ r ≡ openingOf (now (file .entry)) id date ⌝ }
+// The product with an id, the calendar of a verdict, and the fresh listing on a date. The file's verdict by `judge` is at hand, so questions 1 to 8 are not asked again.
+pub fn opening_in(file: &[u8], judged: FileCalendar, id: [u8; 4], date: u16) -> Opening
+    ensures { λ r. ⌜ r ≡ openingIn (calendarAnswer judged) (now (file .entry)) id date ⌝ }
 {
-    let judged = master::judge(file);
     let refusal = judged.refusal;
     if refusal != 0 {
         return refused_opening(refusal);
@@ -79,4 +80,12 @@ pub fn opening_of(file: &[u8], id: [u8; 4], date: u16) -> Opening
         calendar,
         fresh,
     }
+}
+
+// The product with an id, the file's calendar, and the fresh listing on a date.
+pub fn opening_of(file: &[u8], id: [u8; 4], date: u16) -> Opening
+    ensures { λ r. ⌜ r ≡ openingOf (now (file .entry)) id date ⌝ }
+{
+    let judged = master::judge(file);
+    opening_in(file, judged, id, date)
 }

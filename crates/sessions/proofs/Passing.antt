@@ -12,12 +12,12 @@ use lib.ListN.{length, getD, take, drop, length-append, length-drop, take-append
 use lib.Seq.{slice, slice-cons, slice-empty, length-slice, length-take-le, drop-append-le, drop-cons, drop-drop, take-at, drop-at, getD-take, getD-drop}
 use borrow.Author.Tests.{lt-ltb, le-ltb, ltb-true, le-leb, eq-eqb, ne-eqb}
 use Rattle.questions.proofs.Bools.{clash, both, and-both, lt-or-ge}
+use Rattle.table.specs.declared.Outcome.{Outcome}
 use Rattle.lines.specs.declared.Line.{Line}
 use Rattle.lines.specs.Lines.{lineCommand, emptyLine, extended, fed}
 use Rattle.printing.specs.Buffer.{roomy, Printed}
 use Rattle.printing.proofs.Writing.{no-room, room-is, room-long}
 use Rattle.command.specs.declared.Kept.{Kept}
-use Rattle.command.specs.declared.Answered.{Answered}
 use Rattle.command.specs.Sessions.{answerText, keptAfter, restText, restKept}
 use Rattle.command.proofs.Session.{passed-bytes, text-byte, kept-byte, text-line, kept-line, text-end}
 use Rattle.sessions.specs.declared.Progress.{Progress}
@@ -134,17 +134,17 @@ module _ (part : List ℕ) (at end : ℕ) (e : LineEnd part at end) where
       ∙ ap (g l) (append-assoc (slice at end part) (drop end part) rest)
       ∙ passed-bytes g step l (slice at end part) (drop end part ++ rest) none-in
 
-module _ (file part before : List ℕ) (s : Progress) (inside : s .at < length part) (room : roomy before (s .length) ≡ true)
+module _ (opening : List ℕ → ℕ → Outcome) (part before : List ℕ) (s : Progress) (inside : s .at < length part) (room : roomy before (s .length) ≡ true)
     (end : ℕ) (e : LineEnd part (s .at) end) (l : Line) (f : l ≡ fed (s .line) (slice (s .at) end part)) where
   -- the text and what is kept, from the line's end on
-  text-on : (rest : List ℕ) → restText file (s .kept) (s .line) (drop (s .at) part ++ rest) ≡ restText file (s .kept) l (drop end part ++ rest)
-  text-on rest = to-end part (s .at) end e (restText file (s .kept)) (text-byte file (s .kept)) (s .line) rest ∙ ap (λ (k : Line). restText file (s .kept) k (drop end part ++ rest)) (sym f)
+  text-on : (rest : List ℕ) → restText opening (s .kept) (s .line) (drop (s .at) part ++ rest) ≡ restText opening (s .kept) l (drop end part ++ rest)
+  text-on rest = to-end part (s .at) end e (restText opening (s .kept)) (text-byte opening (s .kept)) (s .line) rest ∙ ap (λ (k : Line). restText opening (s .kept) k (drop end part ++ rest)) (sym f)
 
-  kept-on : (rest : List ℕ) → restKept file (s .kept) (s .line) (drop (s .at) part ++ rest) ≡ restKept file (s .kept) l (drop end part ++ rest)
-  kept-on rest = to-end part (s .at) end e (restKept file (s .kept)) (kept-byte file (s .kept)) (s .line) rest ∙ ap (λ (k : Line). restKept file (s .kept) k (drop end part ++ rest)) (sym f)
+  kept-on : (rest : List ℕ) → restKept opening (s .kept) (s .line) (drop (s .at) part ++ rest) ≡ restKept opening (s .kept) l (drop end part ++ rest)
+  kept-on rest = to-end part (s .at) end e (restKept opening (s .kept)) (kept-byte opening (s .kept)) (s .line) rest ∙ ap (λ (k : Line). restKept opening (s .kept) k (drop end part ++ rest)) (sym f)
 
   -- the line does not end in the part
-  pub goes-past : length part ≤ end → Next file part before before s (record { kept = s .kept; line = l; at = end; length = s .length })
+  pub goes-past : length part ≤ end → Next opening part before before s (record { kept = s .kept; line = l; at = end; length = s .length })
   goes-past h =
       record {
         piece = [];
@@ -158,11 +158,11 @@ module _ (file part before : List ℕ) (s : Progress) (inside : s .at < length p
       }
 
   -- a line feed ends it
-  pub is-answered : (after : List ℕ) (a : Answered) (empty : Line) → end < length part → empty ≡ emptyLine
-      → a .kept ≡ keptAfter file (s .kept) (lineCommand l)
-      → Printed before after (s .length) (a .at) (answerText file (s .kept) (lineCommand l))
-      → Next file part before after s (record { kept = a .kept; line = empty; at = end + 1; length = a .at })
-  is-answered after a empty h n k p =
+  pub is-answered : (after : List ℕ) (kept : Kept) (next : ℕ) (empty : Line) → end < length part → empty ≡ emptyLine
+      → kept ≡ keptAfter opening (s .kept) (lineCommand l)
+      → Printed before after (s .length) (next) (answerText opening (s .kept) (lineCommand l))
+      → Next opening part before after s (record { kept = kept; line = empty; at = end + 1; length = next })
+  is-answered after kept next empty h n k p =
       record {
         piece = answer;
         text = λ rest. text-on rest ∙ text-ends rest;
@@ -175,38 +175,38 @@ module _ (file part before : List ℕ) (s : Progress) (inside : s .at < length p
       }
     where
       answer : List ℕ
-      answer = answerText file (s .kept) (lineCommand l)
+      answer = answerText opening (s .kept) (lineCommand l)
 
-      w : Put before after (s .length) (a .at) answer
-      w = put before after (s .length) (a .at) answer room p
+      w : Put before after (s .length) (next) answer
+      w = put before after (s .length) (next) answer room p
 
       cut : drop end part ≡ getD part end 0 ∷ drop (end + 1) part
       cut = drop-cons part end 0 h ∙ ap (λ (k : ℕ). getD part end 0 ∷ drop k part) (sym (add-one end))
 
-      text-ends : (rest : List ℕ) → restText file (s .kept) l (drop end part ++ rest) ≡ answer ++ restText file (a .kept) empty (drop (end + 1) part ++ rest)
-      text-ends rest = rw (cut, k, n) (text-line file (s .kept) l (getD part end 0) (drop (end + 1) part ++ rest) (e .feed h))
+      text-ends : (rest : List ℕ) → restText opening (s .kept) l (drop end part ++ rest) ≡ answer ++ restText opening (kept) empty (drop (end + 1) part ++ rest)
+      text-ends rest = rw (cut, k, n) (text-line opening (s .kept) l (getD part end 0) (drop (end + 1) part ++ rest) (e .feed h))
 
-      kept-ends : (rest : List ℕ) → restKept file (s .kept) l (drop end part ++ rest) ≡ restKept file (a .kept) empty (drop (end + 1) part ++ rest)
-      kept-ends rest = rw (cut, k, n) (kept-line file (s .kept) l (getD part end 0) (drop (end + 1) part ++ rest) (e .feed h))
+      kept-ends : (rest : List ℕ) → restKept opening (s .kept) l (drop end part ++ rest) ≡ restKept opening (kept) empty (drop (end + 1) part ++ rest)
+      kept-ends rest = rw (cut, k, n) (kept-line opening (s .kept) l (getD part end 0) (drop (end + 1) part ++ rest) (e .feed h))
 
 -- ---- all lines of a part
 
 -- on the way: nothing has been done yet, or the place has moved on
-pub record Going (file : List ℕ) (h : Kept) (l : Line) (part : List ℕ) (from : ℕ) (before after : List ℕ) (r : Progress) : Type 0 where
-  pub text : (rest : List ℕ) → restText file h l (drop from part ++ rest) ≡ take (r .length) after ++ restText file (r .kept) (r .line) (drop (r .at) part ++ rest)
-  pub state : (rest : List ℕ) → restKept file h l (drop from part ++ rest) ≡ restKept file (r .kept) (r .line) (drop (r .at) part ++ rest)
+pub record Going (opening : List ℕ → ℕ → Outcome) (h : Kept) (l : Line) (part : List ℕ) (from : ℕ) (before after : List ℕ) (r : Progress) : Type 0 where
+  pub text : (rest : List ℕ) → restText opening h l (drop from part ++ rest) ≡ take (r .length) after ++ restText opening (r .kept) (r .line) (drop (r .at) part ++ rest)
+  pub state : (rest : List ℕ) → restKept opening h l (drop from part ++ rest) ≡ restKept opening (r .kept) (r .line) (drop (r .at) part ++ rest)
   pub fits : r .length ≤ length after
   pub unchanged : drop (r .length) after ≡ drop (r .length) before
   pub long : length after ≡ length before
   pub within : from ≤ length part → r .at ≤ length part
   pub on : ((r ≡ record { kept = h; line = l; at = from; length = 0 }) × (after ≡ before)) ⊎ ((512 ≤ length before) × (from < length part) × (from < r .at))
 
-module _ (file : List ℕ) (h : Kept) (l : Line) (part : List ℕ) (from : ℕ) (before : List ℕ) where
-  pub begins : Going file h l part from before before (record { kept = h; line = l; at = from; length = 0 })
+module _ (opening : List ℕ → ℕ → Outcome) (h : Kept) (l : Line) (part : List ℕ) (from : ℕ) (before : List ℕ) where
+  pub begins : Going opening h l part from before before (record { kept = h; line = l; at = from; length = 0 })
   begins = record { text = λ rest. refl; state = λ rest. refl; fits = omega arith; unchanged = refl; long = refl; within = λ k. k; on = inl (refl, refl) }
 
-  module _ (out : List ℕ) (s : Progress) (g : Going file h l part from before out s) where
-    pub goes : (after : List ℕ) (r : Progress) {b : Bool} → b ≡ another part (s .at) out (s .length) → b ≡ true → Next file part out after s r → Going file h l part from before after r
+  module _ (out : List ℕ) (s : Progress) (g : Going opening h l part from before out s) where
+    pub goes : (after : List ℕ) (r : Progress) {b : Bool} → b ≡ another part (s .at) out (s .length) → b ≡ true → Next opening part out after s r → Going opening h l part from before after r
     goes after r e t n =
         record {
           text = λ rest. g .text rest ∙ joined rest;
@@ -224,11 +224,11 @@ module _ (file : List ℕ) (h : Kept) (l : Line) (part : List ℕ) (from : ℕ) 
         in-part : s .at < length part
         in-part = room .0
 
-        joined : (rest : List ℕ) → take (s .length) out ++ restText file (s .kept) (s .line) (drop (s .at) part ++ rest)
-            ≡ take (r .length) after ++ restText file (r .kept) (r .line) (drop (r .at) part ++ rest)
+        joined : (rest : List ℕ) → take (s .length) out ++ restText opening (s .kept) (s .line) (drop (s .at) part ++ rest)
+            ≡ take (r .length) after ++ restText opening (r .kept) (r .line) (drop (r .at) part ++ rest)
         joined rest =
             rw (n .text rest, n .is)
-            (sym (append-assoc (take (s .length) out) (n .piece) (restText file (r .kept) (r .line) (drop (r .at) part ++ rest))))
+            (sym (append-assoc (take (s .length) out) (n .piece) (restText opening (r .kept) (r .line) (drop (r .at) part ++ rest))))
 
         further : s .length + (r .length - s .length) ≡ r .length
         further = omega (arith, n .fits .0)
@@ -250,7 +250,7 @@ module _ (file : List ℕ) (h : Kept) (l : Line) (part : List ℕ) (from : ℕ) 
         later (inl e) = omega (arith, same-place (e .0), n .on .0)
         later (inr e) = omega (arith, e .2, n .on .0)
 
-    pub finishes : {b : Bool} → b ≡ another part (s .at) out (s .length) → b ≡ false → Answers file h l part from before out s
+    pub finishes : {b : Bool} → b ≡ another part (s .at) out (s .length) → b ≡ false → Answers opening h l part from before out s
     finishes e t =
         record {
           text = g .text;
@@ -288,24 +288,24 @@ module _ (file : List ℕ) (h : Kept) (l : Line) (part : List ℕ) (from : ℕ) 
 
 -- ---- the last line
 
-module _ (file : List ℕ) (h : Kept) (l : Line) (before : List ℕ) where
-  pub no-last : l .length ≡ 0 → LastAnswer file h l before before 0
+module _ (opening : List ℕ → ℕ → Outcome) (h : Kept) (l : Line) (before : List ℕ) where
+  pub no-last : l .length ≡ 0 → LastAnswer opening h l before before 0
   no-last e =
       record {
-        text = λ r. text-end file h l ∙ rw (eq-eqb (l .length) 0 e) refl;
+        text = λ r. text-end opening h l ∙ rw (eq-eqb (l .length) 0 e) refl;
         fits = omega arith;
         unchanged = refl;
         long = refl;
         idle = λ r. (refl, refl);
       }
 
-  pub last : (after : List ℕ) (next : ℕ) → (l .length ≡ 0 → ⊥) → Printed before after 0 next (answerText file h (lineCommand l)) → LastAnswer file h l before after next
+  pub last : (after : List ℕ) (next : ℕ) → (l .length ≡ 0 → ⊥) → Printed before after 0 next (answerText opening h (lineCommand l)) → LastAnswer opening h l before after next
   last after next e p = go (lt-or-ge (length before) 512)
     where
       answer : List ℕ
-      answer = answerText file h (lineCommand l)
+      answer = answerText opening h (lineCommand l)
 
-      go : (length before < 512) ⊎ (512 ≤ length before) → LastAnswer file h l before after next
+      go : (length before < 512) ⊎ (512 ≤ length before) → LastAnswer opening h l before after next
       go (inl k) =
           let n : next ≡ 0 = rw (no-room before 0 k) at (p .to) in
           let a : after ≡ before = rw (no-room before 0 k) at (p .is) in
@@ -313,7 +313,7 @@ module _ (file : List ℕ) (h : Kept) (l : Line) (before : List ℕ) where
       go (inr k) =
           let w : Put before after 0 next answer = put before after 0 next answer (roomed before 0 k) p in
           record {
-            text = λ r. text-end file h l ∙ rw (ne-eqb (l .length) 0 e) (sym (w .head));
+            text = λ r. text-end opening h l ∙ rw (ne-eqb (l .length) 0 e) (sym (w .head));
             fits = w .fits;
             unchanged = w .tail;
             long = p .long;

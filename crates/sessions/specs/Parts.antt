@@ -10,6 +10,7 @@ use lib.ListN.{length, getD, take, drop}
 use Rattle.lines.specs.declared.Line.{Line}
 use Rattle.lines.specs.Lines.{emptyLine}
 use Rattle.printing.specs.Buffer.{roomy}
+use Rattle.table.specs.declared.Outcome.{Outcome}
 use Rattle.command.specs.declared.Kept.{Kept}
 use Rattle.command.specs.Sessions.{nothingKept, restText, restKept}
 use Rattle.sessions.specs.declared.Progress.{Progress}
@@ -26,10 +27,10 @@ unfoldable pub another : List ℕ → ℕ → List ℕ → ℕ → Bool
 another part at out n = ltb at (length part) && roomy out n
 
 -- one line, or the rest of the part: a piece of text stands after what stood in the buffer, and for every rest of the input it is what comes next
-pub record Next (file part before after : List ℕ) (s r : Progress) : Type 0 where
+pub record Next (opening : List ℕ → ℕ → Outcome) (part before after : List ℕ) (s r : Progress) : Type 0 where
   pub piece : List ℕ
-  pub text : (rest : List ℕ) → restText file (s .kept) (s .line) (drop (s .at) part ++ rest) ≡ piece ++ restText file (r .kept) (r .line) (drop (r .at) part ++ rest)
-  pub state : (rest : List ℕ) → restKept file (s .kept) (s .line) (drop (s .at) part ++ rest) ≡ restKept file (r .kept) (r .line) (drop (r .at) part ++ rest)
+  pub text : (rest : List ℕ) → restText opening (s .kept) (s .line) (drop (s .at) part ++ rest) ≡ piece ++ restText opening (r .kept) (r .line) (drop (r .at) part ++ rest)
+  pub state : (rest : List ℕ) → restKept opening (s .kept) (s .line) (drop (s .at) part ++ rest) ≡ restKept opening (r .kept) (r .line) (drop (r .at) part ++ rest)
   pub is : take (r .length) after ≡ take (s .length) before ++ piece
   pub unchanged : drop (r .length) after ≡ drop (r .length) before
   pub long : length after ≡ length before
@@ -37,11 +38,11 @@ pub record Next (file part before after : List ℕ) (s r : Progress) : Type 0 wh
   pub on : (s .at < r .at) × (r .at ≤ length part)
 
 -- the answers to the lines that end in a part from a place on
-pub record Answers (file : List ℕ) (h : Kept) (l : Line) (part : List ℕ) (from : ℕ) (before after : List ℕ) (r : Progress) : Type 0 where
+pub record Answers (opening : List ℕ → ℕ → Outcome) (h : Kept) (l : Line) (part : List ℕ) (from : ℕ) (before after : List ℕ) (r : Progress) : Type 0 where
   -- for every rest of the input, what was written followed by the text of what remains is the text of the whole
-  pub text : (rest : List ℕ) → restText file h l (drop from part ++ rest) ≡ take (r .length) after ++ restText file (r .kept) (r .line) (drop (r .at) part ++ rest)
+  pub text : (rest : List ℕ) → restText opening h l (drop from part ++ rest) ≡ take (r .length) after ++ restText opening (r .kept) (r .line) (drop (r .at) part ++ rest)
   -- and what is kept after the whole is what is kept after what remains
-  pub state : (rest : List ℕ) → restKept file h l (drop from part ++ rest) ≡ restKept file (r .kept) (r .line) (drop (r .at) part ++ rest)
+  pub state : (rest : List ℕ) → restKept opening h l (drop from part ++ rest) ≡ restKept opening (r .kept) (r .line) (drop (r .at) part ++ rest)
   -- it stands at the buffer's start, and nothing else is changed
   pub fits : r .length ≤ length after
   pub unchanged : drop (r .length) after ≡ drop (r .length) before
@@ -55,8 +56,8 @@ pub record Answers (file : List ℕ) (h : Kept) (l : Line) (part : List ℕ) (fr
   pub idle : (length before < 512) ⊎ (length part ≤ from) → (r ≡ record { kept = h; line = l; at = from; length = 0 }) × (after ≡ before)
 
 -- the answer to a last line that no line feed ends: where there is room, what is printed for an input that has ended
-pub record LastAnswer (file : List ℕ) (h : Kept) (l : Line) (before after : List ℕ) (r : ℕ) : Type 0 where
-  pub text : 512 ≤ length before → restText file h l [] ≡ take r after
+pub record LastAnswer (opening : List ℕ → ℕ → Outcome) (h : Kept) (l : Line) (before after : List ℕ) (r : ℕ) : Type 0 where
+  pub text : 512 ≤ length before → restText opening h l [] ≡ take r after
   pub fits : r ≤ length after
   pub unchanged : drop r after ≡ drop r before
   pub long : length after ≡ length before
@@ -67,16 +68,16 @@ abbrev pub counted : ℕ → ℕ → ℕ
 counted n more = (n + more) % 2 ^ 64
 
 -- at a write, the bytes that stand in the lent buffer are what comes next of the session's text: the answers to the lines that end in the part between two places; or, where the input has ended, the answer to its last line
-pub data ComesNext (file part : List ℕ) (s r : Progress) (bytes : List ℕ) : Type 0 where
-  answers : ((rest : List ℕ) → restText file (s .kept) (s .line) (drop (s .at) part ++ rest) ≡ bytes ++ restText file (r .kept) (r .line) (drop (r .at) part ++ rest))
-      → ComesNext file part s r bytes
-  last : restText file (s .kept) (s .line) [] ≡ bytes → ComesNext file part s r bytes
+pub data ComesNext (opening : List ℕ → ℕ → Outcome) (part : List ℕ) (s r : Progress) (bytes : List ℕ) : Type 0 where
+  answers : ((rest : List ℕ) → restText opening (s .kept) (s .line) (drop (s .at) part ++ rest) ≡ bytes ++ restText opening (r .kept) (r .line) (drop (r .at) part ++ rest))
+      → ComesNext opening part s r bytes
+  last : restText opening (s .kept) (s .line) [] ≡ bytes → ComesNext opening part s r bytes
 
 -- a part of the input is used up but for what is left of it: a text was written, for every rest of the input it is what comes next, and the count of the bytes that were written grew by its length
-pub record Handed (file : List ℕ) (h : Kept) (l : Line) (part : List ℕ) (n : ℕ) (h′ : Kept) (l′ : Line) (left : List ℕ) (n′ : ℕ) : Type 0 where
+pub record Handed (opening : List ℕ → ℕ → Outcome) (h : Kept) (l : Line) (part : List ℕ) (n : ℕ) (h′ : Kept) (l′ : Line) (left : List ℕ) (n′ : ℕ) : Type 0 where
   pub text : List ℕ
-  pub is : (rest : List ℕ) → restText file h l (part ++ rest) ≡ text ++ restText file h′ l′ (left ++ rest)
-  pub state : (rest : List ℕ) → restKept file h l (part ++ rest) ≡ restKept file h′ l′ (left ++ rest)
+  pub is : (rest : List ℕ) → restText opening h l (part ++ rest) ≡ text ++ restText opening h′ l′ (left ++ rest)
+  pub state : (rest : List ℕ) → restKept opening h l (part ++ rest) ≡ restKept opening h′ l′ (left ++ rest)
   pub count : n′ ≡ counted n (length text)
 
 -- an input that arrives in parts
@@ -85,15 +86,15 @@ inOne [] = []
 inOne (part ∷ parts) = part ++ inOne parts
 
 -- a run of the program from what is kept, a line begun and a count of bytes: one part of the input after the other, then the last line; all that it writes, and the count at its end
-pub data Run (file : List ℕ) : Kept → Line → ℕ → List (List ℕ) → List ℕ → ℕ → Type 0 where
-  ended : {h : Kept} {l : Line} {n n′ : ℕ} → n′ ≡ counted n (length (restText file h l [])) → Run file h l n [] (restText file h l []) n′
+pub data Run (opening : List ℕ → ℕ → Outcome) : Kept → Line → ℕ → List (List ℕ) → List ℕ → ℕ → Type 0 where
+  ended : {h : Kept} {l : Line} {n n′ : ℕ} → n′ ≡ counted n (length (restText opening h l [])) → Run opening h l n [] (restText opening h l []) n′
   goes-on : {h h′ : Kept} {l l′ : Line} {n m n′ : ℕ} {part : List ℕ} {parts : List (List ℕ)} {text : List ℕ}
-      → (d : Handed file h l part n h′ l′ [] m)
-      → Run file h′ l′ m parts text n′
-      → Run file h l n (part ∷ parts) (d .text ++ text) n′
+      → (d : Handed opening h l part n h′ l′ [] m)
+      → Run opening h′ l′ m parts text n′
+      → Run opening h l n (part ∷ parts) (d .text ++ text) n′
 
 -- a run from the first command on that has written so many bytes
-pub record Ran (file : List ℕ) (n : ℕ) : Type 0 where
+pub record Ran (opening : List ℕ → ℕ → Outcome) (n : ℕ) : Type 0 where
   pub parts : List (List ℕ)
   pub text : List ℕ
-  pub run : Run file nothingKept emptyLine 0 parts text n
+  pub run : Run opening nothingKept emptyLine 0 parts text n

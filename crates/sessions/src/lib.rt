@@ -1,13 +1,17 @@
 // The answers to all lines that end in a part of the input, and to a last line that no line feed ends.
 use command::Kept;
 use lines::Line;
+use years::FileCalendar;
 ghost use mathlib.Core.Path.{_≡_};
 ghost use mathlib.Core.Bool.{true};
 ghost use Prim.Native.Nat.{_≤_, _<_};
 ghost use lib.ListN.{length};
 ghost use lib.Seq.{slice};
+ghost use Rattle.years.specs.Calendars.{calendarAnswer};
+ghost use Rattle.table.specs.Table.{openIn};
 ghost use Rattle.lines.specs.Lines.{fed};
 ghost use Rattle.printing.specs.Buffer.{roomy};
+ghost use Rattle.command.specs.Sessions.{Known};
 ghost use Rattle.sessions.specs.Parts.{LineEnd, another, Next, Answers, LastAnswer};
 
 // What is kept, the line so far, the place in the part of the input, and how many bytes of answers stand in the buffer.
@@ -16,6 +20,12 @@ pub struct Progress {
     pub line: Line,
     pub at: usize,
     pub length: usize,
+}
+
+// The same, with the answer to question 10 of the table that is kept.
+struct Step {
+    progress: Progress,
+    ten: bool,
 }
 
 // The place of the first line feed from a place on, or the part's end.
@@ -47,10 +57,18 @@ fn feed(line: Line, part: &[u8], from: usize, to: usize) -> Line
     whole
 }
 
-// The answer to the line that goes on at a place, if it ends in the part; else the line with all the rest of the part.
-fn answer_next(file: &[u8], s: Progress, part: &[u8], out: &mut [u8]) -> Progress
-    requires { ⌜ (s .at < length (now part)) × (roomy (now out) (s .length) ≡ true) ⌝ }
-    ensures { λ r. ⌜ Next (now (file .entry)) (now (part .entry)) (now (out .entry)) (now (out .exit)) s r ⌝ }
+// The answer to the line that goes on at a place, if it ends in the part; else the line with all the rest of the part. Question 10 of the table, and what it says of the verdict's calendar, are at hand.
+fn answer_next(
+    file: &[u8],
+    judged: FileCalendar,
+    right: bool,
+    s: Progress,
+    ten: bool,
+    part: &[u8],
+    out: &mut [u8],
+) -> Step
+    requires { ⌜ (s .at < length (now part)) × (roomy (now out) (s .length) ≡ true) × Known judged right (s .kept .table) ten ⌝ }
+    ensures { λ r. ⌜ Next (openIn (calendarAnswer judged) (now (file .entry))) (now (part .entry)) (now (out .entry)) (now (out .exit)) s (r .progress) × Known judged right (r .progress .kept .table) (r .ten) ⌝ }
 {
     let kept = s.kept;
     let begun = s.line;
@@ -58,21 +76,27 @@ fn answer_next(file: &[u8], s: Progress, part: &[u8], out: &mut [u8]) -> Progres
     let end = line_end(part, at);
     let line = feed(begun, part, at, end);
     if part.len() <= end {
-        return Progress {
+        let progress = Progress {
             kept,
             line,
             at: end,
             length: s.length,
         };
+        return Step { progress, ten };
     }
-    let a = command::answer(file, kept, line, out, s.length);
+    let a = command::answer_known(file, judged, right, kept, ten, line, out, s.length);
     let after = a.kept;
     let empty = lines::empty_line();
-    Progress {
+    let next = end + 1;
+    let progress = Progress {
         kept: after,
         line: empty,
-        at: end + 1,
+        at: next,
         length: a.at,
+    };
+    Step {
+        progress,
+        ten: a.ten,
     }
 }
 
@@ -89,17 +113,20 @@ fn goes_on(part: &[u8], at: usize, out: &[u8], n: usize) -> bool
     n <= out.len() - 512
 }
 
-// The answers to the lines that end in a part of the input from a place on, in a lent buffer from its start, as long as it has room for another answer of 512 bytes. A buffer of fewer bytes, and a place past the part, leave all as it is.
+// The answers to the lines that end in a part of the input from a place on, in a lent buffer from its start, as long as it has room for another answer of 512 bytes. A buffer of fewer bytes, and a place past the part, leave all as it is. The verdict on the file is at hand, and question 10 is asked once, of the table that is handed in.
 pub fn answer_part(
     file: &[u8],
+    judged: FileCalendar,
     kept: Kept,
     line: Line,
     part: &[u8],
     from: usize,
     out: &mut [u8],
 ) -> Progress
-    ensures { λ r. ⌜ Answers (now (file .entry)) kept line (now (part .entry)) from (now (out .entry)) (now (out .exit)) r ⌝ }
+    ensures { λ r. ⌜ Answers (openIn (calendarAnswer judged) (now (file .entry))) kept line (now (part .entry)) from (now (out .entry)) (now (out .exit)) r ⌝ }
 {
+    let right = table::is_calendar_sound(judged.calendar);
+    let mut ten = table::is_sound(kept.table);
     let mut s = Progress {
         kept,
         line,
@@ -107,18 +134,26 @@ pub fn answer_part(
         length: 0,
     };
     while goes_on(part, s.at, out, s.length) {
-        s = answer_next(file, s, part, out);
+        let n = answer_next(file, judged, right, s, ten, part, out);
+        s = n.progress;
+        ten = n.ten;
     }
     s
 }
 
 // The answer to a last line that no line feed ends, in a lent buffer from its start, and its length. A line with no bytes has none, and a buffer of fewer than 512 bytes stays as it is.
-pub fn answer_last(file: &[u8], kept: Kept, line: Line, out: &mut [u8]) -> usize
-    ensures { λ r. ⌜ LastAnswer (now (file .entry)) kept line (now (out .entry)) (now (out .exit)) r ⌝ }
+pub fn answer_last(
+    file: &[u8],
+    judged: FileCalendar,
+    kept: Kept,
+    line: Line,
+    out: &mut [u8],
+) -> usize
+    ensures { λ r. ⌜ LastAnswer (openIn (calendarAnswer judged) (now (file .entry))) kept line (now (out .entry)) (now (out .exit)) r ⌝ }
 {
     if line.length == 0 {
         return 0;
     }
-    let a = command::answer(file, kept, line, out, 0);
+    let a = command::answer(file, judged, kept, line, out, 0);
     a.at
 }

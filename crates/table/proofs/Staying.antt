@@ -24,7 +24,7 @@ use Rattle.places.specs.Numbering.{isListed, numberOf, missing, withNumber, unn
 use Rattle.places.proofs.Unique.{same-maturity}
 use Rattle.table.specs.declared.Table.{Table}
 use Rattle.table.specs.declared.Outcome.{Outcome}
-use Rattle.table.specs.Table.{listedIn, listsFresh, sound, moved, refusedWith, keptOn}
+use Rattle.table.specs.Table.{listedIn, listsFresh, sound, moved, refusedWith, keptIn}
 use Rattle.table.proofs.Calls.{Sound, sound-parts}
 use Rattle.table.proofs.FirstPlace.{first-front}
 
@@ -60,11 +60,11 @@ abbrev months : List Maturity → List ℕ
 months ms = map (λ m. m .key) ms
 
 -- a maturity without its number
-abbrev blank : Maturity → Maturity
+abbrev pub blank : Maturity → Maturity
 blank m = withNumber m 0
 
 -- each maturity of a list is found in another, with its number
-abbrev Known : List Maturity → List Maturity → Type 0
+abbrev pub Known : List Maturity → List Maturity → Type 0
 Known old [] = _≡_ {A = ℕ} 0 0
 Known old (m ∷ ms) = (isListed old (m .key) ≡ true) × (numberOf old (m .key) ≡ m .number) × Known old ms
 
@@ -80,12 +80,12 @@ known-all [] k r = refl
 known-all (m ∷ ms) k r =
     (or-left (isListed ms (m .key)) (eq-eqb (m .key) (m .key) refl), rw (eq-eqb (m .key) (m .key) refl), known-more m ms ms (suc (m .key)) (omega arith) (r .1) (known-all ms (suc (m .key)) (r .1)))
 
-known-numbers : (old ms : List Maturity) (given : ℕ) → Known old ms → renumbered old given (map blank ms) ≡ ms
+pub known-numbers : (old ms : List Maturity) (given : ℕ) → Known old ms → renumbered old given (map blank ms) ≡ ms
 unfolding renumbered
 known-numbers old [] given h = refl
 known-numbers old (m ∷ ms) given h = rw (h .0, h .1) (ap (λ (l : List Maturity). m ∷ l) (known-numbers old ms given (h .2)))
 
-none-missing : (old ms : List Maturity) → Known old ms → missing (map blank ms) old ≡ []
+pub none-missing : (old ms : List Maturity) → Known old ms → missing (map blank ms) old ≡ []
 unfolding missing
 none-missing old [] h = refl
 none-missing old (m ∷ ms) h = rw (h .0) (none-missing old ms (h .2))
@@ -95,7 +95,7 @@ unfolding isListed
 blank-listed [] x = refl
 blank-listed (m ∷ ms) x = ap (λ (b : Bool). eqb (m .key) x || b) (blank-listed ms x)
 
-none-left : (old ms : List Maturity) → Known old ms → missing ms (map blank old) ≡ []
+pub none-left : (old ms : List Maturity) → Known old ms → missing ms (map blank old) ≡ []
 unfolding missing
 none-left old [] h = refl
 none-left old (m ∷ ms) h = rw (blank-listed old (m .key) ∙ h .0) (none-left old ms (h .2))
@@ -121,7 +121,7 @@ module _ (t : Table) (s : sound t ≡ true) (len : length (t .maturities) ≡ 15
   abbrev fresh : List Maturity
   fresh = freshOf (t .calendar) (t .product .kind) (t .product .group) (t .date)
 
-  fresh-long : length fresh ≡ n
+  pub fresh-long : length fresh ≡ n
   unfolding complete coverRule
   fresh-long = length-map (freshKeys (ruleOf (t .calendar) (t .product .kind) (t .product .group)) (t .calendar) (t .date)) _ ∙ eqb-true _ _ (sound-parts t s .whole)
 
@@ -139,7 +139,7 @@ module _ (t : Table) (s : sound t ≡ true) (len : length (t .maturities) ≡ 15
     pub back : getD (t .maturities) i unused .back ≡ getD (places15 fresh) i unused .back
     pub zero-number : n ≤ i → getD (t .maturities) i unused .number ≡ 0
 
-  place : (i : ℕ) → i < 15 → Place i
+  pub place : (i : ℕ) → i < 15 → Place i
   place i h =
       let m = getD (t .maturities) i unused in
       let f = getD (places15 fresh) i unused in
@@ -148,7 +148,7 @@ module _ (t : Table) (s : sound t ≡ true) (len : length (t .maturities) ≡ 15
       let (d, g) = both (eqb (m .day) (f .day)) (eqb (m .back) (f .back)) e in
       record { key = eqb-true _ _ c; day = eqb-true _ _ d; back = eqb-true _ _ g; zero-number = λ l. eqb-true _ _ (rw (le-ltb i n l) at b) }
 
-  in-places : (i : ℕ) → i < n → getD (places15 fresh) i unused ≡ getD fresh i unused
+  pub in-places : (i : ℕ) → i < n → getD (places15 fresh) i unused ≡ getD fresh i unused
   unfolding places15
   in-places i h = List·getD-append fresh (replicate (15 - length fresh) unused) unused i (omega (arith, fresh-long))
 
@@ -169,7 +169,7 @@ module _ (t : Table) (s : sound t ≡ true) (len : length (t .maturities) ≡ 15
       numberless (k ∷ ks) (suc i) = numberless ks i
 
   -- the fresh listing is what the table lists, without the numbers
-  blank-is : fresh ≡ map blank (listedIn t)
+  pub blank-is : fresh ≡ map blank (listedIn t)
   blank-is =
       ext-getD unused fresh (map blank (listedIn t)) (fresh-long ∙ sym old-long ∙ sym (length-map (listedIn t) blank))
       (λ i h.
@@ -188,7 +188,7 @@ module _ (t : Table) (s : sound t ≡ true) (len : length (t .maturities) ≡ 15
   in-old i l = List·getD-append (listedIn t) (replicate (15 - length (listedIn t)) unused) unused i (omega (arith, old-long)) ∙ getD-take n (t .maturities) i unused l
 
   -- the places are what the table lists, then zeros
-  places-are : places15 (listedIn t) ≡ t .maturities
+  pub places-are : places15 (listedIn t) ≡ t .maturities
   places-are =
       ext-getD unused (places15 (listedIn t)) (t .maturities) (long (listedIn t) (omega (arith, old-long, places-most (t .product .kind))) ∙ sym len)
       (λ i h. go i (omega (arith, h, long (listedIn t) (omega (arith, old-long, places-most (t .product .kind))))) (lt-or-ge i n))
@@ -207,7 +207,7 @@ module _ (t : Table) (s : sound t ≡ true) (len : length (t .maturities) ≡ 15
   abbrev rule : Rule
   rule = ruleOf (t .calendar) (t .product .kind) (t .product .group)
 
-  known : Known (listedIn t) (listedIn t)
+  pub known : Known (listedIn t) (listedIn t)
   unfolding freshKeys
   known =
       let e : months (listedIn t) ≡ freshKeys rule (t .calendar) (t .date) = sym (blank-months (listedIn t)) ∙ ap months (sym blank-is) ∙ keys-are rule (t .calendar) (freshKeys rule (t .calendar) (t .date)) in
@@ -217,7 +217,7 @@ module _ (t : Table) (s : sound t ≡ true) (len : length (t .maturities) ≡ 15
   unfolding freshKeys
   same-keys date e = ap (taken (rule .beyond) (rule .places)) (sym e)
 
-  pub stays : (date : ℕ) → eqb (getD (t .maturities) 0 unused .key) (front rule (t .calendar) date) ≡ true → cond (allInCover (t .calendar) (t .product .kind) (t .product .group) date) (moved t (t .calendar) date) (refusedWith t 16) ≡ keptOn t date
+  pub stays : (date : ℕ) → eqb (getD (t .maturities) 0 unused .key) (front rule (t .calendar) date) ≡ true → cond (allInCover (t .calendar) (t .product .kind) (t .product .group) date) (moved t (t .calendar) date) (refusedWith t 16) ≡ keptIn t (t .calendar) date
   unfolding moved complete
   stays date e =
       let k = same-keys date (sym (first-front t (sound-parts t s .whole) (sound-parts t s .listed)) ∙ eqb-true _ _ e) in

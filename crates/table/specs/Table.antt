@@ -5,7 +5,7 @@ use mathlib.Core.Bool.{Bool, _&&_, cond}
 use mathlib.Core.List.{List, [], _∷_}
 use lib.Dec.{leb, ltb, eqb}
 use lib.ListN.{length, take, replicate}
-use Rattle.questions.specs.Questions.{Ask, ask, firstNo}
+use Rattle.questions.specs.Questions.{Ask, ask, firstNo, Answer}
 use Rattle.questions.specs.Search.{every}
 use Rattle.calendar.specs.declared.Calendar.{Calendar}
 use Rattle.calendar.specs.Trading.{zeroCalendar, validCover, inCover, tradingDay, clean, everyWeek, closeDay, reopenDay, closedWeekday}
@@ -16,7 +16,7 @@ use Rattle.listing.specs.Rules.{keysBefore, frontStays, unused, places15}
 use Rattle.listing.specs.Months.{placesOfKind, ruleOf, freshOf, allInCover, weekIntoCover}
 use Rattle.years.specs.Calendars.{calendarOf}
 use Rattle.master.specs.Load.{productOf}
-use Rattle.opening.specs.Opening.{zeroProduct, openAsks}
+use Rattle.opening.specs.Opening.{zeroProduct, openAsks, asksIn}
 use Rattle.table.specs.declared.Table.{Table}
 use Rattle.table.specs.declared.Outcome.{Outcome}
 use Rattle.places.specs.Numbering.{missing, renumbered, numberedFresh, placeRight, numbersRight}
@@ -55,6 +55,10 @@ sound t =
     && (inCover (t .calendar .cover) (t .date)
     -- 'and the date passes 24' (02, note 3)
     && (weekIntoCover (t .product .kind) (t .calendar .cover) (t .date) && listingSound t)))))
+
+-- of 10, what is said of the calendar: 'satisfy questions 5, 6 .., with 1 to 16 years from 2000 to 2099'
+abbrev pub calendarSound : Calendar → Bool
+calendarSound cal = validCover (cal .cover) && (clean cal && everyWeek cal)
 
 -- what an accepted roll, close or reopening gives back, for a fresh listing: 'Both then hold the fresh listing; a month that was there keeps its number, and months that enter take the next numbers by rising month. A month left if the old table had it and the new has not'
 abbrev pub movedTo : Table → Calendar → ℕ → List Maturity → Outcome
@@ -107,6 +111,12 @@ openCall f id date =
     answered zeroTable (openAsks f id date)
     (openedWith (productOf f id) (calendarOf f) date (freshOf (calendarOf f) (productOf f id .kind) (productOf f id .group) date))
 
+-- the call that opens a table where the verdict of questions 1 to 8 on the file is at hand; with the file's own it is `openCall`
+unfoldable pub openIn : Answer Calendar → List ℕ → List ℕ → ℕ → Outcome
+openIn verdict f id date =
+    answered zeroTable (asksIn verdict f id date)
+    (openedWith (productOf f id) (verdict .value) date (freshOf (verdict .value) (productOf f id .kind) (productOf f id .group) date))
+
 -- 'Roll: 10, 11, 12, 16'
 abbrev pub rollAsks : Table → ℕ → List Ask
 rollAsks t date =
@@ -147,12 +157,12 @@ reopenAsks t day =
 unfoldable pub reopenCall : Table → ℕ → Outcome
 reopenCall t day = answered t (reopenAsks t day) (moved t (reopenDay (t .calendar) day) (t .date))
 
--- only the code needs it: the same table on another date, no month entered or left
-abbrev pub keptOn : Table → ℕ → Outcome
-keptOn t date =
+-- only the code needs it: the same table with a calendar and a date, no month entered or left
+abbrev pub keptIn : Table → Calendar → ℕ → Outcome
+keptIn t cal date =
     record {
       refusal = 0;
-      table = record { product = t .product; calendar = t .calendar; date = date; maturities = t .maturities; given = t .given };
+      table = record { product = t .product; calendar = cal; date = date; maturities = t .maturities; given = t .given };
       entered = 0;
       left = 0;
     }

@@ -1,16 +1,20 @@
 // The table of listed maturities of one product, and the calls on it.
 use calendar::Calendar;
+use calendar::Cover;
 use listing::Maturity;
 use product::Product;
+use years::FileCalendar;
 ghost use mathlib.Core.Path.{_≡_};
-ghost use mathlib.Core.Bool.{_&&_, cond};
-ghost use Prim.Native.Nat.{_≤_};
+ghost use mathlib.Core.Bool.{true, _&&_, cond};
+ghost use Prim.Native.Nat.{ℕ, _+_, _-_, _≤_, _<_};
 ghost use lib.ListN.{length, getD, take};
 ghost use Rattle.places.specs.Numbering.{isListed};
 ghost use lib.Dec.{eqb};
+ghost use Rattle.calendar.specs.Trading.{calendarWith, tradingDay, everyWeek, closeDay};
+ghost use Rattle.years.specs.Calendars.{calendarAnswer};
 ghost use Rattle.listing.specs.Rules.{front, unused};
 ghost use Rattle.listing.specs.Months.{placesOfKind, ruleOf, allInCover};
-ghost use Rattle.table.specs.Table.{listedIn, listsFresh, listingSound, sound, movedTo, moved, keptOn, refusedWith, zeroTable, openedWith, openCall, rollCall, closeCall, reopenCall};
+ghost use Rattle.table.specs.Table.{listedIn, listsFresh, listingSound, sound, calendarSound, movedTo, moved, keptIn, refusedWith, zeroTable, openedWith, openCall, openIn, rollCall, closeCall, reopenCall};
 
 // A product, its calendar, a date, up to 15 maturities by rising key, and the count of numbers given.
 pub struct Table {
@@ -91,6 +95,19 @@ pub fn is_sound(t: Table) -> bool
         return false;
     }
     is_listing_sound(t)
+}
+
+// What question 10 says of the calendar.
+pub fn is_calendar_sound(cal: Calendar) -> bool
+    ensures { λ r. ⌜ r ≡ calendarSound cal ⌝ }
+{
+    if !calendar::is_valid_cover(cal.cover) {
+        return false;
+    }
+    if !calendar_questions::is_clean(cal) {
+        return false;
+    }
+    calendar_questions::every_week_trades(cal)
 }
 
 // Whether a key is listed in the places that are used.
@@ -207,12 +224,11 @@ fn front_stays(t: Table, cal: Calendar, date: u16) -> bool
     first.key == listing::front_key(cal, kind, group, date)
 }
 
-// The same table on another date: no month entered or left.
-fn kept(t: Table, date: u16) -> Outcome
-    ensures { λ r. ⌜ (r ≡ keptOn t date) × (length (t .maturities) ≡ 15) ⌝ }
+// The same table with a calendar and a date: no month entered or left.
+fn kept(t: Table, cal: Calendar, date: u16) -> Outcome
+    ensures { λ r. ⌜ (r ≡ keptIn t cal date) × (length (t .maturities) ≡ 15) ⌝ }
 {
     let p = t.product;
-    let cal = t.calendar;
     let maturities = t.maturities;
     let table = Table {
         product: p,
@@ -229,27 +245,103 @@ fn kept(t: Table, date: u16) -> Outcome
     }
 }
 
+// Whether no maturity ends on a day.
+fn none_ends_on(maturities: [Maturity; 15], day: u16) -> bool
+    ensures { λ r. ⌜ (r ≡ true → (i : ℕ) → i < 15 → getD maturities i unused .day ≡ day → ⊥) ⌝ }
+{
+    let mut i: usize = 0;
+    while i < 15 {
+        let m = maturities[i];
+        if m.day == day {
+            return false;
+        }
+        i += 1;
+    }
+    true
+}
+
+// How many days before a day the nearest trading day lies, by the cover and the lent maps; 7 where none of the six days before it is one.
+fn steps_back(cover: Cover, closed: &[u8], day: u16) -> u16
+    ensures { λ r. ⌜ (1 ≤ r) × (r ≤ 7) × (r < 7 → (r ≤ day) × (tradingDay (calendarWith cover (now (closed .entry))) (day - r) ≡ true)) ⌝ }
+{
+    let mut n: u16 = 1;
+    while n < 7 {
+        if day < n {
+            return 7;
+        }
+        let earlier = day - n;
+        if calendar::is_trading_day_in(cover, closed, earlier) {
+            return n;
+        }
+        n += 1;
+    }
+    7
+}
+
+// The same of the days after a day.
+fn steps_on(cover: Cover, closed: &[u8], day: u16) -> u16
+    ensures { λ r. ⌜ (1 ≤ r) × (r ≤ 7) × (r < 7 → tradingDay (calendarWith cover (now (closed .entry))) (day + r) ≡ true) ⌝ }
+{
+    if 36525 <= day {
+        return 7;
+    }
+    let mut n: u16 = 1;
+    while n < 7 {
+        if calendar::is_trading_day_in(cover, closed, day + n) {
+            return n;
+        }
+        n += 1;
+    }
+    7
+}
+
+// A quick look at the days around a day: yes where the trading days on its two sides lie at most seven days apart, so that every seven days with the day in them hold one of the two.
+fn trades_around(cal: Calendar, day: u16) -> bool
+    ensures { λ r. ⌜ (r ≡ true → everyWeek cal ≡ true → everyWeek (closeDay cal day) ≡ true) ⌝ }
+{
+    let cover = cal.cover;
+    steps_back(cover, &cal.closed, day) + steps_on(cover, &cal.closed, day) <= 7
+}
+
+// Question 15 of a calendar that question 6 accepts: the quick look answers yes, the test of all weeks the rest.
+fn keeps_weeks(cal: Calendar, day: u16) -> bool
+    ensures { λ r. ⌜ (everyWeek cal ≡ true → r ≡ everyWeek (closeDay cal day)) ⌝ }
+{
+    if trades_around(cal, day) {
+        return true;
+    }
+    calendar_questions::trades_with_closed(cal, day)
+}
+
+// The table of the product with an id, on a date. The file's verdict by `judge` is at hand, so questions 1 to 8 are not asked again.
+pub fn open_in(file: &[u8], judged: FileCalendar, id: [u8; 4], date: u16) -> Outcome
+    ensures { λ r. ⌜ r ≡ openIn (calendarAnswer judged) (now (file .entry)) id date ⌝ }
+{
+    let o = opening::opening_in(file, judged, id, date);
+    let refusal = o.refusal;
+    if refusal != 0 {
+        return refused(zero_table(), refusal);
+    }
+    let product = o.product;
+    let calendar = o.calendar;
+    let fresh = o.fresh;
+    opened_with(product, calendar, date, fresh)
+}
+
 impl Table {
     // The table of the product with an id, on a date. What stood in the table before plays no part.
     pub fn open(self, file: &[u8], id: [u8; 4], date: u16) -> Outcome
         ensures { λ r. ⌜ r ≡ openCall (now (file .entry)) id date ⌝ }
     {
-        let o = opening::opening_of(file, id, date);
-        let refusal = o.refusal;
-        if refusal != 0 {
-            return refused(zero_table(), refusal);
-        }
-        let product = o.product;
-        let calendar = o.calendar;
-        let fresh = o.fresh;
-        opened_with(product, calendar, date, fresh)
+        let judged = master::judge(file);
+        open_in(file, judged, id, date)
     }
 
-    // Sets the date, a later or equal one.
-    pub fn roll(self, date: u16) -> Outcome
-        ensures { λ r. ⌜ r ≡ rollCall self date ⌝ }
+    // Roll, of a table that is known to be sound: question 10 is not asked again. No sound table has given more than 60,000 numbers.
+    pub fn roll_sound(self, date: u16) -> Outcome
+        ensures { λ r. ⌜ (sound self ≡ true → r ≡ rollCall self date) ⌝ }
     {
-        if !is_sound(self) {
+        if 60000 < self.given {
             return refused(self, 10);
         }
         if !calendar::in_cover(self.calendar.cover, date) {
@@ -259,16 +351,26 @@ impl Table {
             return refused(self, 12);
         }
         if front_stays(self, self.calendar, date) {
-            return kept(self, date);
+            return kept(self, self.calendar, date);
         }
         relisted(self, self.calendar, date)
     }
 
-    // Marks one day closed.
-    pub fn close(self, day: u16) -> Outcome
-        ensures { λ r. ⌜ r ≡ closeCall self day ⌝ }
+    // Sets the date, a later or equal one.
+    pub fn roll(self, date: u16) -> Outcome
+        ensures { λ r. ⌜ r ≡ rollCall self date ⌝ }
     {
         if !is_sound(self) {
+            return refused(self, 10);
+        }
+        self.roll_sound(date)
+    }
+
+    // Close, of a table that is known to be sound.
+    pub fn close_sound(self, day: u16) -> Outcome
+        ensures { λ r. ⌜ (sound self ≡ true → r ≡ closeCall self day) ⌝ }
+    {
+        if 60000 < self.given {
             return refused(self, 10);
         }
         if !calendar::in_cover(self.calendar.cover, day) {
@@ -280,12 +382,27 @@ impl Table {
         if !calendar::is_trading_day(self.calendar, day) {
             return refused(self, 14);
         }
-        let cal = calendar::close_day(self.calendar, day);
-        if !calendar_questions::every_week_trades(cal) {
+        if !keeps_weeks(self.calendar, day) {
             return refused(self, 15);
+        }
+        let cal = calendar::close_day(self.calendar, day);
+        let maturities = self.maturities;
+        if none_ends_on(maturities, day) {
+            return kept(self, cal, self.date);
         }
         relisted(self, cal, self.date)
     }
+
+    // Marks one day closed.
+    pub fn close(self, day: u16) -> Outcome
+        ensures { λ r. ⌜ r ≡ closeCall self day ⌝ }
+    {
+        if !is_sound(self) {
+            return refused(self, 10);
+        }
+        self.close_sound(day)
+    }
+
     // Opens a closed day again, where the front stays the same.
     pub fn reopen(self, day: u16) -> Outcome
         ensures { λ r. ⌜ r ≡ reopenCall self day ⌝ }

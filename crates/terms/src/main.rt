@@ -6,11 +6,14 @@ use command::Kept;
 use lines::Line;
 use output::Sent;
 use sessions::Progress;
+use years::FileCalendar;
 ghost use mathlib.Core.Path.{_≡_};
 ghost use mathlib.Core.Bool.{true};
 ghost use mathlib.Core.List.{[]};
 ghost use Prim.Native.Nat.{_≤_};
 ghost use lib.ListN.{length};
+ghost use Rattle.years.specs.Calendars.{calendarAnswer};
+ghost use Rattle.table.specs.Table.{openCall, openIn};
 ghost use Rattle.command.specs.Sessions.{restText};
 ghost use Rattle.sessions.specs.Parts.{counted, Handed, Ran};
 
@@ -22,9 +25,9 @@ pub struct Carried {
 }
 
 // Writes the answers to all lines that end in a part of the input. A write that fails ends the run.
-fn write_part(file: &[u8], k: Carried, part: &[u8], out: &mut [u8]) -> Carried
+fn write_part(file: &[u8], judged: FileCalendar, k: Carried, part: &[u8], out: &mut [u8]) -> Carried
     requires { ⌜ 512 ≤ length (now out) ⌝ }
-    ensures { λ r. ⌜ (r .sent .open ≡ true → Handed (now (file .entry)) (k .kept) (k .line) (now (part .entry)) (k .sent .bytes) (r .kept) (r .line) [] (r .sent .bytes)) ⌝ }
+    ensures { λ r. ⌜ (r .sent .open ≡ true → Handed (openIn (calendarAnswer judged) (now (file .entry))) (k .kept) (k .line) (now (part .entry)) (k .sent .bytes) (r .kept) (r .line) [] (r .sent .bytes)) ⌝ }
 {
     let kept = k.kept;
     let line = k.line;
@@ -36,8 +39,8 @@ fn write_part(file: &[u8], k: Carried, part: &[u8], out: &mut [u8]) -> Carried
         length: 0,
     };
     while s.at < part.len() {
-        let p = sessions::answer_part(file, s.kept, s.line, part, s.at, out);
-        sent = output::write_out(sent, file, part, s, p, out);
+        let p = sessions::answer_part(file, judged, s.kept, s.line, part, s.at, out);
+        sent = output::write_out(sent, file, judged, part, s, p, out);
         s = p;
         if !output::is_open(sent) {
             return Carried { kept, line, sent };
@@ -53,13 +56,13 @@ fn write_part(file: &[u8], k: Carried, part: &[u8], out: &mut [u8]) -> Carried
 }
 
 // Writes the answer to a last line that no line feed ends.
-fn write_last(file: &[u8], k: Carried, out: &mut [u8]) -> Sent
+fn write_last(file: &[u8], judged: FileCalendar, k: Carried, out: &mut [u8]) -> Sent
     requires { ⌜ 512 ≤ length (now out) ⌝ }
-    ensures { λ r. ⌜ (r .open ≡ true → r .bytes ≡ counted (k .sent .bytes) (length (restText (now (file .entry)) (k .kept) (k .line) []))) ⌝ }
+    ensures { λ r. ⌜ (r .open ≡ true → r .bytes ≡ counted (k .sent .bytes) (length (restText (openIn (calendarAnswer judged) (now (file .entry))) (k .kept) (k .line) []))) ⌝ }
 {
     let kept = k.kept;
     let line = k.line;
-    let n = sessions::answer_last(file, kept, line, out);
+    let n = sessions::answer_last(file, judged, kept, line, out);
     let from = Progress {
         kept,
         line,
@@ -72,13 +75,14 @@ fn write_last(file: &[u8], k: Carried, out: &mut [u8]) -> Sent
         at: 0,
         length: n,
     };
-    output::write_out(k.sent, file, file, from, to, out)
+    output::write_out(k.sent, file, judged, file, from, to, out)
 }
 
-// Reads the input part by part. What is answered is written before the next read. The loop has to be shown to end, so after 2^64 - 1 reads the input counts as ended.
+// Judges the file once, and reads the input part by part. What is answered is written before the next read. The loop has to be shown to end, so after 2^64 - 1 reads the input counts as ended.
 fn run(file: &[u8]) -> Sent
-    ensures { λ r. ⌜ (r .open ≡ true → Ran (now (file .entry)) (r .bytes)) ⌝ }
+    ensures { λ r. ⌜ (r .open ≡ true → Ran (openCall (now (file .entry))) (r .bytes)) ⌝ }
 {
+    let judged = master::judge(file);
     let mut part = io::large_buffer();
     let mut out = io::large_buffer();
     let kept = command::nothing_kept();
@@ -91,13 +95,13 @@ fn run(file: &[u8]) -> Sent
         if n == 0 {
             break;
         }
-        k = write_part(file, k, &part[..n], &mut out);
+        k = write_part(file, judged, k, &part[..n], &mut out);
         if !output::is_open(k.sent) {
             return k.sent;
         }
         turns -= 1;
     }
-    write_last(file, k, &mut out)
+    write_last(file, judged, k, &mut out)
 }
 
 fn main() {

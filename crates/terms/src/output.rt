@@ -1,10 +1,13 @@
 // Writing to standard output, and what has been written.
 use libc::STDOUT_FILENO;
 use sessions::Progress;
+use years::FileCalendar;
 ghost use mathlib.Core.Path.{_≡_};
 ghost use mathlib.Core.Bool.{true};
 ghost use Prim.Native.Nat.{_≤_};
 ghost use lib.ListN.{length, take};
+ghost use Rattle.years.specs.Calendars.{calendarAnswer};
+ghost use Rattle.table.specs.Table.{openIn};
 ghost use Rattle.sessions.specs.Parts.{counted, ComesNext};
 
 // Whether standard output has taken all that was written to it, and how many bytes that is, modulo 2^64. Its fields are private: only this file makes one, so a count that grew says that a write was made.
@@ -34,12 +37,13 @@ pub(crate) fn is_open(sent: Sent) -> bool
 pub(crate) fn write_out(
     sent: Sent,
     file: &[u8],
+    judged: FileCalendar,
     part: &[u8],
     from: Progress,
     to: Progress,
     out: &[u8],
 ) -> Sent
-    requires { ⌜ (to .length ≤ length (now out)) × ComesNext (now file) (now part) from to (take (to .length) (now out)) ⌝ }
+    requires { ⌜ (to .length ≤ length (now out)) × ComesNext (openIn (calendarAnswer judged) (now file)) (now part) from to (take (to .length) (now out)) ⌝ }
     ensures { λ r. ⌜ (r .open ≡ true → r .bytes ≡ counted (sent .bytes) (to .length)) ⌝ }
 {
     let n = to.length;

@@ -15,19 +15,19 @@ returns c =
     let at-feed = c .before in
     let at-line-end = at-feed .before in
     let start = at-line-end .before .before .before .before .before .before in
-    goes-past _ _ _ _ (start .pre .0) (start .pre .1) _ (at-line-end .line-end .ensures) _ (at-feed .feed .ensures) (c .if1 .taken)
+    (goes-past _ _ _ _ (start .pre .0) (start .pre .1) _ (at-line-end .line-end .ensures) _ (at-feed .feed .ensures) (c .if1 .taken), start .pre .2)
 
-answer-requires : tie.Need-answer-requires
-answer-requires c κs = tt
+answer-known-requires : tie.Need-answer-known-requires
+answer-known-requires c κs = tt
 
 empty-line-requires : tie.Need-empty-line-requires
 empty-line-requires c κs = tt
 
-add-t13 : tie.Need-add-t13
-add-t13 c =
+add-next : tie.Need-add-next
+add-next c =
     let at-if1 = c .before .before .before .before .before .before in
     let start = at-if1 .before .before .before .before .before .before .before .before in
-    omega (arith, at-if1 .if1 .left, start .good .1 .1 .0 .0)
+    omega (arith, at-if1 .if1 .left, start .good .1 .1 .1 .1 .1 .0 .0)
 
 same-length : tie.Need-same-length
 same-length c = search needs
@@ -39,7 +39,9 @@ returns-2 c =
     let at-feed = at-if1 .before in
     let at-line-end = at-feed .before in
     let start = at-line-end .before .before .before .before .before .before in
-    is-answered _ _ _ _ (start .pre .0) (start .pre .1) _ (at-line-end .line-end .ensures) _ (at-feed .feed .ensures) _ (at-answer .answer .result) _ (at-if1 .if1 .left) (c .empty-line .ensures) (at-answer .answer .ensures .0) (at-answer .answer .ensures .1)
+    let e = at-line-end .line-end .ensures in
+    let a = at-answer .answer-known .ensures (start .pre .2) in
+    (is-answered _ _ _ _ (start .pre .0) (start .pre .1) _ e _ (at-feed .feed .ensures) _ (at-answer .answer-known .result .kept) (at-answer .answer-known .result .at) _ (at-if1 .if1 .left) (c .empty-line .ensures) (a .0) (a .1), a .2)
 
 pub answer-next-spec : {M : Type 1} → statement M
 answer-next-spec =
@@ -48,8 +50,8 @@ answer-next-spec =
     line-end-requires
     feed-requires
     returns
-    answer-requires
+    answer-known-requires
     empty-line-requires
-    add-t13
+    add-next
     same-length
     returns-2)

@@ -1,44 +1,59 @@
 use native.Mathlib.Omega.{arith}
 use Prim.Native.Nat.{_-_}
 use lib.ListN.{length}
+use Rattle.years.specs.Calendars.{calendarAnswer}
+use Rattle.table.specs.Table.{openIn}
+use Rattle.command.specs.Sessions.{Known}
 use Rattle.sessions.proofs.Passing.{has-next, Going, begins, goes, finishes}
 use Rattle.sessions.proofs.answer_part.Statement.{statement}
 use Rattle.sessions.proofs.answer_part.Tie as tie
 
+-- the table that is kept answers question 10 as it is carried along
 abbrev Inv-loop : tie.InvT-loop
-Inv-loop file part from out₀ s₀ out s = Going file (s₀ .kept) (s₀ .line) part (s₀ .at) out₀ out s
+Inv-loop file judged part from out₀ right ten₀ s₀ out ten s =
+    Going (openIn (calendarAnswer judged) file) (s₀ .kept) (s₀ .line) part (s₀ .at) out₀ out s × Known judged right (s .kept .table) ten
 
 abbrev μ-loop : tie.MeasureT-loop
-μ-loop file part from out₀ s₀ out s = length part - s .at
+μ-loop file judged part from out₀ right ten₀ s₀ out ten s = length part - s .at
+
+is-calendar-sound-requires : tie.Need-is-calendar-sound-requires Inv-loop μ-loop
+is-calendar-sound-requires c κs = tt
+
+is-sound-requires : tie.Need-is-sound-requires Inv-loop μ-loop
+is-sound-requires c κs = tt
 
 loop-holds : tie.Need-loop-holds Inv-loop μ-loop
-loop-holds c = begins _ _ _ _ _ _
+loop-holds c = (begins _ _ _ _ _ _, record { calendar = c .before .is-calendar-sound .ensures; tenth = c .is-sound .ensures })
 
 goes-on-requires : tie.Need-goes-on-requires Inv-loop μ-loop
 goes-on-requires c κs = tt
 
 answer-next-requires : tie.Need-answer-next-requires Inv-loop μ-loop
-answer-next-requires c κs = has-next _ _ _ _ (c .before .before .goes-on .ensures) (c .before .if1 .taken)
+answer-next-requires c κs =
+    let at-goes-on = c .before .before in
+    let h = has-next _ _ _ _ (at-goes-on .goes-on .ensures) (c .before .if1 .taken) in
+    (h .0, h .1, at-goes-on .before .before .loop .inv .1)
 
 loop-less : tie.Need-loop-less Inv-loop μ-loop
 loop-less c =
-    let at-answer-next = c .before .before in
-    let n = at-answer-next .answer-next .ensures in
+    let at-answer-next = c .before .before .before in
+    let n = at-answer-next .answer-next .ensures .0 in
     omega (arith, n .on .0, n .on .1)
 
 loop-again : tie.Need-loop-again Inv-loop μ-loop
 loop-again c =
-    let at-answer-next = c .before .before in
+    let at-answer-next = c .before .before .before in
+    let n = at-answer-next .answer-next .ensures in
     let at-if1 = at-answer-next .before .before in
     let at-goes-on = at-if1 .before in
     let at-loop = at-goes-on .before .before in
-    goes _ _ _ _ _ _ _ _ (at-loop .loop .inv) _ _ (at-goes-on .goes-on .ensures) (at-if1 .if1 .taken) (at-answer-next .answer-next .ensures)
+    (goes _ _ _ _ _ _ _ _ (at-loop .loop .inv .0) _ _ (at-goes-on .goes-on .ensures) (at-if1 .if1 .taken) (n .0), n .1)
 
 same-length : tie.Need-same-length Inv-loop μ-loop
-same-length c = c .before .before .before .loop .inv .long
+same-length c = c .before .before .before .loop .inv .0 .long
 
 returns : tie.Need-returns Inv-loop μ-loop
-returns c = finishes _ _ _ _ _ _ _ _ (c .before .before .before .loop .inv) (c .before .goes-on .ensures) (c .if1 .left)
+returns c = finishes _ _ _ _ _ _ _ _ (c .before .before .before .loop .inv .0) (c .before .goes-on .ensures) (c .if1 .left)
 
 pub answer-part-spec : {M : Type 1} → statement M
 answer-part-spec =
@@ -46,6 +61,8 @@ answer-part-spec =
     (tie.spec
     Inv-loop
     μ-loop
+    is-calendar-sound-requires
+    is-sound-requires
     loop-holds
     goes-on-requires
     answer-next-requires

@@ -5,15 +5,21 @@ use lib.ListN.{length}
 use borrow.Author.Needs.{needs}
 use mathlib.Core.Bool.{true≢false}
 use Rattle.questions.proofs.Bools.{said-no, said-yes}
-use Rattle.sessions.proofs.Runs.{Came, came-none, came-more, came-all}
+use Rattle.years.specs.Calendars.{calendarAnswer}
+use Rattle.master.specs.Load.{judgeCall}
+use Rattle.table.specs.Table.{openIn}
+use Rattle.sessions.proofs.Runs.{Came, came-none, came-more, came-all, ran-own}
 use Rattle.terms.proofs.run.Statement.{statement}
 use Rattle.terms.proofs.run.Tie as tie
 
 abbrev Inv-loop : tie.InvT-loop
-Inv-loop file part₀ out₀ k₀ turns₀ part out k turns = (length part ≡ 65536) × (length out ≡ 65536) × Came file (k .kept) (k .line) (k .sent .bytes)
+Inv-loop file judged part₀ out₀ k₀ turns₀ part out k turns = (length part ≡ 65536) × (length out ≡ 65536) × (calendarAnswer judged ≡ judgeCall file) × Came (openIn (calendarAnswer judged) file) (k .kept) (k .line) (k .sent .bytes)
 
 abbrev μ-loop : tie.MeasureT-loop
-μ-loop file part₀ out₀ k₀ turns₀ part out k turns = turns
+μ-loop file judged part₀ out₀ k₀ turns₀ part out k turns = turns
+
+judge-requires : tie.Need-judge-requires Inv-loop μ-loop
+judge-requires c κs = tt
 
 large-buffer-requires : tie.Need-large-buffer-requires Inv-loop μ-loop
 large-buffer-requires c κs = tt
@@ -30,7 +36,7 @@ empty-line-requires c κs = tt
 loop-holds : tie.Need-loop-holds Inv-loop μ-loop
 loop-holds c =
     let at-large-buffer2 = c .before .before .before in
-    (sym (at-large-buffer2 .before .large-buffer .ensures), sym (at-large-buffer2 .large-buffer2 .ensures), rw (c .nothing-sent .ensures .1, c .before .empty-line .ensures, c .before .before .nothing-kept .ensures) (came-none _))
+    (sym (at-large-buffer2 .before .large-buffer .ensures), sym (at-large-buffer2 .large-buffer2 .ensures), at-large-buffer2 .before .before .judge .ensures, rw (c .nothing-sent .ensures .1, c .before .empty-line .ensures, c .before .before .nothing-kept .ensures) (came-none _))
 
 nothing-sent-requires : tie.Need-nothing-sent-requires Inv-loop μ-loop
 nothing-sent-requires c κs = tt
@@ -75,7 +81,7 @@ loop-again c =
     let at-part2 = at-write-part .before .before .before .before in
     let v = at-part2 .before .before .before .before .loop .inv in
     let d = at-write-part .write-part .ensures (said-yes (at-is-open .is-open .ensures) (c .if2 .left)) in
-    (at-part2 .part2 .given, at-out2 .out2 .given, came-more _ _ _ _ _ _ _ _ (v .2) d)
+    (at-part2 .part2 .given, at-out2 .out2 .given, v .2, came-more _ _ _ _ _ _ _ _ (v .3) d)
 
 slice-aggregate-write-last : tie.Need-slice-aggregate-write-last Inv-loop μ-loop
 slice-aggregate-write-last c = search needs
@@ -84,7 +90,10 @@ write-last-requires : tie.Need-write-last-requires Inv-loop μ-loop
 write-last-requires c κs = omega (arith, c .before .before .loop .inv .1)
 
 returns-2 : tie.Need-returns-2 Inv-loop μ-loop
-returns-2 c = λ e. came-all _ _ _ _ _ (c .before .before .before .before .loop .inv .2) (c .before .write-last .ensures e)
+returns-2 c = λ e.
+    let v = c .before .before .before .before .loop .inv in
+    let r = came-all _ _ _ _ _ (v .3) (c .before .write-last .ensures e) in
+    ran-own _ _ (rw (v .2) at r)
 
 pub run-spec : {M : Type 1} → statement M
 run-spec =
@@ -92,6 +101,7 @@ run-spec =
     (tie.spec
     Inv-loop
     μ-loop
+    judge-requires
     large-buffer-requires
     large-buffer-requires-2
     nothing-kept-requires

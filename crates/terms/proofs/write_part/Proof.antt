@@ -5,17 +5,19 @@ use mathlib.Core.Bool.{true≢false}
 use lib.ListN.{length, drop}
 use borrow.Author.Needs.{needs}
 use Rattle.questions.proofs.Bools.{said-no, said-yes}
+use Rattle.years.specs.Calendars.{calendarAnswer}
+use Rattle.table.specs.Table.{openIn}
 use Rattle.sessions.specs.Parts.{Handed, answers}
 use Rattle.sessions.proofs.Runs.{handed-none, handed-more, handed-all}
 use Rattle.terms.proofs.write_part.Statement.{statement}
 use Rattle.terms.proofs.write_part.Tie as tie
 
 abbrev Inv-loop : tie.InvT-loop
-Inv-loop file part out₀ kept line sent₀ s₀ out sent s =
-    (512 ≤ length out₀) × (length out ≡ length out₀) × Handed file (s₀ .kept) (s₀ .line) part (sent₀ .bytes) (s .kept) (s .line) (drop (s .at) part) (sent .bytes)
+Inv-loop file judged part out₀ kept line sent₀ s₀ out sent s =
+    (512 ≤ length out₀) × (length out ≡ length out₀) × Handed (openIn (calendarAnswer judged) file) (s₀ .kept) (s₀ .line) part (sent₀ .bytes) (s .kept) (s .line) (drop (s .at) part) (sent .bytes)
 
 abbrev μ-loop : tie.MeasureT-loop
-μ-loop file part out₀ kept line sent₀ s₀ out sent s = length part - s .at
+μ-loop file judged part out₀ kept line sent₀ s₀ out sent s = length part - s .at
 
 loop-holds : tie.Need-loop-holds Inv-loop μ-loop
 loop-holds c = (omega arith, refl, handed-none _ _ _ _ _ (search needs))

@@ -1,0 +1,91 @@
+use Rattle.command.proofs.Answers.{bad-kept, bad-text, no-kept, no-text, yes-kept, yes-text, leaves-sound}
+use mathlib.Core.Path.{sym, _∙_}
+use Rattle.command.proofs.answer_known.Statement.{statement}
+use Rattle.command.proofs.answer_known.Tie as tie
+
+command-of-requires : tie.Need-command-of-requires
+command-of-requires c κs = tt
+
+is-bad-requires : tie.Need-is-bad-requires
+is-bad-requires c κs = tt
+
+print-bad-requires : tie.Need-print-bad-requires
+print-bad-requires c κs = tt
+
+same-length : tie.Need-same-length
+same-length c = c .before .before .print-bad .ensures .long
+
+returns : tie.Need-returns
+returns c = λ w.
+    let at-if1 = c .before .before .before .before in
+    let at-is-bad = at-if1 .before in
+    let at-command-of = at-is-bad .before .before in
+    let b = sym (at-is-bad .is-bad .ensures) ∙ at-if1 .if1 .taken in
+    rw (← at-command-of .command-of .ensures) (bad-kept _ _ _ b, rw (← bad-text _ _ _ b) (c .before .before .print-bad .ensures), w)
+
+outcome-of-requires : tie.Need-outcome-of-requires
+outcome-of-requires c κs = tt
+
+print-refusal-requires : tie.Need-print-refusal-requires
+print-refusal-requires c κs = tt
+
+same-length-2 : tie.Need-same-length-2
+same-length-2 c = c .before .before .print-refusal .ensures .long
+
+returns-2 : tie.Need-returns-2
+returns-2 c = λ w.
+    let at-if2 = c .before .before .before .before in
+    let at-outcome-of = at-if2 .before in
+    let at-if1 = at-outcome-of .before in
+    let at-is-bad = at-if1 .before in
+    let at-command-of = at-is-bad .before .before in
+    let start = at-command-of .before .before .before in
+    let b = sym (at-is-bad .is-bad .ensures) ∙ at-if1 .if1 .left in
+    let h = start .args .kept in
+    let k = at-command-of .command-of .result in
+    let o = at-outcome-of .outcome-of .ensures (w .tenth) in
+    let n = at-if2 .if2 .taken in
+    rw (← at-command-of .command-of .ensures) (no-kept _ h k b _ o n, rw (← no-text _ h k b _ o n) (c .before .before .print-refusal .ensures), w)
+
+leaves-sound-requires : tie.Need-leaves-sound-requires
+leaves-sound-requires c κs = tt
+
+print-outcome-requires : tie.Need-print-outcome-requires
+print-outcome-requires c κs = tt
+
+same-length-3 : tie.Need-same-length-3
+same-length-3 c = c .before .before .before .before .print-outcome .ensures .long
+
+returns-3 : tie.Need-returns-3
+returns-3 c = λ w.
+    let at-print-outcome = c .before .before .before .before in
+    let at-if2 = at-print-outcome .before .before in
+    let at-outcome-of = at-if2 .before in
+    let at-if1 = at-outcome-of .before in
+    let at-is-bad = at-if1 .before in
+    let at-command-of = at-is-bad .before .before in
+    let start = at-command-of .before .before .before in
+    let b = sym (at-is-bad .is-bad .ensures) ∙ at-if1 .if1 .left in
+    let h = start .args .kept in
+    let k = at-command-of .command-of .result in
+    let o = at-outcome-of .outcome-of .ensures (w .tenth) in
+    let n = at-if2 .if2 .left in
+    rw (← at-command-of .command-of .ensures) (yes-kept _ h k b _ o n, rw (← yes-text _ h k b _ o n) (at-print-outcome .print-outcome .ensures), record { calendar = w .calendar; tenth = (rw (w .calendar) at (c .leaves-sound .ensures)) ∙ sym (leaves-sound _ _ _ k _ o n) })
+
+pub answer-known-spec : {M : Type 1} → statement M
+answer-known-spec =
+    tie.close
+    (tie.spec
+    command-of-requires
+    is-bad-requires
+    print-bad-requires
+    same-length
+    returns
+    outcome-of-requires
+    print-refusal-requires
+    same-length-2
+    returns-2
+    print-outcome-requires
+    leaves-sound-requires
+    same-length-3
+    returns-3)

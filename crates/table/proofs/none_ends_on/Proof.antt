@@ -1,0 +1,55 @@
+use native.Mathlib.Omega.{arith}
+use mathlib.Core.Path.{_≡_, sym}
+use mathlib.Core.Bool.{true≢false}
+use Prim.Native.Nat.{_-_}
+use lib.ListN.{length}
+use Rattle.table.proofs.Unmoved.{NoneEnds, none-more}
+use Rattle.table.proofs.none_ends_on.Statement.{statement}
+use Rattle.table.proofs.none_ends_on.Tie as tie
+
+abbrev Inv-loop : tie.InvT-loop
+Inv-loop day maturities i₀ i = (length maturities ≡ 15) × NoneEnds maturities day i
+
+abbrev μ-loop : tie.MeasureT-loop
+μ-loop day maturities i₀ i = 15 - i
+
+loop-holds : tie.Need-loop-holds Inv-loop μ-loop
+loop-holds c = (c .good .0 .1 .0 .1, record { none = λ j h e. omega arith })
+
+mul-m : tie.Need-mul-m Inv-loop μ-loop
+mul-m c = omega arith
+
+array-copy-out-m : tie.Need-array-copy-out-m Inv-loop μ-loop
+array-copy-out-m c = omega arith
+
+returns : tie.Need-returns Inv-loop μ-loop
+returns c = λ e. absurd (true≢false (sym e))
+
+add-i : tie.Need-add-i Inv-loop μ-loop
+add-i c = omega arith
+
+loop-less : tie.Need-loop-less Inv-loop μ-loop
+loop-less c = omega arith
+
+loop-again : tie.Need-loop-again Inv-loop μ-loop
+loop-again c =
+    let v = c .before .before .before .before .loop .inv in
+    (v .0, none-more _ _ _ (v .1) (c .if1 .left))
+
+returns-2 : tie.Need-returns-2 Inv-loop μ-loop
+returns-2 c = λ e i h. c .before .loop .inv .1 .none i (omega arith)
+
+pub none-ends-on-spec : {M : Type 1} → statement M
+none-ends-on-spec =
+    tie.close
+    (tie.spec
+    Inv-loop
+    μ-loop
+    loop-holds
+    mul-m
+    array-copy-out-m
+    returns
+    add-i
+    loop-less
+    loop-again
+    returns-2)
