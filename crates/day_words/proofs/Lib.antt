@@ -1,3 +1,4 @@
 pub mod Words
+pub mod Equations
 pub mod Windows
 pub mod Bytes

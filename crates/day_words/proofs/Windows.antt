@@ -19,8 +19,9 @@ use Rattle.calendar.specs.declared.Calendar.{Calendar}
 use Rattle.calendar.specs.Bits.{bitAt}
 use Rattle.calendar.specs.Trading.{validCover, coverStart, coverEnd, inCover, slotOf, closedOn, tradingDay, someTrades, everyWeek}
 use Rattle.calendar.proofs.Covered.{years, cover-facts}
-use Rattle.day_words.specs.Words.{dayBit, Shows, Weekends, Moved, SevenFree}
+use Rattle.day_words.specs.Words.{dayBit, Shows, Weekends, noSeven}
 use Rattle.day_words.proofs.Words.{or-day, shr-day, wider-day}
+use Rattle.day_words.proofs.Equations.{never-seven, Moved}
 
 -- the last m days of a window, those before day e: a day of the cover has the bit of its slot
 abbrev pub Ends : Calendar → ℕ → ℕ → ℕ → Type 0
@@ -54,7 +55,7 @@ module _ (cal : Calendar) where
         rw (w d a b i, v (64 + d - e) (omega arith), q, r) (not-trading cal d i t)
 
     -- the window tells of the runs that end in its last m days
-    pub passes : (t : ℕ) → e + 6 ≤ t + m → e ≤ coverEnd (cal .cover) → SevenFree (bitOr x idle) → TradesUntil cal t → TradesUntil cal e
+    pub passes : (t : ℕ) → e + 6 ≤ t + m → e ≤ coverEnd (cal .cover) → noSeven (bitOr x idle) ≡ true → TradesUntil cal t → TradesUntil cal e
     passes t a b free u s g h = go (lt-or-ge t (s + 7))
       where
         day : someTrades cal s 7 ≡ false → (i : ℕ) → i < 7 → tradingDay cal (s + i) ≡ false
@@ -64,7 +65,7 @@ module _ (cal : Calendar) where
         run k true f = f
         run k false f =
             absurd
-            (free (64 + s - e) (omega arith)
+            (never-seven (bitOr x idle) free (64 + s - e) (omega arith)
             (λ i j.
             let p : 64 + s - e + i ≡ 64 + (s + i) - e = omega arith in
             ap (λ (n : ℕ). dayBit 64 (bitOr x idle) n) p ∙
@@ -192,7 +193,7 @@ module _ (cal : Calendar) (k : ℕ) (v : validCover (cal .cover) ≡ true) (h : 
   start = yearStart (cal .cover .«first_year» + k)
 
   -- eight weeks on
-  pub next-weeks : (j x next r idle : ℕ) → j < 6 → Next cal k j x → Shows (cal .closed) (368 * k + 56 * j) 56 next → Moved x next 56 r → Weekends (start + 6) idle → SevenFree (bitOr r idle) → Next cal k (j + 1) r
+  pub next-weeks : (j x next r idle : ℕ) → j < 6 → Next cal k j x → Shows (cal .closed) (368 * k + 56 * j) 56 next → Moved x next 56 r → Weekends (start + 6) idle → noSeven (bitOr r idle) ≡ true → Next cal k (j + 1) r
   next-weeks j x next r idle l w s m i free =
       let t = year-in-cover (cal .cover) k v h in
       let e : start + 56 * j + 56 ≡ start + 56 * (j + 1) = omega arith in
@@ -207,7 +208,7 @@ module _ (cal : Calendar) (k : ℕ) (v : validCover (cal .cover) ≡ true) (h : 
       }
 
   -- the window moved on to the year's end
-  pub next-year : (w x next r idle : ℕ) → yearStart (cal .cover .«first_year» + k + 1) ≡ start + 336 + w → w ≤ 30 → Ends cal (start + 336) 8 x → Shows (cal .closed) (368 * k + 336) w next → Moved x next w r → Weekends (yearStart (cal .cover .«first_year» + k + 1) + 6) idle → SevenFree (bitOr r idle) → TradesUntil cal (start + 336) → TradesUntil cal (yearStart (cal .cover .«first_year» + k + 1))
+  pub next-year : (w x next r idle : ℕ) → yearStart (cal .cover .«first_year» + k + 1) ≡ start + 336 + w → w ≤ 30 → Ends cal (start + 336) 8 x → Shows (cal .closed) (368 * k + 336) w next → Moved x next w r → Weekends (yearStart (cal .cover .«first_year» + k + 1) + 6) idle → noSeven (bitOr r idle) ≡ true → TradesUntil cal (start + 336) → TradesUntil cal (yearStart (cal .cover .«first_year» + k + 1))
   next-year w x next r idle e l f s m i free u =
       let t = year-in-cover (cal .cover) k v h in
       let a : Ends cal (yearStart (cal .cover .«first_year» + k + 1)) (8 + w) r = rw e (moves cal (start + 336) 8 w x next r (omega arith) f m (λ q b c. shows-days cal k 336 w next s (omega arith) q b)) in

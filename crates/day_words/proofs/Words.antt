@@ -1,4 +1,4 @@
--- Laws of the bits of words: two words side by side, the bytes of a map, an and that is zero, seven in a row.
+-- Laws of the bits of words: two words side by side, the bytes of a map, an and that is zero, seven in a row, a word moved on.
 -- Assumes nothing.
 use mathlib.Core.Path.{_≡_, refl, _∙_, sym, ap}
 use mathlib.Core.Bool.{Bool, true, false, not, _&&_, _||_, cond}
@@ -16,7 +16,7 @@ use Rattle.questions.specs.Search.{every}
 use Rattle.questions.proofs.Bools.{clash, both, and-fst, and-snd, and-both, same-test, lt-or-ge}
 use Rattle.questions.proofs.Search.{every-at, every-all}
 use Rattle.calendar.specs.Bits.{byteBit, bitAt}
-use Rattle.day_words.specs.Words.{dayBit, Shows, bytesFrom, weekendDay, SevenFree}
+use Rattle.day_words.specs.Words.{dayBit, Shows, bytesFrom}
 
 -- a number's lower m bits keep their bits
 pub mod-bit : (n m j : ℕ) → j < m → n % 2 ^ m / 2 ^ j % 2 ≡ n / 2 ^ j % 2
@@ -56,7 +56,7 @@ bytes-show b at zero p h = absurd (omega arith)
 bytes-show b at (suc n) p h = byte-step b at n p h (lt-or-ge p (8 * n)) (bytes-show b at n p)
 
 -- numbers below 2^w with the same bits are equal
-same-bits : (w x y : ℕ) → x < 2 ^ w → y < 2 ^ w → ((j : ℕ) → j < w → x / 2 ^ j % 2 ≡ y / 2 ^ j % 2) → x ≡ y
+pub same-bits : (w x y : ℕ) → x < 2 ^ w → y < 2 ^ w → ((j : ℕ) → j < w → x / 2 ^ j % 2 ≡ y / 2 ^ j % 2) → x ≡ y
 same-bits zero x y a b h = omega arith
 same-bits (suc w) x y a b h =
     let half : x / 2 ≡ y / 2 = same-bits w (x / 2) (y / 2) (shr-lt w 1 (more x a)) (shr-lt w 1 (more y b)) (λ j k. ap (λ (n : ℕ). n % 2) (shr-shr x 1 j) ∙ h (1 + j) (omega arith) ∙ sym (ap (λ (n : ℕ). n % 2) (shr-shr y 1 j))) in
@@ -74,13 +74,13 @@ pub all-zero : (w y : ℕ) → y < 2 ^ w → ((j : ℕ) → j < w → y / 2 ^ j 
 all-zero w y l h = same-bits w y 0 l (pow-pos w) (λ j k. h j k ∙ sym (ap (λ (n : ℕ). n % 2) (zero-div (2 ^ j))))
 
 -- a bit of an and, of an or
-and-bit : (a b j : ℕ) → bitAnd a b / 2 ^ j % 2 ≡ bitAnd (a / 2 ^ j % 2) (b / 2 ^ j % 2)
+pub and-bit : (a b j : ℕ) → bitAnd a b / 2 ^ j % 2 ≡ bitAnd (a / 2 ^ j % 2) (b / 2 ^ j % 2)
 and-bit a b j = ap (λ (n : ℕ). n % 2) (and-shr a b j) ∙ and-mod (a / 2 ^ j) (b / 2 ^ j) 1
 
 or-bit : (a b j : ℕ) → bitOr a b / 2 ^ j % 2 ≡ bitOr (a / 2 ^ j % 2) (b / 2 ^ j % 2)
 or-bit a b j = ap (λ (n : ℕ). n % 2) (or-shr a b j) ∙ or-mod (a / 2 ^ j) (b / 2 ^ j) 1
 
-low-two : (x : ℕ) → x < 2 → (x ≡ 0) ⊎ (x ≡ 1)
+pub low-two : (x : ℕ) → x < 2 → (x ≡ 0) ⊎ (x ≡ 1)
 low-two zero h = inl refl
 low-two (suc zero) h = inr refl
 low-two (suc (suc x)) h = absurd (omega arith)
@@ -184,10 +184,10 @@ pair x k j p q =
     let s : x / 2 ^ k / 2 ^ j % 2 ≡ 1 = ap (λ (n : ℕ). n % 2) (shr-shr x k j) ∙ ap (λ (n : ℕ). x / 2 ^ n % 2) e ∙ q in
     and-bit x (x / 2 ^ k) j ∙ ap (λ (n : ℕ). bitAnd n (x / 2 ^ k / 2 ^ j % 2)) p ∙ ap (λ (n : ℕ). bitAnd 1 n) s
 
-abbrev twos : ℕ → ℕ
+abbrev pub twos : ℕ → ℕ
 twos x = bitAnd x (x / 2 ^ 1)
 
-abbrev fours : ℕ → ℕ
+abbrev pub fours : ℕ → ℕ
 fours x = bitAnd (twos x) (twos x / 2 ^ 2)
 
 -- seven bits from bit j up leave a bit
@@ -207,7 +207,7 @@ seven-bits x j z h =
         let e : j + m + 2 ≡ j + (m + 2) = omega arith in
         pair (twos x) 2 (j + m) (t m (omega arith)) (ap (λ (n : ℕ). twos x / 2 ^ n % 2) e ∙ t (m + 2) (omega arith))
 
-pub seven-free : (x : ℕ) → bitAnd (bitAnd (bitAnd x (x / 2 ^ 1)) (bitAnd x (x / 2 ^ 1) / 2 ^ 2)) (bitAnd (bitAnd x (x / 2 ^ 1)) (bitAnd x (x / 2 ^ 1) / 2 ^ 2) / 2 ^ 3) ≡ 0 → SevenFree x
+pub seven-free : (x : ℕ) → bitAnd (fours x) (fours x / 2 ^ 3) ≡ 0 → (p : ℕ) → p + 7 ≤ 64 → ((i : ℕ) → i < 7 → dayBit 64 x (p + i) ≡ true) → ⊥
 seven-free x z p l h =
     seven-bits x (57 - p) z
     (λ i k.
@@ -265,15 +265,6 @@ bytes-join b at m (suc n) =
 pub one-byte : (b : List ℕ) (at : ℕ) → bytesFrom b at 1 ≡ getD b at 0 % 256
 unfolding bytesFrom
 one-byte b at = let e : 0 * 256 + getD b (at + 0) 0 % 256 ≡ getD b (at + 0) 0 % 256 = omega arith in e ∙ ap (λ (i : ℕ). getD b i 0 % 256) (add-zero at)
-
--- what the test of a weekend day says
-pub weekend-is : (v x p : ℕ) → weekendDay v x p ≡ true → dayBit 64 x p ≡ not (ltb ((v + p) % 7) 5)
-weekend-is v x p h = go (ltb ((v + p) % 7) 5) (dayBit 64 x p) h
-  where
-    go : (a b : Bool) → cond a (not b) b ≡ true → b ≡ not a
-    go true true h = sym h
-    go true false h = refl
-    go false b h = h
 
 -- tests that agree below n
 pub every-same : (f g : ℕ → Bool) (n : ℕ) → ((k : ℕ) → k < n → f k ≡ g k) → every n f ≡ every n g

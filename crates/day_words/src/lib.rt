@@ -1,12 +1,12 @@
 // Words of days: eight weeks of a year's map of closed days as one number, the first day the highest bit; and the bytes of whole maps. The compiler reads the bytes of a word at once, and many bytes of a map.
 ghost use mathlib.Core.Path.{_≡_};
-ghost use mathlib.Core.Bool.{true, not, _||_};
-ghost use Prim.Native.Nat.{_+_, _-_, _*_, _^_, _≤_, _<_};
-ghost use lib.Dec.{eqb};
+ghost use mathlib.Core.Bool.{not, _||_};
+ghost use Prim.Native.Nat.{_+_, _-_, _*_, _%_, _≤_, _<_};
+ghost use lib.Dec.{eqb, ltb};
 ghost use lib.ListN.{getD};
 ghost use Rattle.questions.specs.Search.{every};
 ghost use Rattle.calendar.specs.Bits.{byteBit, bitAt};
-ghost use Rattle.day_words.specs.Words.{Shows, bytesFrom, Weekends, weekendDay, Moved, SevenFree};
+ghost use Rattle.day_words.specs.Words.{dayWord, weeksOf, restOf, weekendsFrom, movedOn, noSeven, bytesFrom};
 
 fn wide(byte: u8) -> u64
     ensures { λ r. ⌜ (r ≡ byte) × (r < 256) ⌝ }
@@ -48,7 +48,7 @@ fn seven_at(maps: &[u8; 736], at: usize) -> u64
 
 // Eight weeks of the map of year k, a word of 56 days: the j-th of six.
 pub fn weeks_of(maps: &[u8; 736], k: u16, j: u16) -> u64
-    ensures { λ r. ⌜ (k < 16 → j < 6 → Shows (now (maps .entry)) (368 * k + 56 * j) 56 r) × (r < 2 ^ 56) ⌝ }
+    ensures { λ r. ⌜ r ≡ weeksOf (now (maps .entry)) k j ⌝ }
 {
     if 16 <= k {
         return 0;
@@ -61,7 +61,7 @@ pub fn weeks_of(maps: &[u8; 736], k: u16, j: u16) -> u64
 
 // The rest of the map of year k, after six times eight weeks: a word of 32 days, the last two or three of them after the year's end.
 pub fn rest_of(maps: &[u8; 736], k: u16) -> u64
-    ensures { λ r. ⌜ (k < 16 → Shows (now (maps .entry)) (368 * k + 336) 32 r) × (r < 2 ^ 32) ⌝ }
+    ensures { λ r. ⌜ r ≡ restOf (now (maps .entry)) k ⌝ }
 {
     if 16 <= k {
         return 0;
@@ -72,7 +72,7 @@ pub fn rest_of(maps: &[u8; 736], k: u16) -> u64
 // The Saturdays and Sundays of the 64 days that begin with a weekday.
 fn weekends_on(weekday: u16) -> u64
     requires { ⌜ weekday < 7 ⌝ }
-    ensures { λ r. ⌜ every 64 (weekendDay weekday r) ≡ true ⌝ }
+    ensures { λ r. ⌜ r ≡ dayWord 64 (λ p. not (ltb ((weekday + p) % 7) 5)) ⌝ }
 {
     match weekday {
         0 => 0x060C183060C18306,
@@ -87,24 +87,27 @@ fn weekends_on(weekday: u16) -> u64
 
 // The Saturdays and Sundays of the 64 days from a day on.
 pub fn weekends_from(day: u16) -> u64
-    ensures { λ r. ⌜ Weekends day r ⌝ }
+    ensures { λ r. ⌜ r ≡ weekendsFrom day ⌝ }
 {
     weekends_on(days::weekday(day))
 }
 
-// A window of 64 days moved on by w days.
+// A window of 64 days moved on by w days, to the word of the next w.
 pub fn moved_on(window: u64, next: u64, w: u64) -> u64
-    ensures { λ r. ⌜ (w < 64 → next < 2 ^ w → Moved window next w r) ⌝ }
+    ensures { λ r. ⌜ r ≡ movedOn window next w ⌝ }
 {
     if 64 <= w {
-        return next;
+        return 0;
+    }
+    if 0 < next >> w {
+        return 0;
     }
     (window << w) | next
 }
 
 // Whether no seven days in a row have their bit. A bit of `two` is one of two in a row, a bit of `four` of four, and two of these three days apart are seven.
 pub fn no_seven(x: u64) -> bool
-    ensures { λ r. ⌜ (r ≡ true → SevenFree x) ⌝ }
+    ensures { λ r. ⌜ r ≡ noSeven x ⌝ }
 {
     let two = x & (x >> 1);
     let four = two & (two >> 2);

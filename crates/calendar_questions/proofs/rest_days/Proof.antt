@@ -1,3 +1,4 @@
+use Rattle.day_words.proofs.Equations.{rest-shows, rest-below}
 use Rattle.day_words.proofs.Windows.{shows-part, part-below}
 use borrow.Author.Needs.{needs}
 use Rattle.calendar_questions.proofs.rest_days.Statement.{statement}
@@ -16,7 +17,7 @@ shr-result c = search needs
 returns : tie.Need-returns
 returns c =
     let start = c .before in
-    (shows-part _ _ _ _ (start .pre .1) (c .rest-of .ensures .0 (start .pre .0)), part-below _ _ (start .pre .1) (c .rest-of .ensures .1))
+    (shows-part _ _ _ _ (start .pre .1) (rest-shows _ _ _ (c .rest-of .ensures) (start .pre .0)), part-below _ _ (start .pre .1) (rest-below _ _ _ (c .rest-of .ensures)))
 
 pub rest-days-spec : {M : Type 1} → statement M
 rest-days-spec = tie.close (tie.spec rest-of-requires sub-result shr-result returns)

@@ -1,6 +1,8 @@
+use Rattle.day_words.proofs.Equations.{weekends-are, moved}
 use Rattle.day_words.proofs.Windows.{next-year, year-in-cover}
 use Rattle.calendar.specs.Trading.{calendarWith}
 use Rattle.calendar.proofs.Covered.{years}
+use mathlib.Core.Path.{_∙_, sym}
 use native.Mathlib.Omega.{arith}
 use borrow.Author.Needs.{needs}
 use Rattle.calendar_questions.proofs.rest_trades.Statement.{statement}
@@ -54,7 +56,7 @@ returns c = λ e u.
     let cal = calendarWith (start .args .cover) (start .args .closed .now) in
     let l = at-length .rest-length .ensures in
     next-year cal (start .args .k) (start .pre .1) (start .pre .0) (at-length .rest-length .result) (start .args .window) (at-rest .rest-days .result) (at-moved .moved-on .result) (at-weekends .weekends-from .result)
-    (l .0) (l .2) (start .pre .2) (at-rest .rest-days .ensures .0) (at-moved .moved-on .ensures (omega (arith, l)) (at-rest .rest-days .ensures .1)) (rw (at-end .year-start .ensures .0) at (at-weekends .weekends-from .ensures)) (c .no-seven .ensures e) u
+    (l .0) (l .2) (start .pre .2) (at-rest .rest-days .ensures .0) (moved _ _ _ (omega (arith, l)) (at-rest .rest-days .ensures .1) _ (at-moved .moved-on .ensures)) (rw (at-end .year-start .ensures .0) at (weekends-are _ _ (at-weekends .weekends-from .ensures))) (sym (c .no-seven .ensures) ∙ e) u
 
 pub rest-trades-spec : {M : Type 1} → statement M
 rest-trades-spec =

@@ -1,4 +1,5 @@
 use Rattle.day_words.proofs.Words.{all-days}
+use Rattle.day_words.proofs.Equations.{weekends-are}
 use native.Mathlib.Omega.{arith}
 use borrow.Author.Needs.{needs}
 use Rattle.calendar_questions.proofs.year_barred.Statement.{statement}
@@ -24,7 +25,7 @@ weekends-from-requires c κs = tt
 returns-2 : tie.Need-returns-2
 returns-2 c =
     let s = c .before .before .before .year-start .ensures .0 in
-    (λ h. rw s at (c .weekends-from .ensures), λ h. absurd (omega (arith, h, s, c .before .before .year-start2 .ensures .0, c .before .if1 .left)))
+    (λ h. rw s at (weekends-are _ _ (c .weekends-from .ensures)), λ h. absurd (omega (arith, h, s, c .before .before .year-start2 .ensures .0, c .before .if1 .left)))
 
 pub year-barred-spec : {M : Type 1} → statement M
 year-barred-spec =

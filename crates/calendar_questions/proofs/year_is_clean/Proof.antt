@@ -1,5 +1,6 @@
 use Rattle.calendar_questions.proofs.Maps.{mapDay, weeks-barred, every-split, every-fails}
 use Rattle.day_words.proofs.Words.{word-clean}
+use Rattle.day_words.proofs.Equations.{rest-shows, rest-below, weeks-shows, weeks-below}
 use Rattle.questions.specs.Search.{every}
 use Rattle.questions.proofs.Bools.{said-no, said-yes}
 use Rattle.questions.proofs.Search.{every-none, every-add}
@@ -53,7 +54,7 @@ weeks-clean c =
     let l = at-weeks .before .loop-test .taken in
     let barred = at-barred .year-barred .result in
     c .is-apart .ensures ∙
-    word-clean (start .args .closed .now) (mayClose (start .args .year)) (368 * start .args .k) (56 * at-loop .loop .j) 56 (at-weeks .weeks-of .result) (barred / 2 ^ 8) (at-weeks .weeks-of .ensures .1) (at-weeks .weeks-of .ensures .0 (start .pre .0) l)
+    word-clean (start .args .closed .now) (mayClose (start .args .year)) (368 * start .args .k) (56 * at-loop .loop .j) 56 (at-weeks .weeks-of .result) (barred / 2 ^ 8) (weeks-below _ _ _ _ (at-weeks .weeks-of .ensures)) (weeks-shows _ _ _ _ (at-weeks .weeks-of .ensures) (start .pre .0) l)
     (λ p h. weeks-barred (start .args .year) barred (at-barred .year-barred .ensures) (at-loop .loop .j) p l h)
 
 returns : tie.Need-returns Inv-loop μ-loop
@@ -92,7 +93,7 @@ returns-2 c =
     let y = start .args .year in
     let e : 56 * at-loop .loop .j ≡ 336 = omega (arith, at-rest .before .loop-test .left) in
     c .is-apart2 .ensures ∙
-    word-clean map (mayClose y) (368 * k) 336 32 (at-rest .rest-of .result) (at-barred .rest-barred .result) (at-rest .rest-of .ensures .1) (at-rest .rest-of .ensures .0 (start .pre .0)) (at-barred .rest-barred .ensures) ∙
+    word-clean map (mayClose y) (368 * k) 336 32 (at-rest .rest-of .result) (at-barred .rest-barred .result) (rest-below _ _ _ (at-rest .rest-of .ensures)) (rest-shows _ _ _ (at-rest .rest-of .ensures) (start .pre .0)) (at-barred .rest-barred .ensures) ∙
     sym (every-split (mapDay map k y) 336 32 (rw e at (at-loop .loop .inv .1)))
 
 pub year-is-clean-spec : {M : Type 1} → statement M

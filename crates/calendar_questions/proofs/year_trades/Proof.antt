@@ -1,3 +1,4 @@
+use Rattle.day_words.proofs.Equations.{weekends-are, weeks-shows, weeks-below, moved}
 use Rattle.day_words.proofs.Windows.{Next, next-first, next-weeks, year-in-cover}
 use Rattle.questions.proofs.Bools.{clash, said-yes}
 use Rattle.calendar.specs.Trading.{calendarWith}
@@ -69,7 +70,8 @@ loop-again c =
     let k : start .args .k < 16 = omega (arith, years (start .args .cover) (start .pre .1), start .pre .0) in (
       omega arith,
       next-weeks cal (start .args .k) (start .pre .1) (start .pre .0) (at-loop .loop .j) (at-loop .loop .window) (at-weeks .weeks-of .result) (at-moved .moved-on .result) (at-weekends .weekends-from .result) l
-          (at-loop .loop .inv .1) (at-weeks .weeks-of .ensures .0 k l) (at-moved .moved-on .ensures (omega arith) (at-weeks .weeks-of .ensures .1)) (rw (at-weekends .before .year-start .ensures .0) at (at-weekends .weekends-from .ensures)) (c .before .no-seven .ensures (said-yes refl (c .if1 .left))),
+          (at-loop .loop .inv .1) (weeks-shows _ _ _ _ (at-weeks .weeks-of .ensures) k l) (moved _ _ _ (omega arith) (weeks-below _ _ _ _ (at-weeks .weeks-of .ensures)) _ (at-moved .moved-on .ensures))
+          (rw (at-weekends .before .year-start .ensures .0) at (weekends-are _ _ (at-weekends .weekends-from .ensures))) (said-yes (c .before .no-seven .ensures) (c .if1 .left)),
     )
 
 rest-trades-requires : tie.Need-rest-trades-requires Inv-loop μ-loop

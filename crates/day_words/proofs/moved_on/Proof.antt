@@ -1,17 +1,24 @@
-use Rattle.day_words.proofs.Words.{moved-kept, moved-new}
+use Rattle.day_words.proofs.Equations.{no-word, is-word, not-moved, moved-is}
+use mathlib.Core.Logic.{inl, inr}
 use native.Mathlib.Omega.{arith}
 use borrow.Author.Needs.{needs}
 use Rattle.day_words.proofs.moved_on.Statement.{statement}
 use Rattle.day_words.proofs.moved_on.Tie as tie
 
 returns : tie.Need-returns
-returns c = λ h l. absurd (omega (arith, h, c .if1 .taken))
+returns c = not-moved _ _ _ (inl (c .if1 .taken))
+
+shr-if2 : tie.Need-shr-if2
+shr-if2 c = search needs
+
+returns-2 : tie.Need-returns-2
+returns-2 c = not-moved _ _ _ (inr (no-word _ _ (omega (arith, c .if2 .taken))))
 
 shl-result : tie.Need-shl-result
 shl-result c = search needs
 
-returns-2 : tie.Need-returns-2
-returns-2 c = λ h l. record { kept = moved-kept _ _ _ h l; new = moved-new _ _ _ h l }
+returns-3 : tie.Need-returns-3
+returns-3 c = moved-is _ _ _ (omega arith) (is-word _ _ (omega (arith, c .if2 .left)))
 
 pub moved-on-spec : {M : Type 1} → statement M
-moved-on-spec = tie.close (tie.spec returns shl-result returns-2)
+moved-on-spec = tie.close (tie.spec returns shr-if2 returns-2 shl-result returns-3)

@@ -1,4 +1,5 @@
 use Rattle.day_words.proofs.Words.{bytes-show}
+use Rattle.day_words.proofs.Equations.{no-year, rest-is}
 use Rattle.calendar.specs.Bits.{bitAt}
 use mathlib.Core.Path.{_≡_, _∙_, ap}
 use Prim.Native.Nat.{ℕ, _+_, _*_}
@@ -9,7 +10,7 @@ use Rattle.day_words.proofs.rest_of.Tie as tie
 use Rattle.day_words.proofs.four_at.Reads as four-at-reads
 
 returns : tie.Need-returns
-returns c = (λ h. absurd (omega (arith, h, c .if1 .taken)), omega arith)
+returns c = no-year _ _ (c .if1 .taken)
 
 mul-four-at : tie.Need-mul-four-at
 mul-four-at c = search needs
@@ -26,7 +27,7 @@ returns-2 c =
     let b = start .args .maps .now in
     let at = 46 * start .args .k + 42 in
     let e : 8 * at ≡ 368 * start .args .k + 336 = omega arith in
-    (λ h p q. rw (c .four-at .ensures .0) (bytes-show b at 4 p q ∙ ap (λ (s : ℕ). bitAt b (s + p)) e), omega arith)
+    rest-is b (start .args .k) _ (omega arith) (omega arith) (λ p q. rw (c .four-at .ensures .0) (bytes-show b at 4 p q ∙ ap (λ (s : ℕ). bitAt b (s + p)) e))
 
 pub rest-of-spec : {M : Type 1} → statement M
 rest-of-spec = tie.close (tie.spec returns mul-four-at add-four-at four-at-requires returns-2)

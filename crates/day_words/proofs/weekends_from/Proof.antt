@@ -1,9 +1,7 @@
-use Rattle.day_words.proofs.Words.{weekend-is}
-use Rattle.day_words.specs.Words.{weekendDay}
-use Rattle.questions.proofs.Search.{every-at}
+use Rattle.day_words.specs.Words.{dayWord, weekendsFrom}
 use Rattle.days.specs.Gregorian.{weekdayOf}
-use mathlib.Core.Path.{_≡_, _∙_, ap}
-use mathlib.Core.Bool.{not}
+use mathlib.Core.Path.{_≡_, _∙_, ap, fun-ext}
+use mathlib.Core.Bool.{Bool, not}
 use lib.Dec.{ltb}
 use Prim.Native.Nat.{ℕ, _+_, _%_}
 use native.Mathlib.Omega.{arith}
@@ -20,10 +18,12 @@ weekends-on-requires : tie.Need-weekends-on-requires
 weekends-on-requires c κs = omega (arith, c .weekday .ensures)
 
 returns : tie.Need-returns
-returns c = λ p h.
+unfolding weekendsFrom
+returns c =
     let v = c .before .weekday .result in
-    let e : (v + p) % 7 ≡ weekdayOf (c .before .before .args .day + p) = omega (arith, c .before .weekday .ensures) in
-    weekend-is v (c .weekends-on .result) p (every-at (weekendDay v (c .weekends-on .result)) 64 p (c .weekends-on .ensures) h) ∙ ap (λ (n : ℕ). not (ltb n 5)) e
+    let day = c .before .before .args .day in
+    let e : (p : ℕ) → (v + p) % 7 ≡ weekdayOf (day + p) = λ p. omega (arith, c .before .weekday .ensures) in
+    c .weekends-on .ensures ∙ ap (dayWord 64) (fun-ext (λ p. ap (λ (n : ℕ). not (ltb n 5)) (e p)))
 
 pub weekends-from-spec : {M : Type 1} → statement M
 weekends-from-spec = tie.close (tie.spec weekday-requires weekends-on-requires returns)

@@ -1,40 +1,40 @@
 use mathlib.Core.Path.{_≡_, refl}
-use mathlib.Core.Bool.{true}
-use Rattle.day_words.specs.Words.{weekendDay}
-use Rattle.questions.specs.Search.{every}
-use borrow.Author.Needs.{needs}
+use mathlib.Core.Bool.{not}
+use Prim.Native.Nat.{_+_, _%_}
+use lib.Dec.{ltb}
+use Rattle.day_words.specs.Words.{dayWord}
 use native.Mathlib.Omega.{arith}
 use Rattle.day_words.proofs.weekends_on.Statement.{statement}
 use Rattle.day_words.proofs.weekends_on.Tie as tie
 
 -- the last mask begins with a Sunday
-last-mask : every 64 (weekendDay 6 0x83060C183060C183) ≡ true
-unfolding every
+last-mask : 0x83060C183060C183 ≡ dayWord 64 (λ p. not (ltb ((6 + p) % 7) 5))
+unfolding dayWord
 last-mask = refl
 
 returns : tie.Need-returns
-unfolding every
-returns c = search needs
+unfolding dayWord
+returns c = rw (c .match .keys1)
 
 returns-2 : tie.Need-returns-2
-unfolding every
-returns-2 c = search needs
+unfolding dayWord
+returns-2 c = rw (c .match .keys2)
 
 returns-3 : tie.Need-returns-3
-unfolding every
-returns-3 c = search needs
+unfolding dayWord
+returns-3 c = rw (c .match .keys3)
 
 returns-4 : tie.Need-returns-4
-unfolding every
-returns-4 c = search needs
+unfolding dayWord
+returns-4 c = rw (c .match .keys4)
 
 returns-5 : tie.Need-returns-5
-unfolding every
-returns-5 c = search needs
+unfolding dayWord
+returns-5 c = rw (c .match .keys5)
 
 returns-6 : tie.Need-returns-6
-unfolding every
-returns-6 c = search needs
+unfolding dayWord
+returns-6 c = rw (c .match .keys6)
 
 returns-7 : tie.Need-returns-7
 returns-7 c = let e : c .before .args .weekday ≡ 6 = omega (arith, c .before .pre) in rw e last-mask

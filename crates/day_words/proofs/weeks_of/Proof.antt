@@ -1,6 +1,8 @@
 use Rattle.day_words.proofs.Words.{bytes-show}
+use Rattle.day_words.proofs.Equations.{no-weeks, weeks-is}
 use Rattle.calendar.specs.Bits.{bitAt}
 use mathlib.Core.Path.{_≡_, _∙_, ap}
+use mathlib.Core.Logic.{inl, inr}
 use Prim.Native.Nat.{ℕ, _+_, _*_}
 use native.Mathlib.Omega.{arith}
 use borrow.Author.Needs.{needs}
@@ -9,10 +11,10 @@ use Rattle.day_words.proofs.weeks_of.Tie as tie
 use Rattle.day_words.proofs.seven_at.Reads as seven-at-reads
 
 returns : tie.Need-returns
-returns c = (λ h. absurd (omega (arith, h, c .if1 .taken)), omega arith)
+returns c = no-weeks _ _ _ (inl (c .if1 .taken))
 
 returns-2 : tie.Need-returns-2
-returns-2 c = (λ h l. absurd (omega (arith, l, c .if2 .taken)), omega arith)
+returns-2 c = no-weeks _ _ _ (inr (c .if2 .taken))
 
 mul-seven-at : tie.Need-mul-seven-at
 mul-seven-at c = search needs
@@ -32,7 +34,7 @@ returns-3 c =
     let b = start .args .maps .now in
     let at = 46 * start .args .k + 7 * start .args .j in
     let e : 8 * at ≡ 368 * start .args .k + 56 * start .args .j = omega arith in
-    (λ h l p q. rw (c .seven-at .ensures .0) (bytes-show b at 7 p q ∙ ap (λ (s : ℕ). bitAt b (s + p)) e), omega arith)
+    weeks-is b (start .args .k) (start .args .j) _ (omega arith) (omega arith) (omega arith) (λ p q. rw (c .seven-at .ensures .0) (bytes-show b at 7 p q ∙ ap (λ (s : ℕ). bitAt b (s + p)) e))
 
 pub weeks-of-spec : {M : Type 1} → statement M
 weeks-of-spec =
