@@ -6,7 +6,6 @@ use Prim.Native.Nat.{ℕ}
 use borrow.Author.Tests.{eq-eqb, ne-eqb}
 use Rattle.product.specs.Fields.{kindOf, kindRight}
 use Rattle.product.specs.declared.Product.{Product}
-use Rattle.master.specs.Products.{kindOr}
 use Rattle.opening.specs.Opening.{zeroProduct}
 use Rattle.table.specs.declared.Outcome.{Outcome}
 use Rattle.measures.specs.declared.Measured.{Measured}
@@ -37,6 +36,6 @@ module _ (p : FlatProduct) where
   product-no wrong = rw wrong refl
 
   pub product-yes : kindRight (p .kind) ≡ true
-      → record { id = p .id; group = p .group; market = p .market; kind = kindOr (kindOf (p .kind)); size = p .size; tick = p .tick; currency = p .currency } ≡ unflatProduct p
+      → record { id = p .id; group = p .group; market = p .market; kind = kindOf (p .kind); size = p .size; tick = p .tick; currency = p .currency } ≡ unflatProduct p
   unfolding unflatProduct
   product-yes right = rw right refl

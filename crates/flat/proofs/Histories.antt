@@ -15,7 +15,8 @@ use Rattle.flat.specs.declared.FlatMeasured.{FlatMeasured}
 use Rattle.flat.specs.Flat.{unflatTable, flatTable, flatOutcome, flatMeasured, outcomeOn, measuredOn}
 use Rattle.flat.specs.AsItCame.{tableAfter, CallsOwn}
 use Rattle.flat.specs.Histories.{outcomeReply, measuredReply, answerOn, flatRun, flatReplies, FlatHistory}
-use Rattle.flat.proofs.Undo.{kind-right, undo}
+use Rattle.product.proofs.KindNumbers.{kind-right}
+use Rattle.flat.proofs.Undo.{undo}
 use Rattle.flat.proofs.AsItCame.{on-flat}
 
 module _ (t : Table) where

@@ -9,7 +9,6 @@ use Rattle.questions.specs.Questions.{Answer}
 use Rattle.days.specs.declared.Date.{Date}
 use Rattle.product.specs.Fields.{kindOf, kindNumber, kindRight}
 use Rattle.product.specs.declared.Product.{Product}
-use Rattle.master.specs.Products.{kindOr}
 use Rattle.opening.specs.Opening.{zeroProduct}
 use Rattle.writing.specs.Writing.{sizedBytes, recordBytes}
 use Rattle.table.specs.declared.Table.{Table}
@@ -31,7 +30,7 @@ unflatProduct p =
       id = p .id;
       group = p .group;
       market = p .market;
-      kind = kindOr (kindOf (p .kind));
+      kind = kindOf (p .kind);
       size = p .size;
       tick = p .tick;
       currency = p .currency;

@@ -6,11 +6,6 @@ use mathlib.Core.List.{List}
 use lib.ListN.{getD}
 use lib.Dec.{eqb}
 use Rattle.product.specs.Fields.{kindOf}
-use Rattle.product.specs.declared.Kind.{Kind}
-use Rattle.product.specs.declared.Kind.the-variants.{Future}
-use Rattle.product.specs.declared.Text.the-variants.{Of2008}
-use Rattle.product.specs.declared.KindAnswer.{KindAnswer}
-use Rattle.product.specs.declared.KindAnswer.the-variants.{Is, NotAKind}
 use Rattle.product.specs.declared.Product.{Product}
 use Rattle.blocks.specs.Blocks.{blockOf, numberAt}
 use Rattle.records.specs.Records.{recordOf, threeBytes, fourBytes, sizeAt}
@@ -19,11 +14,6 @@ use Rattle.records.specs.Records.{recordOf, threeBytes, fourBytes, sizeAt}
 unfoldable pub sameId : List ℕ → List ℕ → Bool
 sameId a b = eqb (getD a 0 0) (getD b 0 0) && eqb (getD a 1 0) (getD b 1 0) && eqb (getD a 2 0) (getD b 2 0) && eqb (getD a 3 0) (getD b 3 0)
 
--- a kind that was looked up by its number; a future where the number is no kind, which 7 refuses
-abbrev pub kindOr : KindAnswer → Kind
-kindOr (Is kind) = kind
-kindOr NotAKind = Future Of2008
-
 -- the product that a record's bytes say
 unfoldable pub productFrom : List ℕ → Product
 productFrom r =
@@ -31,7 +21,7 @@ productFrom r =
       id = fourBytes r 0;
       group = fourBytes r 4;
       market = fourBytes r 8;
-      kind = kindOr (kindOf (getD r 12 0));
+      kind = kindOf (getD r 12 0);
       size = sizeAt r;
       tick = numberAt r 15;
       currency = threeBytes r 17;

@@ -10,7 +10,8 @@ ghost use mathlib.Core.Bool.{true};
 ghost use Prim.Native.Nat.{_+_, _*_, _≤_, _<_};
 ghost use Rattle.blocks.specs.Blocks.{blockCount};
 ghost use Rattle.years.specs.Calendars.{orderRight, calendarOf, calendarAnswer, calendarsClean};
-ghost use Rattle.master.specs.Products.{sameId, kindOr, productFrom, productAt};
+ghost use Rattle.product.specs.Fields.{kindAnswer};
+ghost use Rattle.master.specs.Products.{sameId, productFrom, productAt};
 ghost use Rattle.master.specs.Load.{judgeCall, loadCall, loadAnswer, hasId, placeFrom, placeOf, foundAt, findCall, findAnswer};
 
 // The counts of years and of records.
@@ -111,9 +112,9 @@ pub fn load(file: &[u8]) -> Loaded
     }
 }
 
-// The kind that was looked up; a future where there is none.
+// The kind that was looked up; the kind of number 0 where there is none.
 pub fn kind_or_future(answer: KindAnswer) -> Kind
-    ensures { λ r. ⌜ r ≡ kindOr answer ⌝ }
+    ensures { λ r. ⌜ r ≡ kindAnswer answer .value ⌝ }
 {
     match answer {
         KindAnswer::Is(kind) => kind,

@@ -1,53 +1,55 @@
 -- A kind and its number undo each other; the first digit of a group, by the number.
 -- Assumes nothing.
-use mathlib.Core.Path.{_≡_, refl, ap, _∙_}
+use mathlib.Core.Path.{_≡_, refl, sym, ap, _∙_}
 use mathlib.Core.Bool.{Bool, true, false, _||_, cond}
+use mathlib.Core.List.{[]}
 use Prim.Native.Nat.{ℕ, zero, suc, _<_}
 use native.Mathlib.Omega.{arith}
 use lib.Dec.{eqb}
 use borrow.Author.Tests.{ne-eqb, leb-true, leb-false}
-use Rattle.product.specs.Fields.{kindNumber, kindOf, isFuture, firstDigit, kindRight, fieldsRight, productRight}
+use Rattle.questions.specs.Questions.{Answer}
+use Rattle.questions.proofs.Asks.{no-asks, first-yes, first-no, accepted, refused}
+use Rattle.product.specs.Fields.{kindNumber, kindOf, kindRight, kindAsks, kindCall, kindAnswer, isFuture, firstDigit, fieldsRight, productRight}
 use Rattle.product.specs.declared.Text.the-variants.{Of2008, Of2005}
 use Rattle.product.specs.declared.Term.the-variants.{Months12, Months24, Months60, Weeks5}
 use Rattle.product.specs.declared.Kind.{Kind}
 use Rattle.product.specs.declared.Kind.the-variants.{Future, Option}
 use Rattle.product.specs.declared.Product.{Product}
+use Rattle.product.specs.declared.KindAnswer.{KindAnswer}
 use Rattle.product.specs.declared.KindAnswer.the-variants.{Is, NotAKind}
 
-pub kind-of-number : (kind : Kind) → kindOf (kindNumber kind) ≡ Is kind
+pub kind-right : (kind : Kind) → kindRight (kindNumber kind) ≡ true
+kind-right (Future Of2008) = refl
+kind-right (Future Of2005) = refl
+kind-right (Option Months12) = refl
+kind-right (Option Months24) = refl
+kind-right (Option Months60) = refl
+kind-right (Option Weeks5) = refl
+
+pub kind-back : (kind : Kind) → kindOf (kindNumber kind) ≡ kind
 unfolding kindOf
-kind-of-number (Future Of2008) = refl
-kind-of-number (Future Of2005) = refl
-kind-of-number (Option Months12) = refl
-kind-of-number (Option Months24) = refl
-kind-of-number (Option Months60) = refl
-kind-of-number (Option Weeks5) = refl
+kind-back (Future Of2008) = refl
+kind-back (Future Of2005) = refl
+kind-back (Option Months12) = refl
+kind-back (Option Months24) = refl
+kind-back (Option Months60) = refl
+kind-back (Option Weeks5) = refl
 
--- a number's kind
-pub record KindOf (number : ℕ) : Type 0 where
-  pub kind : Kind
-  pub found : kindOf number ≡ Is kind
-  pub has-number : kindNumber kind ≡ number
-
-numbered : (kind : Kind) → KindOf (kindNumber kind)
-numbered kind = record { kind = kind; found = kind-of-number kind; has-number = refl }
-
--- each number from 0 to 5 has a kind, and no other
-pub kind-found : (number : ℕ) → kindRight number ≡ true → KindOf number
-kind-found zero right = numbered (Future Of2008)
-kind-found (suc zero) right = numbered (Option Months12)
-kind-found (suc (suc zero)) right = numbered (Option Months24)
-kind-found (suc (suc (suc zero))) right = numbered (Option Months60)
-kind-found (suc (suc (suc (suc zero)))) right = numbered (Future Of2005)
-kind-found (suc (suc (suc (suc (suc zero))))) right = numbered (Option Weeks5)
-kind-found (suc (suc (suc (suc (suc (suc n)))))) right = absurd (omega (arith, leb-true (suc (suc (suc (suc (suc (suc n)))))) 5 right))
-
-pub kind-missing : (number : ℕ) → kindRight number ≡ false → kindOf number ≡ NotAKind
+pub number-back : (number : ℕ) → kindRight number ≡ true → kindNumber (kindOf number) ≡ number
 unfolding kindOf
-kind-missing number wrong =
+number-back zero right = refl
+number-back (suc zero) right = refl
+number-back (suc (suc zero)) right = refl
+number-back (suc (suc (suc zero))) right = refl
+number-back (suc (suc (suc (suc zero)))) right = refl
+number-back (suc (suc (suc (suc (suc zero))))) right = refl
+number-back (suc (suc (suc (suc (suc (suc n)))))) right = absurd (omega (arith, leb-true (suc (suc (suc (suc (suc (suc n)))))) 5 right))
+
+kind-none : (number : ℕ) → kindRight number ≡ false → kindOf number ≡ Future Of2008
+unfolding kindOf
+kind-none number wrong =
     let h : 5 < number = leb-false number 5 wrong in
     rw (
-      ne-eqb number 0 (λ e. omega arith),
       ne-eqb number 1 (λ e. omega arith),
       ne-eqb number 2 (λ e. omega arith),
       ne-eqb number 3 (λ e. omega arith),
@@ -55,23 +57,42 @@ kind-missing number wrong =
       ne-eqb number 5 (λ e. omega arith),
     )
 
-pub number-of-kind : (number : ℕ) (kind : Kind) → kindOf number ≡ Is kind → kindNumber kind ≡ number
+-- the answer to a number: its kind from 0 to 5, else the refusal
+pub kind-found : (number : ℕ) → kindRight number ≡ true → kindCall number ≡ record { refusal = 0; value = kindOf number }
+unfolding kindCall
+kind-found number right = accepted (kindAsks number) (Future Of2008) (kindOf number) (first-yes 7 [] right ∙ no-asks)
+
+pub kind-missing : (number : ℕ) → kindRight number ≡ false → kindCall number ≡ kindAnswer NotAKind
+unfolding kindCall
+kind-missing number wrong = refused (kindAsks number) (Future Of2008) (kindOf number) 6 (first-no 7 [] wrong)
+
+pub kind-of-number : (kind : Kind) → kindCall (kindNumber kind) ≡ kindAnswer (Is kind)
+kind-of-number kind = kind-found (kindNumber kind) (kind-right kind) ∙ rw (kind-back kind)
+
+pub number-of-kind : (number : ℕ) (kind : Kind) → kindCall number ≡ kindAnswer (Is kind) → kindNumber kind ≡ number
 number-of-kind number kind e = go (kindRight number) refl
   where
     go : (b : Bool) → kindRight number ≡ b → kindNumber kind ≡ number
     go true right =
-        let f = kind-found number right in
-        let same : kind ≡ f .kind = cc in
-        ap kindNumber same ∙ f .has-number
+        let same : kindOf number ≡ kind = ap (λ (a : Answer Kind). a .value) (sym (kind-found number right) ∙ e) in
+        rw same at (number-back number right)
     go false wrong =
-        let z : _≡_ {A = ℕ} 0 1 = cc (kind-missing number wrong) in
+        let z : _≡_ {A = ℕ} 7 0 = ap (λ (a : Answer Kind). a .refusal) (sym (kind-missing number wrong) ∙ e) in
         absurd (omega arith)
 
+-- the value of an answer is the kind of the number, a right one or not
+pub kind-value : (a : KindAnswer) (number : ℕ) → kindAnswer a ≡ kindCall number → kindAnswer a .value ≡ kindOf number
+kind-value a number e = go (kindRight number) refl
+  where
+    go : (b : Bool) → kindRight number ≡ b → kindAnswer a .value ≡ kindOf number
+    go true right = ap (λ (x : Answer Kind). x .value) (e ∙ kind-found number right)
+    go false wrong = ap (λ (x : Answer Kind). x .value) (e ∙ kind-missing number wrong) ∙ sym (kind-none number wrong)
+
 -- a product whose kind was read from a number is right where the fields with that number are
-pub product-read : (number : ℕ) (p : Product) → kindOf number ≡ Is (p .kind)
+pub product-read : (number : ℕ) (p : Product) → kindNumber (p .kind) ≡ number
     → productRight p ≡ fieldsRight (p .id) (p .group) (p .market) number (p .size) (p .tick) (p .currency)
 unfolding productRight
-product-read number p e = rw (number-of-kind number (p .kind) e)
+product-read number p e = rw e
 
 -- 'the first digit 0 for futures and 1 for options': kinds 0 and 4 are futures
 pub future-digit : (kind : ℕ) → (eqb kind 0 || eqb kind 4) ≡ true → 48 ≡ firstDigit kind

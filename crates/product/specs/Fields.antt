@@ -5,6 +5,7 @@ use mathlib.Core.Bool.{Bool, true, false, _&&_, _||_, cond}
 use mathlib.Core.List.{List, [], _∷_}
 use lib.ListN.{length, getD}
 use lib.Dec.{eqb, leb, ltb}
+use Rattle.questions.specs.Questions.{Ask, ask, Answer, answer}
 use Rattle.questions.specs.Search.{every, oneOf}
 use Rattle.product.specs.declared.Text.{Text}
 use Rattle.product.specs.declared.Text.the-variants.{Of2008, Of2005}
@@ -33,15 +34,31 @@ abbrev pub kindNumber : Kind → ℕ
 kindNumber (Future text) = textNumber text
 kindNumber (Option term) = termNumber term
 
--- the kind with a number, where there is one: '0 future', '1 option, 12 months', '2 option, 24 months', '3 option, 60 months'; 'kind 4, a future of 2005' (02, note 1); weekly tables 'under kind 5' (02, note 3)
-unfoldable pub kindOf : ℕ → KindAnswer
+-- the kind with a number: '0 future', '1 option, 12 months', '2 option, 24 months', '3 option, 60 months'; 'kind 4, a future of 2005' (02, note 1); weekly tables 'under kind 5' (02, note 3); for any other number, which 7 refuses, the kind of number 0
+unfoldable pub kindOf : ℕ → Kind
 kindOf number =
-    cond (eqb number 0) (Is (Future Of2008))
-    (cond (eqb number 1) (Is (Option Months12))
-    (cond (eqb number 2) (Is (Option Months24))
-    (cond (eqb number 3) (Is (Option Months60))
-    (cond (eqb number 4) (Is (Future Of2005))
-    (cond (eqb number 5) (Is (Option Weeks5)) NotAKind)))))
+    cond (eqb number 1) (Option Months12)
+    (cond (eqb number 2) (Option Months24)
+    (cond (eqb number 3) (Option Months60)
+    (cond (eqb number 4) (Future Of2005)
+    (cond (eqb number 5) (Option Weeks5) (Future Of2008)))))
+
+-- 'kind 0–3'; 'question 7 now admits 4' (02, note 1), 'question 7 now admits 5' (02, note 3)
+abbrev pub kindRight : ℕ → Bool
+kindRight kind = leb kind 5
+
+-- 7, of a kind's number alone
+abbrev pub kindAsks : ℕ → List Ask
+kindAsks number = ask 7 (kindRight number) ∷ []
+
+-- the kind with a number, where there is one; with a refusal the kind of number 0, a zero value
+unfoldable pub kindCall : ℕ → Answer Kind
+kindCall number = answer (kindAsks number) (Future Of2008) (kindOf number)
+
+-- the number and the value that each case of the answer stands for
+abbrev pub kindAnswer : KindAnswer → Answer Kind
+kindAnswer (Is kind) = record { refusal = 0; value = kind }
+kindAnswer NotAKind = record { refusal = 7; value = Future Of2008 }
 
 -- 21 'Is it a future?'; of either text: 'The due day, cash .. of kind 4 are those of a future' (02, note 1)
 abbrev pub isFuture : Kind → Bool
@@ -97,10 +114,6 @@ groupRight group kind =
 -- 'cash market, four letters A–Z'
 unfoldable pub marketRight : List ℕ → Bool
 marketRight market = every 4 (λ i. letter (getD market i 0))
-
--- 'kind 0–3'; 'question 7 now admits 4' (02, note 1), 'question 7 now admits 5' (02, note 3)
-abbrev pub kindRight : ℕ → Bool
-kindRight kind = leb kind 5
 
 -- 'a table's size may fall as low as one ten-thousandth', and reaches 65,535.9999 shares (02, note 11); in ten-thousandths of a share
 abbrev pub sizeRight : ℕ → Bool

@@ -2,7 +2,7 @@
 ghost use mathlib.Core.Path.{_≡_};
 ghost use mathlib.Core.List.{[], _∷_};
 ghost use Prim.Native.Nat.{_+_, _*_, _<_};
-ghost use Rattle.product.specs.Fields.{kindNumber, kindOf, isFuture, isWeekly, letter, digit, idCharacter, idByte, idOf, idRight, firstDigit, groupRight, marketRight, kindRight, sizeRight, fileSizeRight, tickRight, isCode, currencyRight, fieldsRight, productRight};
+ghost use Rattle.product.specs.Fields.{kindNumber, kindCall, kindAnswer, isFuture, isWeekly, letter, digit, idCharacter, idByte, idOf, idRight, firstDigit, groupRight, marketRight, kindRight, sizeRight, fileSizeRight, tickRight, isCode, currencyRight, fieldsRight, productRight};
 ghost use Rattle.product.specs.Settlement.{italian, groupNumber, optionDays, settlementDays};
 
 // The country codes that days to settlement tell apart: two bytes as one number.
@@ -34,7 +34,7 @@ pub enum Kind {
     Option(Term),
 }
 
-// What a number says of a kind.
+// The kind with a number, or the refusal 7.
 pub enum KindAnswer {
     Is(Kind),
     NotAKind,
@@ -71,7 +71,7 @@ pub fn kind_number(kind: Kind) -> u8
 
 // The kind with a number, where there is one.
 pub fn kind_of(number: u8) -> KindAnswer
-    ensures { λ r. ⌜ r ≡ kindOf number ⌝ }
+    ensures { λ r. ⌜ kindAnswer r ≡ kindCall number ⌝ }
 {
     match number {
         0 => KindAnswer::Is(Kind::Future(Text::Of2008)),

@@ -14,7 +14,7 @@ use borrow.Author.Tests.{le-leb, lt-leb}
 use Rattle.questions.proofs.Bools.{lt-or-ge}
 use Rattle.product.specs.Fields.{kindNumber, kindRight, fileSizeRight, fieldsRight, productRight}
 use Rattle.product.specs.declared.Product.{Product}
-use Rattle.product.proofs.KindNumbers.{kind-of-number}
+use Rattle.product.proofs.KindNumbers.{kind-back, number-back}
 use Rattle.product.proofs.RightFields.{kind-of-fields}
 use Rattle.blocks.specs.Blocks.{numberAt, zeros}
 use Rattle.records.specs.Records.{threeBytes, fourBytes, sizeAt, recordRight}
@@ -22,7 +22,6 @@ use Rattle.records.proofs.Parts.{RecordParts, record-parts}
 use Rattle.years.specs.Calendars.{listed}
 use Rattle.years.proofs.Filling.{listed-length, listed-at}
 use Rattle.master.specs.Products.{productFrom}
-use Rattle.master.proofs.Accepting.{kind-again}
 use Rattle.writing.specs.Writing.{fieldBytes, sharesOf, recordBytes}
 use Rattle.writing.specs.Theorems.{areBytes, RecordOf}
 use Rattle.writing.proofs.Bytes.{byte-below, zero-at}
@@ -139,7 +138,7 @@ module _ (p : Product) where
           group-is ∙ four-is (p .group) group,
           market-is ∙ four-is (p .market) market,
           kind-is,
-          kind-of-number (p .kind),
+          kind-back (p .kind),
           size-is h,
           tick-is,
           currency-is ∙ three-is (p .currency) currency,
@@ -219,4 +218,4 @@ module _ (r : List ℕ) (long : length r ≡ 32) (bytes : areBytes r ≡ true) (
   pub record-again : recordBytes (productFrom r) ≡ r
   unfolding recordBytes fieldBytes productFrom fourBytes threeBytes listed
   record-again =
-      rw (kind-again (getD r 12 0) kind-right, shares-again, part-again, high-again 13, low-again 13, high-again 15, low-again 15, high-again 20, low-again 20) (ap₂ _++_ (sym front) (sym back) ∙ take-append-drop 22 r)
+      rw (number-back (getD r 12 0) kind-right, shares-again, part-again, high-again 13, low-again 13, high-again 15, low-again 15, high-again 20, low-again 20) (ap₂ _++_ (sym front) (sym back) ∙ take-append-drop 22 r)
