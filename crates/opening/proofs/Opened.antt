@@ -20,7 +20,7 @@ use Rattle.master.specs.declared.Found.{Found}
 use Rattle.master.specs.declared.Found.the-variants.{At, Nothing}
 use Rattle.master.specs.declared.Place.{Place}
 use Rattle.master.proofs.Answers.{judge-accepted}
-use Rattle.opening.specs.Opening.{openAsks, refusedOpening, openingOf, asksIn, openingIn}
+use Rattle.opening.specs.Opening.{openingAsks, openAsks, refusedOpening, openingOf, asksIn, openingIn}
 
 -- of two lists of questions, one after the other
 append-no : (qs rs : List Ask) (n : ℕ) → firstNo qs ≡ suc n → firstNo (qs ++ rs) ≡ suc n
@@ -117,7 +117,7 @@ module _ (verdict : Answer Calendar) (f id : List ℕ) (date : ℕ) where
 
 -- the questions after load's
 module _ (f id : List ℕ) (date : ℕ) where
-  rest-is : firstNo (loadAsks f) ≡ 0 → firstNo (openAsks f id date) ≡ firstNo (ask 9 (found f id) ∷ ask 11 (inCover (calendarOf f .cover) date) ∷ ask 24 (weekIntoCover (productOf f id .kind) (calendarOf f .cover) date) ∷ ask 16 (allInCover (calendarOf f) (productOf f id .kind) (productOf f id .group) date) ∷ [])
+  rest-is : firstNo (loadAsks f) ≡ 0 → firstNo (openAsks f id date) ≡ firstNo (openingAsks f id date)
   unfolding openAsks
   rest-is a = append-yes (loadAsks f) _ (load-numbers f) a
 

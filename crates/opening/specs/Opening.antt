@@ -30,15 +30,18 @@ zeroProduct =
       currency = replicate 3 0;
     }
 
--- 'Open: 1–9, 11, 16'; '24, after 11, in opening kind 5' (02, note 3)
-unfoldable pub openAsks : List ℕ → List ℕ → ℕ → List Ask
-openAsks f id date =
-    loadAsks f
-    ++ (ask 9 (found f id)
+-- what open asks after the questions of load: '9, 11, 16'; '24, after 11, in opening kind 5' (02, note 3)
+abbrev pub openingAsks : List ℕ → List ℕ → ℕ → List Ask
+openingAsks f id date =
+    ask 9 (found f id)
     ∷ ask 11 (inCover (calendarOf f .cover) date)
     ∷ ask 24 (weekIntoCover (productOf f id .kind) (calendarOf f .cover) date)
     ∷ ask 16 (allInCover (calendarOf f) (productOf f id .kind) (productOf f id .group) date)
-    ∷ [])
+    ∷ []
+
+-- 'Open: 1–9, 11, 16', where 1–8 are those of load
+unfoldable pub openAsks : List ℕ → List ℕ → ℕ → List Ask
+openAsks f id date = loadAsks f ++ openingAsks f id date
 
 -- with a refusal: its number, and zeros
 abbrev pub refusedOpening : ℕ → Opening
