@@ -6,14 +6,13 @@ use mathlib.Core.List.{List}
 use Prim.Native.Nat.{ℕ, zero, suc, _+_, _-_, _≤_, _<_}
 use native.Mathlib.Omega.{arith}
 use Rattle.questions.specs.Search.{latest}
-use Rattle.questions.proofs.Search.{latest-here, latest-back, latest-zero, latest-le}
+use Rattle.questions.proofs.Search.{latest-here, latest-back, latest-zero}
 use Rattle.calendar.specs.declared.Calendar.{Calendar}
 use Rattle.calendar.specs.Trading.{tradingDay}
 use Rattle.product.specs.declared.Kind.{Kind}
 use Rattle.product.specs.Settlement.{italian}
 use Rattle.expiry.specs.declared.LastDay.{LastDay}
-use Rattle.expiry.specs.LastDays.{thirdFriday, monthAnchor, anchorOf, lastDay, lastTradingDay, steppedTo, workedOut}
-use Rattle.expiry.proofs.Fridays.{last-is}
+use Rattle.expiry.specs.LastDays.{thirdFriday, monthAnchor, lastDay, lastTradingDay, steppedTo, workedOut}
 
 -- the state of the loop: the day looked for is the latest trading day before the day, and the steps made lead from the anchor to the day
 pub record Stepping (f : ℕ → Bool) (anchor day back : ℕ) : Type 0 where
@@ -63,11 +62,6 @@ module _ (cal : Calendar) (anchor : ℕ) where
 pub exception : (group : List ℕ) (month friday anchor : ℕ) → friday ≡ thirdFriday month → anchor ≡ cond (italian group) (friday - 1) friday → anchor ≡ monthAnchor group month
 unfolding monthAnchor
 exception group month friday anchor e q = q ∙ rw e
-
--- 'equal to anchor − day': the day and the days stepped back make up the anchor
-pub day-and-back : (cal : Calendar) (kind : Kind) (group : List ℕ) (k : ℕ) → workedOut cal kind group k .day + workedOut cal kind group k .back ≡ anchorOf kind group k
-unfolding workedOut lastTradingDay
-day-and-back cal kind group k = omega (arith, last-is cal (anchorOf kind group k), latest-le (tradingDay cal) (anchorOf kind group k))
 
 -- the day of what is worked out
 pub worked-day : (cal : Calendar) (kind : Kind) (group : List ℕ) (k : ℕ) (l : LastDay) → l ≡ workedOut cal kind group k → l .day ≡ lastTradingDay cal kind group k

@@ -8,11 +8,9 @@ use lib.Dec.{eqb}
 use Rattle.questions.proofs.Bools.{clash, is-false}
 use Rattle.calendar.specs.declared.Calendar.{Calendar}
 use Rattle.calendar.specs.Bits.{bitAt}
-use Rattle.calendar.specs.Trading.{nthTradingDay}
 use Rattle.calendar.proofs.Closing.{close-exchange}
 use Rattle.calendar.proofs.Reopening.{exchange-bits}
 use Rattle.product.specs.declared.Product.{Product}
-use Rattle.product.specs.Settlement.{settlementDays}
 use Rattle.years.specs.Calendars.{calendarOf, oldFile}
 use Rattle.years.proofs.Years.{ordered, old-bits}
 use Rattle.master.specs.Load.{productOf}
@@ -20,10 +18,11 @@ use Rattle.master.proofs.Answers.{all-yes}
 use Rattle.table.specs.declared.Table.{Table}
 use Rattle.table.specs.Table.{openCall, openedTable}
 use Rattle.table.proofs.Opens.{accepted-from}
-use Rattle.values.specs.Values.{dueDay}
-use Rattle.values.proofs.Answers.{old-due}
+use Rattle.values.specs.Values.{ZeroSecond}
+use Rattle.values.proofs.Before.{old-due}
 use Rattle.history.specs.Book.{Call, roll, close, reopen, measure, Reply, calendarAfter}
 use Rattle.history.specs.History.{tableRun, tableReplies, calendarOfCalls, Demand3}
+use Rattle.history.specs.OldFiles.{OldFile}
 use Rattle.history.proofs.FromFile.{from-file}
 
 pub exchange-after : (cal : Calendar) (c : Call) (s : ℕ) → bitAt (calendarAfter cal c .exchange) s ≡ true → bitAt (cal .exchange) s ≡ true
@@ -47,18 +46,14 @@ module _ (p : Product) (cal : Calendar) (date : ℕ) (cs ds : List Call) (h : De
   pub exchange-stays : (s : ℕ) → bitAt (tableRun (openedTable p cal date) cs .calendar .exchange) s ≡ true → bitAt (cal .exchange) s ≡ true
   exchange-stays s t = exchange-of-calls cal cs (tableReplies (openedTable p cal date) cs) s (ap (λ (c : Calendar). bitAt (c .exchange) s) (sym (h .calendar-is)) ∙ t)
 
--- a table's due day is the one that counts trading days alone
-abbrev pub OldDueDay : Table → ℕ → Type 0
-OldDueDay t day = dueDay t day ≡ nthTradingDay (t .calendar) (settlementDays (t .product .kind) (t .product .group)) day
-
--- 'An old file, whose second map is zero, yields its old due days' (02, note 4): of every table opened from it, after any list of calls
+-- an old file: every table opened from it, after any list of calls
 module _ (f id : List ℕ) (date : ℕ) (e : openCall f id date .refusal ≡ 0) (old : oldFile f ≡ true) where
-  old-bits-stay : (cs : List Call) (s : ℕ) → bitAt (tableRun (openCall f id date .table) cs .calendar .exchange) s ≡ false
+  old-bits-stay : (cs : List Call) → ZeroSecond (tableRun (openCall f id date .table) cs)
   old-bits-stay cs s =
       let h = from-file f id date e cs [] in
       let o = ordered f (all-yes f (accepted-from f id date e .loaded) .yes4) in
       ap (λ (t : Table). bitAt (tableRun t cs .calendar .exchange) s) (h .opened) ∙
       is-false _ (λ t. clash (exchange-stays (productOf f id) (calendarOf f) date cs [] (h .demand) s t) (old-bits f o old s))
 
-  pub old-due-stays : (cs : List Call) (day : ℕ) → OldDueDay (tableRun (openCall f id date .table) cs) day
-  old-due-stays cs day = old-due (tableRun (openCall f id date .table) cs) (old-bits-stay cs) day
+  pub old-due-stays : OldFile f id date
+  old-due-stays = record { zero = old-bits-stay; days = λ cs. old-due (tableRun (openCall f id date .table) cs) .days (old-bits-stay cs) }

@@ -9,6 +9,7 @@ pub mod Fewer
 pub mod Monthly
 pub mod Weekly
 pub mod OfKinds
+pub mod SteppedBack
 pub mod Text2005
 pub mod Second
 pub mod Fronts

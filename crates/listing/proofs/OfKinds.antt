@@ -23,7 +23,7 @@ use Rattle.product.specs.declared.Kind.the-variants.{Future, Option}
 use Rattle.product.specs.declared.Text.the-variants.{Of2008, Of2005}
 use Rattle.product.specs.declared.Term.the-variants.{Months12, Months24, Months60, Weeks5}
 use Rattle.product.specs.Fields.{isWeekly}
-use Rattle.expiry.specs.LastDays.{thirdFriday, weeklyFriday, monthAnchor, keyOf, anchorOf, lastDay, lastTradingDay, workedOut}
+use Rattle.expiry.specs.LastDays.{thirdFriday, weeklyFriday, monthAnchor, keyOf, anchorOf, lastDay, lastTradingDay}
 use Rattle.expiry.proofs.Fridays.{last-is}
 use Rattle.expiry.proofs.Keys.{key-most}
 use Rattle.listing.specs.Rules.{widest, front, countFrom, keysBefore, freshKeys}
@@ -169,12 +169,6 @@ module _ (cal : Calendar) (kind : Kind) (group : List ℕ) (weeks : everyWeek ca
       → anchorOf kind group k ≤ lastTradingDay cal kind group k + 6
   unfolding lastTradingDay
   six-back k a b = near k a b
-
-  -- 'the number of days it stepped back from the anchor, 0 to 6' (02, note 2): of every month of a cover (`month-deep`), and of every key from a date on that passes 24 (`rule-deep`)
-  pub back-six : (k : ℕ) → coverStart (cal .cover) + 6 ≤ anchorOf kind group k → anchorOf kind group k < coverEnd (cal .cover)
-      → workedOut cal kind group k .back ≤ 6
-  unfolding workedOut
-  back-six k a b = omega (arith, six-back k a b)
 
   -- the last trading days of a listing rise strictly
   pub days-strict : validCover (cal .cover) ≡ true → (date : ℕ) → inCover (cal .cover) date ≡ true → weekIntoCover kind (cal .cover) date ≡ true

@@ -22,7 +22,7 @@ use Rattle.product.specs.declared.Text.the-variants.{Of2005}
 use Rattle.expiry.specs.LastDays.{keyOf, lastTradingDay}
 use Rattle.listing.specs.Rules.{Rule, front, countFrom, taken, freshKeys, complete}
 use Rattle.listing.specs.Months.{quarters, names2005, inSet, placesOf, coverRule, ruleOf, allInCover}
-use Rattle.listing.specs.Text2005.{nextMonths, of2005, front2005, months2005}
+use Rattle.listing.specs.Text2005.{nextMonths, of2005, front2005, months2005, SameMonths, Listed2005}
 use Rattle.listing.proofs.Walks.{bit}
 use Rattle.listing.proofs.Places.{taken-none, taken-here, taken-next}
 use Rattle.listing.proofs.Lawful.{Lawful, day-anchor}
@@ -249,8 +249,8 @@ module _ (e front : ℕ) where
       one-append four (april ++ (may ++ july)) m
       ∙ ap (λ (b : Bool). oneOf four m || b) (one-append april (may ++ july) m ∙ ap (λ (b : Bool). oneOf april m || b) (one-append may july m))
 
-  -- 'Show that this is the same as the next seven months of that set': the same months, in any cover
-  pub same-months : (m : ℕ) → oneOf (of2005 e front) m ≡ oneOf (nextMonths e 7 names2005 front) m
+  -- the same months, in any cover
+  same-months : (m : ℕ) → oneOf (of2005 e front) m ≡ oneOf (nextMonths e 7 names2005 front) m
   same-months m =
       let w = window e 12 front m in
       one-of-parts m
@@ -267,7 +267,7 @@ module _ (e front : ℕ) where
   length-parts = simp length-append
 
   -- and as many of them in the cover
-  pub as-many : length (of2005 e front) ≡ length (nextMonths e 7 names2005 front)
+  as-many : length (of2005 e front) ≡ length (nextMonths e 7 names2005 front)
   as-many =
       omega (
         arith,
@@ -307,7 +307,7 @@ module _ (cal : Calendar) (group : List ℕ) (date : ℕ) where
       none false e = refl
 
   -- the front of the rule is the front of the sentence
-  pub front-2005 : front r cal date ≡ front2005 cal group date
+  front-2005 : front r cal date ≡ front2005 cal group date
   unfolding front front2005 coverRule keyOf placesOf lastTradingDay
   front-2005 = go (lt-or-ge (monthOf (coverEnd (cal .cover))) (monthOf date))
     where
@@ -319,7 +319,7 @@ module _ (cal : Calendar) (group : List ℕ) (date : ℕ) where
       go (inr l) = skip test e e (monthOf date) l (λ k h. ended k h)
 
   -- the fresh listing of a future of 2005
-  abbrev pub keys2005 : List ℕ
+  abbrev keys2005 : List ℕ
   keys2005 = freshKeys r cal date
 
   next-seven : keys2005 ≡ nextMonths (monthOf (coverEnd (cal .cover))) 7 names2005 (front2005 cal group date)
@@ -327,14 +327,27 @@ module _ (cal : Calendar) (group : List ℕ) (date : ℕ) where
   next-seven = rw front-2005 refl
 
   -- its months are those of the sentence
-  pub listed-2005 : (m : ℕ) → oneOf (months2005 cal group date) m ≡ oneOf keys2005 m
+  listed-2005 : (m : ℕ) → oneOf (months2005 cal group date) m ≡ oneOf keys2005 m
   listed-2005 m = same-months _ _ m ∙ ap (λ (l : List ℕ). oneOf l m) (sym next-seven)
 
   -- it has as many
-  pub listed-as-many : length (months2005 cal group date) ≡ length keys2005
+  listed-as-many : length (months2005 cal group date) ≡ length keys2005
   listed-as-many = as-many _ _ ∙ sym (ap length next-seven)
 
   -- and 16 is answered yes where all seven of the sentence are in the cover
-  pub complete-2005 : allInCover cal (Future Of2005) group date ≡ eqb (length (months2005 cal group date)) 7
+  complete-2005 : allInCover cal (Future Of2005) group date ≡ eqb (length (months2005 cal group date)) 7
   unfolding complete coverRule placesOf
   complete-2005 = ap (λ (n : ℕ). eqb n 7) (sym listed-as-many)
+
+-- the two claims
+pub same : (beyond from : ℕ) → SameMonths beyond from
+same beyond from = record { each = same-months beyond from; as-many = as-many beyond from }
+
+pub listed : (cal : Calendar) (group : List ℕ) (date : ℕ) → Listed2005 cal group date
+listed cal group date =
+    record {
+      from = front-2005 cal group date;
+      each = listed-2005 cal group date;
+      as-many = listed-as-many cal group date;
+      all = complete-2005 cal group date;
+    }

@@ -1,19 +1,20 @@
 -- The listed months of a future of 2005 in the words of the request (02, note 1; 003).
 -- Assumes nothing.
 use Prim.Native.Nat.{ℕ}
+use mathlib.Core.Path.{_≡_}
 use mathlib.Core.Bool.{_&&_}
 use mathlib.Core.List.{List, [], _∷_, _++_}
-use lib.Dec.{leb}
-use lib.ListN.{replicate}
-use Rattle.questions.specs.Search.{firstFrom}
+use lib.Dec.{eqb, leb}
+use lib.ListN.{length, replicate}
+use Rattle.questions.specs.Search.{oneOf, firstFrom}
 use Rattle.days.specs.Dates.{monthOf}
 use Rattle.calendar.specs.declared.Calendar.{Calendar}
 use Rattle.calendar.specs.Trading.{coverEnd}
 use Rattle.product.specs.declared.Kind.the-variants.{Future}
 use Rattle.product.specs.declared.Text.the-variants.{Of2005}
 use Rattle.expiry.specs.LastDays.{lastTradingDay}
-use Rattle.listing.specs.Rules.{taken}
-use Rattle.listing.specs.Months.{quarters, names2005, inSet}
+use Rattle.listing.specs.Rules.{front, taken, freshKeys}
+use Rattle.listing.specs.Months.{quarters, names2005, inSet, ruleOf, allInCover}
 
 -- 'the next' so many months of some names, from a month on; those beyond the cover are left out
 abbrev pub nextMonths : ℕ → ℕ → List ℕ → ℕ → List ℕ
@@ -36,3 +37,18 @@ front2005 cal group date =
 -- the months of the sentence on a date, from that front
 abbrev pub months2005 : Calendar → List ℕ → ℕ → List ℕ
 months2005 cal group date = of2005 (monthOf (coverEnd (cal .cover))) (front2005 cal group date)
+
+-- 'Show that this is the same as the next seven months of that set': for every front and every end of the cover
+pub record SameMonths (beyond front : ℕ) : Type 0 where
+  pub each : (m : ℕ) → oneOf (of2005 beyond front) m ≡ oneOf (nextMonths beyond 7 names2005 front) m
+  -- and as many of them, so none stands twice
+  pub as-many : length (of2005 beyond front) ≡ length (nextMonths beyond 7 names2005 front)
+
+-- so the listed months of a future of 2005 are those of the sentence
+pub record Listed2005 (cal : Calendar) (group : List ℕ) (date : ℕ) : Type 0 where
+  -- 'All count from the front, the first month of those seven names whose last trading day is not before the date'
+  pub from : front (ruleOf cal (Future Of2005) group) cal date ≡ front2005 cal group date
+  pub each : (m : ℕ) → oneOf (months2005 cal group date) m ≡ oneOf (freshKeys (ruleOf cal (Future Of2005) group) cal date) m
+  pub as-many : length (months2005 cal group date) ≡ length (freshKeys (ruleOf cal (Future Of2005) group) cal date)
+  -- 16 is answered yes where all seven are in the cover
+  pub all : allInCover cal (Future Of2005) group date ≡ eqb (length (months2005 cal group date)) 7

@@ -1,9 +1,12 @@
 -- Calls that return days and leave the table as it is (01, Due day, tick, cash; Questions, in order; 02, notes 2 to 5).
 -- Assumes nothing.
 use Prim.Native.Nat.{ℕ}
+use mathlib.Core.Path.{_≡_}
+use mathlib.Core.Bool.{true, false}
 use mathlib.Core.List.{List, [], _∷_}
-use Rattle.questions.specs.Questions.{Ask, ask, Answer, answer}
-use Rattle.calendar.specs.Trading.{inCover, tradingDay, nthExchangeDay}
+use Rattle.questions.specs.Questions.{Ask, ask, firstNo, Answer, answer}
+use Rattle.calendar.specs.Bits.{bitAt}
+use Rattle.calendar.specs.Trading.{inCover, tradingDay, nthTradingDay, nthExchangeDay}
 use Rattle.product.specs.Settlement.{settlementDays}
 use Rattle.expiry.specs.declared.LastDay.{LastDay}
 use Rattle.expiry.specs.LastDays.{workedOut}
@@ -49,15 +52,38 @@ dueAsks t day =
     ∷ ask 17 (inCover (t .calendar .cover) (dueDay t day))
     ∷ []
 
--- 'Due: 10, 11, 14, 17' (01, Questions), what due asked before note 5, with the exchange days of note 4; only the theorems that compare due with what it answered before need it, as 'Days that were answered before keep their due day' (02, note 5); the due day was `dueDay` then too
-unfoldable pub dueAsksBefore : Table → ℕ → List Ask
-dueAsksBefore t day =
+-- 'Due: 10, 11, 14, 17' (01, Questions), what due asked before note 5, with the due day of that time; only the claims that compare due with what it answered before need it
+unfoldable pub dueAsksBefore : Table → ℕ → ℕ → List Ask
+dueAsksBefore t day due =
     ask 10 (sound t)
     ∷ ask 11 (inCover (t .calendar .cover) day)
     ∷ ask 14 (tradingDay (t .calendar) day)
-    ∷ ask 17 (inCover (t .calendar .cover) (dueDay t day))
+    ∷ ask 17 (inCover (t .calendar .cover) due)
     ∷ []
+
+-- 'Due day: the n-th trading day after a given trading day' (01, Due day, tick, cash), as it was before note 4
+unfoldable pub oldDueDay : Table → ℕ → ℕ
+oldDueDay t day = nthTradingDay (t .calendar) (settlementDays (t .product .kind) (t .product .group)) day
 
 -- the due day of a day of the cover; 'With it: .. other calls return zero values'
 unfoldable pub dueCall : Table → ℕ → Answer ℕ
 dueCall t day = answer (dueAsks t day) 0 (dueDay t day)
+
+-- 'whose second map is zero' (02, note 4), of a table
+abbrev pub ZeroSecond : Table → Type 0
+ZeroSecond t = (s : ℕ) → bitAt (t .calendar .exchange) s ≡ false
+
+-- 'An old file, whose second map is zero, yields its old due days' (02, note 4), of a table
+pub record OldDueDays (t : Table) : Type 0 where
+  pub days : ZeroSecond t → (day : ℕ) → dueDay t day ≡ oldDueDay t day
+  -- where due answered with that day, it still does
+  pub answers : ZeroSecond t → (day : ℕ) → firstNo (dueAsksBefore t day (oldDueDay t day)) ≡ 0 → dueCall t day ≡ record { refusal = 0; value = oldDueDay t day }
+
+-- what note 5 says of due, which counted the exchange days of note 4 before it too
+pub record DueKept (t : Table) (day : ℕ) : Type 0 where
+  -- 'Days that were answered before keep their due day'
+  pub kept : firstNo (dueAsksBefore t day (dueDay t day)) ≡ 0 → dueCall t day ≡ record { refusal = 0; value = dueDay t day }
+  -- a trading day keeps its refusal too
+  pub as-before : tradingDay (t .calendar) day ≡ true → dueCall t day ≡ answer (dueAsksBefore t day (dueDay t day)) 0 (dueDay t day)
+  -- 'and due no longer gives 14'
+  pub never-14 : dueCall t day .refusal ≡ 14 → ⊥
