@@ -4,7 +4,7 @@ use mathlib.Core.Path.{_≡_, refl, sym, ap, _∙_}
 use mathlib.Core.Bool.{Bool, true, false, and-false}
 use mathlib.Core.List.{List, _++_, append-nil, append-assoc}
 use mathlib.Core.Logic.{_⊎_, inl, inr}
-use Prim.Native.Nat.{ℕ, _+_, _-_, _≤_, _<_}
+use Prim.Native.Nat.{ℕ, zero, suc, _+_, _-_, _≤_, _<_}
 use native.Mathlib.Numerals.{add-one}
 use native.Mathlib.Omega.{arith}
 use lib.Dec.{leb, ltb}
@@ -17,7 +17,7 @@ use Rattle.lines.specs.declared.Line.{Line}
 use Rattle.lines.specs.Lines.{emptyLine, fed}
 use Rattle.lines.proofs.Feeding.{fed-holds, fed-is}
 use Rattle.contents.specs.declared.Progress.{Progress}
-use Rattle.contents.specs.Contents.{LineWith, lineText, lineCount, linesText, another, LinesIn}
+use Rattle.contents.specs.Contents.{LineWith, lineText, lineCount, linesText, another, printedFrom, LinesIn}
 use Rattle.contents.proofs.Lengths.{line-short}
 
 -- ---- whether there is another
@@ -58,13 +58,30 @@ module _ (cal : Calendar) (f : List ℕ) (n : ℕ) (l : Line) (made : LineWith e
   line-room : length (l .bytes) ≡ 64
   line-room = rw e (fed-holds (lineText cal f n) .room)
 
+  line-long : l .length ≡ length (lineText cal f n)
+  line-long = rw e (fed-is (lineText cal f n) (line-short cal f n) .0)
+
   pub line-fits : l .length ≤ 64
-  line-fits =
-      let c : l .length ≡ length (lineText cal f n) = rw e (fed-is (lineText cal f n) (line-short cal f n) .0) in
-      omega (arith, c, line-short cal f n)
+  line-fits = omega (arith, line-long, line-short cal f n)
 
   line-is : take (l .length) (l .bytes) ≡ lineText cal f n
   line-is = rw e (fed-is (lineText cal f n) (line-short cal f n) .1)
+
+-- ---- how far they come
+
+module _ (cal : Calendar) (f : List ℕ) (room n k : ℕ) where
+  far-on : (left : ℕ) → k + 64 ≤ room → printedFrom cal f room (suc left) n k ≡ printedFrom cal f room left (suc n) (k + length (lineText cal f n))
+  unfolding printedFrom
+  far-on left h = rw (le-leb (k + 64) room h) refl
+
+  far-full : (left : ℕ) → room < k + 64 → printedFrom cal f room left n k ≡ record { next = n; length = k }
+  unfolding printedFrom
+  far-full zero h = refl
+  far-full (suc left) h = rw (lt-leb (k + 64) room h) refl
+
+  far-last : (left : ℕ) → left ≡ 0 → printedFrom cal f room left n k ≡ record { next = n; length = k }
+  unfolding printedFrom
+  far-last left e = rw e refl
 
 -- ---- line by line
 
@@ -75,10 +92,11 @@ pub record Printing (cal : Calendar) (f : List ℕ) (from : ℕ) (before : List 
   pub long : length out ≡ length before
   pub on : ((next ≡ from) × (n ≡ 0)) ⊎ (from < next)
   pub within : from ≤ lineCount cal f → next ≤ lineCount cal f
+  pub far : printedFrom cal f (length before) (lineCount cal f - from) from 0 ≡ printedFrom cal f (length before) (lineCount cal f - next) next n
 
 module _ (cal : Calendar) (f : List ℕ) (from : ℕ) (before : List ℕ) where
   pub begins : Printing cal f from before from 0 before
-  begins = record { is = sym (append-nil (linesText cal f from)); fits = omega arith; unchanged = refl; long = refl; on = inl (refl, refl); within = λ h. h }
+  begins = record { is = sym (append-nil (linesText cal f from)); fits = omega arith; unchanged = refl; long = refl; on = inl (refl, refl); within = λ h. h; far = refl }
 
   module _ (next n : ℕ) (out : List ℕ) (g : Printing cal f from before next n out) (count : ℕ) (q : count ≡ lineCount cal f) {b : Bool} (s : b ≡ another next count out n) where
     pub goes : b ≡ true → (l : Line) → LineWith emptyLine (lineText cal f next) l → (r : ℕ) (after : List ℕ)
@@ -99,6 +117,12 @@ module _ (cal : Calendar) (f : List ℕ) (from : ℕ) (before : List ℕ) where
           long = len ∙ g .long;
           on = inr (later (g .on));
           within = λ h. omega (arith, m .0, q);
+          far =
+              let left : lineCount cal f - next ≡ suc (lineCount cal f - (next + 1)) = omega (arith, m .0, q) in
+              let more : n + length (lineText cal f next) ≡ r = omega (arith, p, line-long cal f next l e) in
+              g .far ∙ ap (λ (x : ℕ). printedFrom cal f (length before) x next n) left
+              ∙ far-on cal f (length before) next n (lineCount cal f - (next + 1)) (omega (arith, m .1, g .long))
+              ∙ rw (more, add-one next) refl;
         }
       where
         later : ((next ≡ from) × (n ≡ 0)) ⊎ (from < next) → from < next + 1
@@ -107,8 +131,22 @@ module _ (cal : Calendar) (f : List ℕ) (from : ℕ) (before : List ℕ) where
 
     pub ends : b ≡ false → LinesIn cal f from before out (record { next = next; length = n })
     ends t =
-        record { is = g .is; fits = g .fits; unchanged = g .unchanged; long = g .long; moves = λ h l. moved (g .on) h l; within = g .within }
+        record {
+          is = g .is;
+          far = sym (g .far ∙ stops (lt-or-ge next count) (lt-or-ge (length out) (n + 64)));
+          fits = g .fits;
+          unchanged = g .unchanged;
+          long = g .long;
+          moves = λ h l. moved (g .on) h l;
+          within = g .within;
+        }
       where
+        stops : (next < count) ⊎ (count ≤ next) → (length out < n + 64) ⊎ (n + 64 ≤ length out)
+            → printedFrom cal f (length before) (lineCount cal f - next) next n ≡ record { next = next; length = n }
+        stops (inr h) d = far-last cal f (length before) next n (lineCount cal f - next) (omega (arith, q, h))
+        stops (inl h) (inl d) = far-full cal f (length before) next n (lineCount cal f - next) (omega (arith, g .long, d))
+        stops (inl h) (inr d) = clash (s ∙ more next count out n h d) t
+
         moved : ((next ≡ from) × (n ≡ 0)) ⊎ (from < next) → 64 ≤ length before → from < lineCount cal f → from < next
         moved (inl d) h l = clash (s ∙ more next count out n (omega (arith, q, d .0)) (omega (arith, d .1, g .long))) t
         moved (inr d) h l = d

@@ -84,10 +84,18 @@ linesText cal f (suc n) = linesText cal f n ++ lineText cal f n
 unfoldable pub another : ℕ → ℕ → List ℕ → ℕ → Bool
 another n count out length′ = ltb n count && leb (length′ + 64) (length out)
 
+-- how far the lines from line n on come in a buffer of so many bytes, of which `length′` are written, with so many lines to come: as long as there is room for 64 bytes more
+unfoldable pub printedFrom : Calendar → List ℕ → ℕ → ℕ → ℕ → ℕ → Progress
+printedFrom cal f room zero n length′ = record { next = n; length = length′ }
+printedFrom cal f room (suc left) n length′ =
+    cond (leb (length′ + 64) room) (printedFrom cal f room left (suc n) (length′ + length (lineText cal f n))) (record { next = n; length = length′ })
+
 -- of a buffer before and after: the lines from one on stand at its start
 pub record LinesIn (cal : Calendar) (f : List ℕ) (from : ℕ) (before after : List ℕ) (r : Progress) : Type 0 where
   -- the lines before and what was written are all lines up to the next
   pub is : linesText cal f (r .next) ≡ linesText cal f from ++ take (r .length) after
+  -- they come as far as there is room
+  pub far : r ≡ printedFrom cal f (length before) (lineCount cal f - from) from 0
   -- it stands at the buffer's start, and nothing else is changed
   pub fits : r .length ≤ length after
   pub unchanged : drop (r .length) after ≡ drop (r .length) before

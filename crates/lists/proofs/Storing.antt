@@ -15,16 +15,20 @@ use Rattle.lists.specs.Lists.{withRecord, recordsAfter, Grown, RecordsIn
 
 -- nothing stored
 pub stays : (b : List ℕ) (size : ℕ) → Grown b b size size
-stays b size = record { more = omega arith; within = λ h. h; long = refl; unchanged = refl }
+stays b size = record { more = omega arith; within = λ h. h; past = λ h. refl; long = refl; unchanged = refl }
 
 -- once more
 pub grows-on : {a b c : List ℕ} {n m k : ℕ} → Grown a b n m → Grown b c m k → Grown a c n k
-grows-on {a = a} {b = b} {m = m} {k = k} g h =
+grows-on {a = a} {b = b} {n = n} {m = m} {k = k} g h =
     let more : m + (k - m) ≡ k = omega (arith, h .more) in
     let from : (l : List ℕ) → drop k l ≡ drop (k - m) (drop m l) = λ l. rw (drop-drop (k - m) m l, more) refl in
     record {
       more = omega (arith, g .more, h .more);
       within = λ w. h .within (g .within w);
+      past =
+          λ p.
+          let e : m ≡ n = g .past p in
+          h .past (omega (arith, g .long, e)) ∙ e;
       long = h .long ∙ g .long;
       unchanged = h .unchanged ∙ from b ∙ ap (drop (k - m)) (g .unchanged) ∙ sym (from a);
     }
@@ -65,6 +69,7 @@ module _ (b : List ℕ) (size : ℕ) (one : List ℕ) where
             record {
               more = omega arith;
               within = λ _. omega (arith, h, length-paste b size one 32 h (omega (arith, l)));
+              past = λ p. absurd (omega (arith, p, h));
               long = length-paste b size one 32 h (omega (arith, l));
               unchanged = drop-paste b size one 32 (omega arith) (omega (arith, l));
             };

@@ -1,6 +1,6 @@
 -- A list line by line and part by part, and what the definition says of the whole.
 -- Assumes nothing.
-use mathlib.Core.Path.{_≡_, refl, _∙_}
+use mathlib.Core.Path.{_≡_, refl, sym, _∙_}
 use mathlib.Core.Bool.{Bool, true, false, _||_, cond}
 use mathlib.Core.List.{List, [], _∷_, _++_}
 use Prim.Native.Nat.{ℕ, _+_, _≤_, _<_}
@@ -25,7 +25,7 @@ use Rattle.entries.specs.Entries.{entryOf, lineEntry}
 use Rattle.entries.proofs.Forms.{any-length}
 use Rattle.lists.specs.declared.Taken.{Taken}
 use Rattle.lists.specs.declared.Composed.{Composed}
-use Rattle.lists.specs.Lists.{Content, noContent, nothingTaken, entryFits, calendarAfter, recordsAfter, nextLine, lineTaken, linesTaken, contentOf, restTaken, contentIn, Grown, RecordsIn, LineIn, PartIn, EndIn, composed, composedFile}
+use Rattle.lists.specs.Lists.{Content, noContent, nothingTaken, entryFits, calendarAfter, recordsAfter, nextLine, lineTaken, linesTaken, contentOf, restTaken, partTaken, lineAfter, contentIn, Grown, RecordsIn, LineIn, PartIn, EndIn, composed, composedFile}
 use Rattle.lists.proofs.Storing.{stays, grows-on}
 
 -- ---- one line more
@@ -54,29 +54,53 @@ module _ (room : ℕ) (c : Content) (l : Line) where
   unfolding restTaken
   rest-byte byte rest n = rw (ne-eqb byte 10 n) refl
 
+  part-byte : (byte : ℕ) (rest : List ℕ) → (byte ≡ 10 → ⊥) → partTaken room c l (byte ∷ rest) ≡ partTaken room c (extended l byte) rest
+  unfolding partTaken
+  part-byte byte rest n = rw (ne-eqb byte 10 n) refl
+
+  part-line : (byte : ℕ) (rest : List ℕ) → byte ≡ 10 → partTaken room c l (byte ∷ rest) ≡ partTaken room (lineTaken room c (lineEntry l)) emptyLine rest
+  unfolding partTaken
+  part-line byte rest e = rw (eq-eqb byte 10 e) refl
+
   rest-line : (byte : ℕ) (rest : List ℕ) → byte ≡ 10 → restTaken room c l (byte ∷ rest) ≡ restTaken room (lineTaken room c (lineEntry l)) emptyLine rest
   unfolding restTaken
   rest-line byte rest e = rw (eq-eqb byte 10 e) refl
+
+module _ (l : Line) (byte : ℕ) (rest : List ℕ) where
+  begun-byte : (byte ≡ 10 → ⊥) → lineAfter l (byte ∷ rest) ≡ lineAfter (extended l byte) rest
+  unfolding lineAfter
+  begun-byte n = rw (ne-eqb byte 10 n) refl
+
+  begun-line : byte ≡ 10 → lineAfter l (byte ∷ rest) ≡ lineAfter emptyLine rest
+  unfolding lineAfter
+  begun-line e = rw (eq-eqb byte 10 e) refl
 
 -- after the first i bytes of a part
 pub record Going (t : Taken) (l : Line) (part before : List ℕ) (now : Taken) (line : Line) (buffer : List ℕ) (i : ℕ) : Type 0 where
   pub within : i ≤ length part
   pub grown : Grown before buffer (t .size) (now .size)
+  pub said : partTaken (length before) (contentIn t before) l part ≡ partTaken (length before) (contentIn now buffer) line (drop i part)
+  pub begun : lineAfter l part ≡ lineAfter line (drop i part)
   pub is : (rest : List ℕ) → restTaken (length before) (contentIn t before) l (part ++ rest) ≡ restTaken (length before) (contentIn now buffer) line (drop i part ++ rest)
 
 pub begins : (t : Taken) (l : Line) (part before : List ℕ) → Going t l part before t l before 0
-begins t l part before = record { within = omega arith; grown = stays before (t .size); is = λ rest. refl }
+begins t l part before = record { within = omega arith; grown = stays before (t .size); said = refl; begun = refl; is = λ rest. refl }
 
 module _ (t : Taken) (l : Line) (part before : List ℕ) (now : Taken) (line : Line) (buffer : List ℕ) (i : ℕ) (g : Going t l part before now line buffer i) where
   module _ (h : i < length part) where
     part-next : (rest : List ℕ) → drop i part ++ rest ≡ getD part i 0 ∷ (drop (i + 1) part ++ rest)
     part-next rest = rw (drop-cons part i 0 h, add-one i) refl
 
+    one-more : drop i part ≡ getD part i 0 ∷ drop (i + 1) part
+    one-more = rw (drop-cons part i 0 h, add-one i) refl
+
     pub goes-byte : (getD part i 0 ≡ 10 → ⊥) → (next : Line) → next ≡ extended line (getD part i 0) → Going t l part before now next buffer (i + 1)
     goes-byte n next e =
         record {
           within = omega arith;
           grown = g .grown;
+          said = g .said ∙ rw (one-more, e) (part-byte (length before) (contentIn now buffer) line (getD part i 0) (drop (i + 1) part) n);
+          begun = g .begun ∙ rw (one-more, e) (begun-byte line (getD part i 0) (drop (i + 1) part) n);
           is = λ rest. g .is rest ∙ rw (part-next rest, e) (rest-byte (length before) (contentIn now buffer) line (getD part i 0) (drop (i + 1) part ++ rest) n);
         }
 
@@ -86,13 +110,21 @@ module _ (t : Taken) (l : Line) (part before : List ℕ) (now : Taken) (line : L
         record {
           within = omega arith;
           grown = grows-on (g .grown) (s .buffer);
+          said = g .said ∙ rw (one-more, q, s .is, room) (part-line (length before) (contentIn now buffer) line (getD part i 0) (drop (i + 1) part) e);
+          begun = g .begun ∙ rw (one-more, q) (begun-line line (getD part i 0) (drop (i + 1) part) e);
           is = λ rest. g .is rest ∙ rw (part-next rest, q, s .is, room) (rest-line (length before) (contentIn now buffer) line (getD part i 0) (drop (i + 1) part ++ rest) e);
         }
 
   pub ends : length part ≤ i → PartIn t l part before buffer now line
+  unfolding partTaken lineAfter
   ends h =
       let e : i ≡ length part = omega (arith, g .within) in
-      record { is = λ rest. g .is rest ∙ rw (e, drop-length part) refl; buffer = g .grown }
+      record {
+        said = sym (g .said ∙ rw (e, drop-length part) refl);
+        begun = sym (g .begun ∙ rw (e, drop-length part) refl);
+        is = λ rest. g .is rest ∙ rw (e, drop-length part) refl;
+        buffer = g .grown;
+      }
 
 -- ---- the end of the list
 

@@ -1,6 +1,6 @@
 -- What a list says: the calendar and the records of a master file (README, The text of a master file, from which the quotations are; 02, notes 7 and 14).
 -- Assumes nothing.
-use Prim.Native.Nat.{ℕ, _+_, _≤_}
+use Prim.Native.Nat.{ℕ, _+_, _≤_, _<_}
 use mathlib.Core.Path.{_≡_}
 use mathlib.Core.Bool.{Bool, true, false, not, _&&_, _||_, cond}
 use mathlib.Core.List.{List, [], _∷_, _++_}
@@ -99,6 +99,17 @@ restTaken room c l [] = cond (eqb (l .length) 0) c (lineTaken room c (lineEntry 
 restTaken room c l (byte ∷ rest) =
     cond (eqb byte 10) (restTaken room (lineTaken room c (lineEntry l)) emptyLine rest) (restTaken room c (extended l byte) rest)
 
+-- what is said after the lines that end in a part of a list, with a line begun
+unfoldable pub partTaken : ℕ → Content → Line → List ℕ → Content
+partTaken room c l [] = c
+partTaken room c l (byte ∷ rest) =
+    cond (eqb byte 10) (partTaken room (lineTaken room c (lineEntry l)) emptyLine rest) (partTaken room c (extended l byte) rest)
+
+-- and the line that is begun after them
+unfoldable pub lineAfter : Line → List ℕ → Line
+lineAfter l [] = l
+lineAfter l (byte ∷ rest) = cond (eqb byte 10) (lineAfter emptyLine rest) (lineAfter (extended l byte) rest)
+
 -- what the code holds: the records stand at the start of a lent buffer
 abbrev pub contentIn : Taken → List ℕ → Content
 contentIn t buffer =
@@ -108,10 +119,11 @@ contentIn t buffer =
 unfoldable pub nothingTaken : Taken
 nothingTaken = record { calendar = zeroCalendar; seeded = false; size = 0; lines = 0; bad = 0 }
 
--- of a buffer before and after, with so many bytes of records at its start before and after: they are no fewer, and no more than the buffer has where they were no more before; the buffer is as long as it was, and after the records nothing is changed
+-- of a buffer before and after, with so many bytes of records at its start before and after: they are no fewer, and no more than the buffer has where they were no more before, else as many as before; the buffer is as long as it was, and after the records nothing is changed
 pub record Grown (before after : List ℕ) (from size : ℕ) : Type 0 where
   pub more : from ≤ size
   pub within : from ≤ length before → size ≤ length after
+  pub past : length before < from → size ≡ from
   pub long : length after ≡ length before
   pub unchanged : drop size after ≡ drop size before
 
@@ -125,8 +137,11 @@ pub record LineIn (t : Taken) (l : Line) (before after : List ℕ) (r : Taken) :
   pub is : contentIn r after ≡ lineTaken (length before) (contentIn t before) (lineEntry l)
   pub buffer : Grown before after (t .size) (r .size)
 
--- of a state, a line begun and a buffer before and after a part of the list: whatever the rest of the list is, the whole says what the rest says after the part
+-- of a state, a line begun and a buffer before and after a part of the list
 pub record PartIn (t : Taken) (l : Line) (part before after : List ℕ) (r : Taken) (next : Line) : Type 0 where
+  pub said : contentIn r after ≡ partTaken (length before) (contentIn t before) l part
+  pub begun : next ≡ lineAfter l part
+  -- whatever the rest of the list is, the whole says what the rest says after the part
   pub is : (rest : List ℕ) → restTaken (length before) (contentIn t before) l (part ++ rest) ≡ restTaken (length before) (contentIn r after) next rest
   pub buffer : Grown before after (t .size) (r .size)
 
