@@ -14,7 +14,7 @@ use Rattle.calendar.specs.Trading.{validCover, clean, everyWeek, inCover}
 use Rattle.product.specs.declared.Product.{Product}
 use Rattle.product.specs.Fields.{productRight}
 use Rattle.listing.specs.Months.{allInCover, weekIntoCover}
-use Rattle.master.specs.Load.{productOf}
+use Rattle.master.specs.Halves.{productByHalves}
 use Rattle.table.specs.declared.Table.{Table}
 use Rattle.table.specs.declared.Outcome.{Outcome}
 use Rattle.table.specs.Table.{sound, calendarSound, refusedWith, openedTable, rollCall, closeCall, openIn}
@@ -85,7 +85,7 @@ open-leaves : (verdict : Answer Calendar) (f id : List ℕ) (date : ℕ) → ope
     → sound (openIn verdict f id date .table) ≡ (calendarSound (verdict .value) && productRight (openIn verdict f id date .table .product))
 open-leaves verdict f id date e =
     let w = accepted-in verdict f id date e in
-    rw (opened-table-in verdict f id date e) (opened-of (productOf f id) (verdict .value) date (w .dated) (w .week) (w .whole))
+    rw (opened-table-in verdict f id date e) (opened-of (productByHalves f id) (verdict .value) date (w .dated) (w .week) (w .whole))
   where
     opened-of : (p : Product) (cal : Calendar) (date : ℕ) → inCover (cal .cover) date ≡ true → weekIntoCover (p .kind) (cal .cover) date ≡ true → allInCover cal (p .kind) (p .group) date ≡ true
         → sound (openedTable p cal date) ≡ (calendarSound cal && productRight (openedTable p cal date .product))

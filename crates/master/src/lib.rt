@@ -13,6 +13,7 @@ ghost use Rattle.years.specs.Calendars.{orderRight, calendarOf, calendarAnswer,
 ghost use Rattle.product.specs.Fields.{kindAnswer};
 ghost use Rattle.master.specs.Products.{sameId, productFrom, productAt};
 ghost use Rattle.master.specs.Load.{judgeCall, loadCall, loadAnswer, hasId, placeFrom, placeOf, foundAt, findCall, findAnswer};
+ghost use Rattle.master.specs.Halves.{beginsBy, stepped, blockByHalves, findFrom};
 
 // The counts of years and of records.
 #[repr(C)]
@@ -196,13 +197,13 @@ fn found_at(file: &[u8], block: usize, record: usize) -> Found
     Found::Nothing
 }
 
-// The walk at the first place of a file.
-fn first<'a>(file: &'a [u8]) -> Reader<'a>
-    ensures { λ r. ⌜ (r .file ≡ file .entry) × (r .block ≡ 0) × (r .«record» ≡ 0) ⌝ }
+// The walk at the first place of a block.
+fn at_block<'a>(file: &'a [u8], block: usize) -> Reader<'a>
+    ensures { λ r. ⌜ (r .file ≡ file .entry) × (r .block ≡ block) × (r .«record» ≡ 0) ⌝ }
 {
     Reader {
         file,
-        block: 0,
+        block,
         record: 0,
     }
 }
@@ -227,9 +228,64 @@ fn here<'a>(reader: Reader<'a>) -> Found
     found_at(reader.file, reader.block, reader.record)
 }
 
+// What a walk from a block on finds.
+fn find_from(file: &[u8], block: usize, id: [u8; 4]) -> Found
+    requires { ⌜ block ≤ blockCount (now file) ⌝ }
+    ensures { λ r. ⌜ findAnswer r ≡ findFrom (now (file .entry)) id (15 * block) ⌝ }
+{
+    here(seek(at_block(file, block), id))
+}
+
 // Question 9: the place of the record with an id, given as a record's four bytes.
 pub fn find(file: &[u8], id: [u8; 4]) -> Found
     ensures { λ r. ⌜ findAnswer r ≡ findCall (now (file .entry)) id ⌝ }
 {
-    here(seek(first(file), id))
+    find_from(file, 0, id)
+}
+
+// Whether a file has a block that begins with no record, or with an id that is not after another.
+fn begins_by(file: &[u8], block: usize, id: [u8; 4]) -> bool
+    ensures { λ r. ⌜ r ≡ beginsBy (now (file .entry)) id block ⌝ }
+{
+    if file.len() / 512 <= block {
+        return false;
+    }
+    if !ids::is_record(file, 15 * block) {
+        return true;
+    }
+    !ids::id_rises(id, ids::id_at(file, 15 * block))
+}
+
+// A step of so many blocks on, where the block that it leads to begins by an id.
+fn step(file: &[u8], block: usize, width: usize, id: [u8; 4]) -> usize
+    requires { ⌜ (block ≤ blockCount (now file)) × (width ≤ 64) ⌝ }
+    ensures { λ r. ⌜ (r ≡ stepped (beginsBy (now (file .entry)) id) width block) × (r ≤ blockCount (now (file .entry))) ⌝ }
+{
+    let next = block + width;
+    if begins_by(file, next, id) {
+        return next;
+    }
+    block
+}
+
+// The block from which a record with an id is looked for, by halves: steps of 64, 32, .., 1 blocks.
+fn block_by_halves(file: &[u8], id: [u8; 4]) -> usize
+    ensures { λ r. ⌜ (r ≡ blockByHalves (now (file .entry)) id) × (r ≤ blockCount (now (file .entry))) ⌝ }
+{
+    let mut block: usize = 0;
+    let mut width: usize = 64;
+    let mut steps: usize = 7;
+    while 0 < steps {
+        block = step(file, block, width, id);
+        width = width / 2;
+        steps -= 1;
+    }
+    block
+}
+
+// Question 9 by halves, for a file that load accepts: the walk begins at the block that the ids at the starts of blocks say. For such a file this is `find`.
+pub fn find_rising(file: &[u8], id: [u8; 4]) -> Found
+    ensures { λ r. ⌜ findAnswer r ≡ findFrom (now (file .entry)) id (15 * blockByHalves (now (file .entry)) id) ⌝ }
+{
+    find_from(file, block_by_halves(file, id), id)
 }

@@ -3,7 +3,7 @@
 use mathlib.Core.Path.{_≡_, refl, _∙_, sym, ap}
 use mathlib.Core.Bool.{Bool, true, false, _&&_, cond}
 use mathlib.Core.List.{List, [], _∷_, _++_}
-use Prim.Native.Nat.{ℕ, zero, suc, _/_, _%_}
+use Prim.Native.Nat.{ℕ, zero, suc, _*_, _/_, _%_}
 use native.Mathlib.Omega.{arith}
 use lib.Dec.{ltb, eqb·suc-zero}
 use borrow.Author.Tests.{ltb-true}
@@ -15,11 +15,13 @@ use Rattle.calendar.specs.Trading.{inCover}
 use Rattle.listing.specs.Months.{listingOf, allInCover, weekIntoCover}
 use Rattle.years.specs.Calendars.{calendarOf}
 use Rattle.master.specs.Products.{productAt}
-use Rattle.master.specs.Load.{loadAsks, judgeCall, found, placeFrom, placeOf, findAsks, findCall, findAnswer, productOf}
+use Rattle.master.specs.Load.{loadAsks, judgeCall, found, placeOf, findAnswer, productOf}
+use Rattle.master.specs.Halves.{findFrom, blockByHalves, placeByHalves, foundByHalves, productByHalves}
 use Rattle.master.specs.declared.Found.{Found}
 use Rattle.master.specs.declared.Found.the-variants.{At, Nothing}
 use Rattle.master.specs.declared.Place.{Place}
 use Rattle.master.proofs.Answers.{judge-accepted}
+use Rattle.master.proofs.Halving.{halves-found, halves-product}
 use Rattle.opening.specs.Opening.{openingAsks, openAsks, refusedOpening, openingOf, asksIn, openingIn}
 
 -- of two lists of questions, one after the other
@@ -44,28 +46,32 @@ load-numbers : (f : List ℕ) → numbers (loadAsks f) ≡ true
 unfolding loadAsks
 load-numbers f = refl
 
--- an id is there, and where it is
-find-refusal : (f id : List ℕ) (r : Found) → findAnswer r ≡ findCall f id → findAnswer r .refusal ≡ firstNo (findAsks f id)
-unfolding findCall answer
+-- an id is there, and where it is, by halves
+abbrev Finds : List ℕ → List ℕ → Found → Type 0
+Finds f id r = findAnswer r ≡ findFrom f id (15 * blockByHalves f id)
+
+find-refusal : (f id : List ℕ) (r : Found) → Finds f id r → findAnswer r .refusal ≡ firstNo (ask 9 (foundByHalves f id) ∷ [])
+unfolding findFrom answer foundByHalves placeByHalves
 find-refusal f id r e = ap (λ (a : Answer Place). a .refusal) e
 
-pub find-there : (f id : List ℕ) (block place : ℕ) → findAnswer (At block place) ≡ findCall f id → found f id ≡ true
-find-there f id block place e = none-no 8 (found f id) [] (sym (find-refusal f id (At block place) e)) .0
+pub find-there : (f id : List ℕ) (block place : ℕ) → Finds f id (At block place) → foundByHalves f id ≡ true
+find-there f id block place e = none-no 8 (foundByHalves f id) [] (sym (find-refusal f id (At block place) e)) .0
 
-pub find-product : (f id : List ℕ) (block place : ℕ) → findAnswer (At block place) ≡ findCall f id → productAt f block place ≡ productOf f id
-unfolding productOf findCall
+pub find-product : (f id : List ℕ) (block place : ℕ) → Finds f id (At block place) → productAt f block place ≡ productByHalves f id
+unfolding productByHalves findFrom foundByHalves placeByHalves
 find-product f id block place e =
     let t = find-there f id block place e in
-    let q = ap (λ (a : Answer Place). a .value) (e ∙ accepted (findAsks f id) _ (placeOf (placeFrom f id 0)) (first-yes 9 {b = found f id} [] t ∙ no-asks)) in
-    let x : block ≡ placeFrom f id 0 / 15 = ap (λ (p : Place). p .block) q in
-    let y : place ≡ placeFrom f id 0 % 15 = ap (λ (p : Place). p .«record») q in
+    let p = placeByHalves f id in
+    let q = ap (λ (a : Answer Place). a .value) (e ∙ accepted (ask 9 (foundByHalves f id) ∷ []) _ (placeOf p) (first-yes 9 {b = foundByHalves f id} [] t ∙ no-asks)) in
+    let x : block ≡ p / 15 = ap (λ (p : Place). p .block) q in
+    let y : place ≡ p % 15 = ap (λ (p : Place). p .«record») q in
     rw (x, y)
 
-pub find-none : (f id : List ℕ) → findAnswer Nothing ≡ findCall f id → found f id ≡ false
+pub find-none : (f id : List ℕ) → Finds f id Nothing → foundByHalves f id ≡ false
 unfolding firstNo
-find-none f id e = go (found f id) refl (find-refusal f id Nothing e)
+find-none f id e = go (foundByHalves f id) refl (find-refusal f id Nothing e)
   where
-    go : (b : Bool) → found f id ≡ b → _≡_ {A = ℕ} 9 (cond (found f id) 0 9) → found f id ≡ false
+    go : (b : Bool) → foundByHalves f id ≡ b → _≡_ {A = ℕ} 9 (cond (foundByHalves f id) 0 9) → foundByHalves f id ≡ false
     go true q r = let z : _≡_ {A = ℕ} 9 0 = rw q at r in absurd (omega arith)
     go false q r = q
 
@@ -87,31 +93,31 @@ module _ (verdict : Answer Calendar) (f id : List ℕ) (date : ℕ) where
   module _ (a : verdict .refusal ≡ 0) where
     -- the questions after those of load
     rest-in : firstNo (asksIn verdict f id date)
-        ≡ firstNo (ask 9 (found f id) ∷ ask 11 (inCover (verdict .value .cover) date) ∷ ask 24 (weekIntoCover (productOf f id .kind) (verdict .value .cover) date) ∷ ask 16 (allInCover (verdict .value) (productOf f id .kind) (productOf f id .group) date) ∷ [])
+        ≡ firstNo (ask 9 (foundByHalves f id) ∷ ask 11 (inCover (verdict .value .cover) date) ∷ ask 24 (weekIntoCover (productByHalves f id .kind) (verdict .value .cover) date) ∷ ask 16 (allInCover (verdict .value) (productByHalves f id .kind) (productByHalves f id .group) date) ∷ [])
     unfolding asksIn firstNo
     rest-in = rw a refl
 
-    pub in-9 : found f id ≡ false → openingIn verdict f id date ≡ refusedOpening 9
+    pub in-9 : foundByHalves f id ≡ false → openingIn verdict f id date ≡ refusedOpening 9
     unfolding firstNo
     in-9 b = in-no 8 (rest-in ∙ rw b)
 
-    module _ (b : found f id ≡ true) where
+    module _ (b : foundByHalves f id ≡ true) where
       pub in-11 : inCover (verdict .value .cover) date ≡ false → openingIn verdict f id date ≡ refusedOpening 11
       unfolding firstNo
       in-11 c = in-no 10 (rest-in ∙ rw (b, c))
 
       module _ (c : inCover (verdict .value .cover) date ≡ true) where
-        pub in-24 : weekIntoCover (productOf f id .kind) (verdict .value .cover) date ≡ false → openingIn verdict f id date ≡ refusedOpening 24
+        pub in-24 : weekIntoCover (productByHalves f id .kind) (verdict .value .cover) date ≡ false → openingIn verdict f id date ≡ refusedOpening 24
         unfolding firstNo
         in-24 w = in-no 23 (rest-in ∙ rw (b, c, w))
 
-        module _ (w : weekIntoCover (productOf f id .kind) (verdict .value .cover) date ≡ true) where
-          pub in-16 : allInCover (verdict .value) (productOf f id .kind) (productOf f id .group) date ≡ false → openingIn verdict f id date ≡ refusedOpening 16
+        module _ (w : weekIntoCover (productByHalves f id .kind) (verdict .value .cover) date ≡ true) where
+          pub in-16 : allInCover (verdict .value) (productByHalves f id .kind) (productByHalves f id .group) date ≡ false → openingIn verdict f id date ≡ refusedOpening 16
           unfolding firstNo
           in-16 d = in-no 15 (rest-in ∙ rw (b, c, w, d))
 
-          pub in-yes : allInCover (verdict .value) (productOf f id .kind) (productOf f id .group) date ≡ true
-              → openingIn verdict f id date ≡ record { refusal = 0; product = productOf f id; calendar = verdict .value; fresh = listingOf (verdict .value) (productOf f id .kind) (productOf f id .group) date .maturities }
+          pub in-yes : allInCover (verdict .value) (productByHalves f id .kind) (productByHalves f id .group) date ≡ true
+              → openingIn verdict f id date ≡ record { refusal = 0; product = productByHalves f id; calendar = verdict .value; fresh = listingOf (verdict .value) (productByHalves f id .kind) (productByHalves f id .group) date .maturities }
           unfolding openingIn listingOf firstNo
           in-yes d = let z : firstNo (asksIn verdict f id date) ≡ 0 = rest-in ∙ rw (b, c, w, d) in rw z
 
@@ -127,7 +133,7 @@ module _ (f id : List ℕ) (date : ℕ) where
   verdict-no n e = (rw (e, eqb·suc-zero n) refl, append-no (loadAsks f) _ n e)
 
   pub verdict-yes : firstNo (loadAsks f) ≡ 0 → (judgeCall f ≡ record { refusal = 0; value = calendarOf f }) × (firstNo (asksIn (record { refusal = 0; value = calendarOf f }) f id date) ≡ firstNo (openAsks f id date))
-  verdict-yes e = (judge-accepted f e, rest-in (record { refusal = 0; value = calendarOf f }) f id date refl ∙ sym (rest-is e))
+  verdict-yes e = (judge-accepted f e, rest-in (record { refusal = 0; value = calendarOf f }) f id date refl ∙ rw (halves-found f id e, halves-product f id e) (sym (rest-is e)))
 
   -- an opening by the file's own verdict
   pub opening-is : openingIn (judgeCall f) f id date ≡ openingOf f id date
@@ -135,7 +141,7 @@ module _ (f id : List ℕ) (date : ℕ) where
   opening-is = go (firstNo (loadAsks f)) refl
     where
       go : (n : ℕ) → firstNo (loadAsks f) ≡ n → openingIn (judgeCall f) f id date ≡ openingOf f id date
-      go zero e = rw (verdict-yes e .0) (rw (verdict-yes e .1) refl)
+      go zero e = rw (verdict-yes e .0) (rw (verdict-yes e .1, halves-product f id e) refl)
       go (suc n) e = rw (verdict-no n e .0, verdict-no n e .1, eqb·suc-zero n) refl
 
 -- what the questions of an accepted open leave
@@ -166,10 +172,10 @@ opened-from f id date q =
 -- and those of an accepted open by a verdict
 pub record OpenedIn (verdict : Answer Calendar) (f id : List ℕ) (date : ℕ) : Type 0 where
   pub loaded : verdict .refusal ≡ 0
-  pub there : found f id ≡ true
+  pub there : foundByHalves f id ≡ true
   pub dated : inCover (verdict .value .cover) date ≡ true
-  pub week : weekIntoCover (productOf f id .kind) (verdict .value .cover) date ≡ true
-  pub whole : allInCover (verdict .value) (productOf f id .kind) (productOf f id .group) date ≡ true
+  pub week : weekIntoCover (productByHalves f id .kind) (verdict .value .cover) date ≡ true
+  pub whole : allInCover (verdict .value) (productByHalves f id .kind) (productByHalves f id .group) date ≡ true
 
 verdict-first : (verdict : Answer Calendar) (f id : List ℕ) (date : ℕ) → firstNo (asksIn verdict f id date) ≡ 0 → verdict .refusal ≡ 0
 verdict-first verdict f id date q = go (verdict .refusal) refl
@@ -181,8 +187,8 @@ verdict-first verdict f id date q = go (verdict .refusal) refl
 pub opened-in : (verdict : Answer Calendar) (f id : List ℕ) (date : ℕ) → firstNo (asksIn verdict f id date) ≡ 0 → OpenedIn verdict f id date
 opened-in verdict f id date q =
     let l = verdict-first verdict f id date q in
-    let (a, r1) = none-no 8 (found f id) _ (sym (rest-in verdict f id date l) ∙ q) in
+    let (a, r1) = none-no 8 (foundByHalves f id) _ (sym (rest-in verdict f id date l) ∙ q) in
     let (b, r2) = none-no 10 (inCover (verdict .value .cover) date) _ r1 in
-    let (w, r3) = none-no 23 (weekIntoCover (productOf f id .kind) (verdict .value .cover) date) _ r2 in
-    let (c, r4) = none-no 15 (allInCover (verdict .value) (productOf f id .kind) (productOf f id .group) date) [] r3 in
+    let (w, r3) = none-no 23 (weekIntoCover (productByHalves f id .kind) (verdict .value .cover) date) _ r2 in
+    let (c, r4) = none-no 15 (allInCover (verdict .value) (productByHalves f id .kind) (productByHalves f id .group) date) [] r3 in
     record { loaded = l; there = a; dated = b; week = w; whole = c }

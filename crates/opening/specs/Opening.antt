@@ -15,6 +15,7 @@ use Rattle.listing.specs.Rules.{unused, places15}
 use Rattle.listing.specs.Months.{freshOf, allInCover, weekIntoCover}
 use Rattle.years.specs.Calendars.{calendarOf}
 use Rattle.master.specs.Load.{loadAsks, found, productOf}
+use Rattle.master.specs.Halves.{foundByHalves, productByHalves}
 use Rattle.opening.specs.declared.Opening.{Opening}
 
 -- a product of zeros; kind 0 is a future
@@ -59,14 +60,14 @@ openingOf f id date =
     })
     (refusedOpening (firstNo (openAsks f id date)))
 
--- the questions of open where the verdict of 1 to 8 is at hand: its number, 0 where all are answered yes, and the file's calendar
+-- the questions of open where the verdict of 1 to 8 is at hand: its number, 0 where all are answered yes, and the file's calendar. The record is looked for by halves, which finds it in a file that load accepts
 unfoldable pub asksIn : Answer Calendar → List ℕ → List ℕ → ℕ → List Ask
 asksIn verdict f id date =
     ask (verdict .refusal) (eqb (verdict .refusal) 0)
-    ∷ ask 9 (found f id)
+    ∷ ask 9 (foundByHalves f id)
     ∷ ask 11 (inCover (verdict .value .cover) date)
-    ∷ ask 24 (weekIntoCover (productOf f id .kind) (verdict .value .cover) date)
-    ∷ ask 16 (allInCover (verdict .value) (productOf f id .kind) (productOf f id .group) date)
+    ∷ ask 24 (weekIntoCover (productByHalves f id .kind) (verdict .value .cover) date)
+    ∷ ask 16 (allInCover (verdict .value) (productByHalves f id .kind) (productByHalves f id .group) date)
     ∷ []
 
 -- what is found in a file by a verdict; by the file's own it is `openingOf`
@@ -75,8 +76,8 @@ openingIn verdict f id date =
     cond (eqb (firstNo (asksIn verdict f id date)) 0)
     (record {
       refusal = 0;
-      product = productOf f id;
+      product = productByHalves f id;
       calendar = verdict .value;
-      fresh = places15 (freshOf (verdict .value) (productOf f id .kind) (productOf f id .group) date);
+      fresh = places15 (freshOf (verdict .value) (productByHalves f id .kind) (productByHalves f id .group) date);
     })
     (refusedOpening (firstNo (asksIn verdict f id date)))

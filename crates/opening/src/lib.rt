@@ -56,7 +56,7 @@ pub fn opening_in(file: &[u8], judged: FileCalendar, id: [u8; 4], date: u16) -> 
     if refusal != 0 {
         return refused_opening(refusal);
     }
-    let Found::At(block, record) = master::find(file, id) else {
+    let Found::At(block, record) = master::find_rising(file, id) else {
         return refused_opening(9);
     };
     let calendar = judged.calendar;

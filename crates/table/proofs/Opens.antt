@@ -13,6 +13,8 @@ use Rattle.listing.specs.Months.{placesOfKind, allInCover}
 use Rattle.listing.proofs.Fresh.{fresh-listed}
 use Rattle.years.specs.Calendars.{calendarOf}
 use Rattle.master.specs.Load.{loadAsks, judgeCall, productOf}
+use Rattle.master.specs.Halves.{productByHalves}
+use Rattle.master.proofs.Halving.{halves-product}
 use Rattle.opening.specs.declared.Opening.{Opening}
 use Rattle.opening.specs.Opening.{openAsks, asksIn, openingIn}
 use Rattle.opening.proofs.Opened.{OpenedFrom, opened-from, OpenedIn, opened-in, verdict-no, verdict-yes}
@@ -31,7 +33,7 @@ refusal-is t asks o e = go (firstNo asks) refl
 
 module _ (verdict : Answer Calendar) (f id : List ℕ) (date : ℕ) where
   -- an accepted open by a verdict has a complete listing
-  in-whole : firstNo (asksIn verdict f id date) ≡ 0 → allInCover (verdict .value) (productOf f id .kind) (productOf f id .group) date ≡ true
+  in-whole : firstNo (asksIn verdict f id date) ≡ 0 → allInCover (verdict .value) (productByHalves f id .kind) (productByHalves f id .group) date ≡ true
   in-whole q = opened-in verdict f id date q .whole
 
   module _ (o : Opening) (is : o ≡ openingIn verdict f id date) where
@@ -50,7 +52,7 @@ module _ (verdict : Answer Calendar) (f id : List ℕ) (date : ℕ) where
     in-accepted h = go (firstNo (asksIn verdict f id date)) refl
       where
         go : (n : ℕ) → firstNo (asksIn verdict f id date) ≡ n → openedWith (o .product) (o .calendar) date (take (placesOfKind (o .product .kind)) (o .fresh)) ≡ openIn verdict f id date
-        go zero q = rw (is, q) (rw (fresh-listed (verdict .value) (productOf f id .kind) (productOf f id .group) date _ refl (in-whole q)) (sym (answered-yes zeroTable (asksIn verdict f id date) _ q)))
+        go zero q = rw (is, q) (rw (fresh-listed (verdict .value) (productByHalves f id .kind) (productByHalves f id .group) date _ refl (in-whole q)) (sym (answered-yes zeroTable (asksIn verdict f id date) _ q)))
         go (suc n) q =
             let r : o .refusal ≡ suc n = ap (λ (x : Opening). x .refusal) is ∙ rw (q, eqb·suc-zero n) in
             absurd (omega (arith, h))
@@ -61,7 +63,7 @@ unfolding openIn openCall answered
 open-is f id date = go (firstNo (loadAsks f)) refl
   where
     go : (n : ℕ) → firstNo (loadAsks f) ≡ n → openIn (judgeCall f) f id date ≡ openCall f id date
-    go zero e = rw (verdict-yes f id date e .0) (rw (verdict-yes f id date e .1) refl)
+    go zero e = rw (verdict-yes f id date e .0) (rw (verdict-yes f id date e .1, halves-product f id e) refl)
     go (suc n) e = rw (verdict-no f id date n e .0, verdict-no f id date n e .1, eqb·suc-zero n) refl
 
 -- what an accepted open found
@@ -79,6 +81,6 @@ pub accepted-in : (verdict : Answer Calendar) (f id : List ℕ) (date : ℕ) →
 unfolding openIn
 accepted-in verdict f id date e = opened-in verdict f id date (refusal-is zeroTable (asksIn verdict f id date) _ e)
 
-pub opened-table-in : (verdict : Answer Calendar) (f id : List ℕ) (date : ℕ) → openIn verdict f id date .refusal ≡ 0 → openIn verdict f id date .table ≡ openedTable (productOf f id) (verdict .value) date
+pub opened-table-in : (verdict : Answer Calendar) (f id : List ℕ) (date : ℕ) → openIn verdict f id date .refusal ≡ 0 → openIn verdict f id date .table ≡ openedTable (productByHalves f id) (verdict .value) date
 unfolding openIn openedTable
 opened-table-in verdict f id date e = ap (λ (x : Outcome). x .table) (answered-yes zeroTable (asksIn verdict f id date) _ (refusal-is zeroTable (asksIn verdict f id date) _ e))

@@ -16,6 +16,7 @@ use Rattle.listing.specs.Rules.{keysBefore, frontStays, unused, places15}
 use Rattle.listing.specs.Months.{placesOfKind, ruleOf, freshOf, allInCover, weekIntoCover}
 use Rattle.years.specs.Calendars.{calendarOf}
 use Rattle.master.specs.Load.{productOf}
+use Rattle.master.specs.Halves.{productByHalves}
 use Rattle.opening.specs.Opening.{zeroProduct, openAsks, asksIn}
 use Rattle.table.specs.declared.Table.{Table}
 use Rattle.table.specs.declared.Outcome.{Outcome}
@@ -115,7 +116,7 @@ openCall f id date =
 unfoldable pub openIn : Answer Calendar → List ℕ → List ℕ → ℕ → Outcome
 openIn verdict f id date =
     answered zeroTable (asksIn verdict f id date)
-    (openedWith (productOf f id) (verdict .value) date (freshOf (verdict .value) (productOf f id .kind) (productOf f id .group) date))
+    (openedWith (productByHalves f id) (verdict .value) date (freshOf (verdict .value) (productByHalves f id .kind) (productByHalves f id .group) date))
 
 -- 'Roll: 10, 11, 12, 16'
 abbrev pub rollAsks : Table → ℕ → List Ask

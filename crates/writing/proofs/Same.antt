@@ -10,14 +10,14 @@ use native.Mathlib.Omega.{arith}
 use lib.Dec.{eqb, leb}
 use lib.ListN.{length, take, drop, getD, length-append, length-drop, List·getD-append, List·getD-eq-default}
 use lib.Seq.{ext-getD, length-take-le, take-add, take-all, getD-take, getD-drop, getD-append-add}
-use borrow.Author.Tests.{eqb-true, eq-eqb, ne-eqb, lt-ltb, le-ltb, leb-true, le-leb}
+use borrow.Author.Tests.{eqb-true, eq-eqb, ne-eqb, lt-ltb, le-ltb, le-leb}
 use Rattle.questions.specs.Questions.{firstNo}
 use Rattle.questions.specs.Search.{every}
-use Rattle.questions.proofs.Bools.{both, and-fst, and-snd, and-both, or-either, lt-or-ge}
+use Rattle.questions.proofs.Bools.{both, and-fst, and-both, lt-or-ge}
 use Rattle.questions.proofs.Asks.{accepted}
 use Rattle.questions.proofs.Search.{every-at}
 use Rattle.calendar.specs.declared.Calendar.{Calendar}
-use Rattle.blocks.specs.Blocks.{blockCount, blockOf, numberAt, zeros, weightedSum, checkRight, checksRight, isCalendar, isProducts, yearOfBlock, recordsOfBlock, blockKindRight, headerRight, headersRight, lengthRight}
+use Rattle.blocks.specs.Blocks.{blockCount, blockOf, numberAt, zeros, weightedSum, checkRight, checksRight, isProducts, yearOfBlock, recordsOfBlock, blockKindRight, headerRight, headersRight, lengthRight}
 use Rattle.blocks.proofs.Files.{block-in, block-byte}
 use Rattle.records.specs.Records.{recordOf, recordPlaceRight, recordsRight, productsRight}
 use Rattle.years.specs.Calendars.{listed, dayClean, blockClean, calendarBlocks, calendarOf, yearCount}
@@ -25,6 +25,7 @@ use Rattle.years.proofs.Filling.{listed-length, listed-at}
 use Rattle.years.proofs.Years.{Ordered, ordered, calendar-is, calendar-block, block-year, product-block, map-in, block-clean}
 use Rattle.master.specs.Load.{loadAsks}
 use Rattle.master.proofs.Answers.{AllYes, all-yes, length-most}
+use Rattle.master.proofs.Accepting.{count-right}
 use Rattle.drafts.specs.Drafts.{highByte, lowByte, headerByte, calendarByte, recordsIn, productBlocks, recordsWithin, productByte, blockByte, checked, blockFor, blocksFor, fileOf, recordsWritten, fits, writeAsks}
 use Rattle.drafts.proofs.Blocks.{sum-same, blocks-none, blocks-more}
 use Rattle.drafts.proofs.Headers.{Header}
@@ -97,20 +98,6 @@ header-of b k e =
     let (ab, c) = both (blockKindRight b && eqb (getD b 1 0) 1) (eqb (numberAt b 4) k) abc in
     let (a, v) = both (blockKindRight b) (eqb (getD b 1 0) 1) ab in
     record { kind-is = refl; version = eqb-true _ _ v; number-is = refl; index-is = eqb-true _ _ c; rest = d }
-
--- a product block counts 1 to 15 records
-counts : (b : List ℕ) (k : ℕ) → headerRight b k ≡ true → getD b 0 0 ≡ 2 → (1 ≤ recordsOfBlock b) × (recordsOfBlock b ≤ 15)
-unfolding headerRight blockKindRight
-counts b k e two =
-    go (or-either (isCalendar b && leb 2000 (yearOfBlock b) && leb (yearOfBlock b) 2099) (isProducts b && leb 1 (recordsOfBlock b) && leb (recordsOfBlock b) 15) (and-fst _ _ (and-fst _ _ (and-fst _ _ e))))
-  where
-    go : ((isCalendar b && leb 2000 (yearOfBlock b) && leb (yearOfBlock b) 2099) ≡ true) ⊎ ((isProducts b && leb 1 (recordsOfBlock b) && leb (recordsOfBlock b) 15) ≡ true) → (1 ≤ recordsOfBlock b) × (recordsOfBlock b ≤ 15)
-    go (inl t) =
-        let one : getD b 0 0 ≡ 1 = eqb-true _ _ (and-fst (isCalendar b) (leb 2000 (yearOfBlock b)) (and-fst (isCalendar b && leb 2000 (yearOfBlock b)) (leb (yearOfBlock b) 2099) t)) in
-        absurd (omega arith)
-    go (inr t) =
-        let (a, c) = both (isProducts b && leb 1 (recordsOfBlock b)) (leb (recordsOfBlock b) 15) t in
-        (leb-true _ _ (and-snd (isProducts b) (leb 1 (recordsOfBlock b)) a), leb-true _ _ c)
 
 -- an accepted file of bytes whose product blocks but the last are full
 module _ (f : List ℕ) (bytes : areBytes f ≡ true) (a : AllYes f) (full : allFull f ≡ true) where
@@ -205,7 +192,7 @@ module _ (f : List ℕ) (bytes : areBytes f ≡ true) (a : AllYes f) (full : all
   two-at k h l = eqb-true _ _ (product-block f o k h l)
 
   count-at : (k : ℕ) → y ≤ k → k < n → (1 ≤ recordsOfBlock (blockOf f k)) × (recordsOfBlock (blockOf f k) ≤ 15)
-  count-at k h l = counts (blockOf f k) k (header-at k l) (two-at k h l)
+  count-at k h l = count-right (blockOf f k) k (header-at k l) (product-block f o k h l)
 
   full-at : (i : ℕ) → i < m → recordsOfBlock (blockOf f (y + i)) ≡ 15
   unfolding allFull

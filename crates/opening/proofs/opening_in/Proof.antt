@@ -12,8 +12,8 @@ refused-opening-requires c κs = tt
 returns : tie.Need-returns
 returns c = rw (c .refused-opening .ensures) (in-refused _ _ _ _ _ refl (c .before .if1 .taken))
 
-find-requires : tie.Need-find-requires
-find-requires c κs = search needs
+find-rising-requires : tie.Need-find-rising-requires
+find-rising-requires c κs = search needs
 
 enum-known-block : tie.Need-enum-known-block
 enum-known-block c = search needs
@@ -29,7 +29,7 @@ returns-2 c =
     let at-find = c .before .before .before in
     let at-if1 = at-find .before in
     rw (c .refused-opening2 .ensures)
-    (sym (in-9 _ _ _ _ (at-if1 .if1 .left) (find-none _ _ (rw (c .before .enum-told .given .1) at (at-find .find .ensures)))))
+    (sym (in-9 _ _ _ _ (at-if1 .if1 .left) (find-none _ _ (rw (c .before .enum-told .given .1) at (at-find .find-rising .ensures)))))
 
 in-cover-requires : tie.Need-in-cover-requires
 in-cover-requires c κs = tt
@@ -44,7 +44,7 @@ returns-3 c =
     let at-block = at-calendar .before .before in
     let at-find = at-block .before .before in
     let at-if1 = at-find .before in
-    let there = find-there _ _ _ _ (rw (at-block .block .given .1) at (at-find .find .ensures)) in
+    let there = find-there _ _ _ _ (rw (at-block .block .given .1) at (at-find .find-rising .ensures)) in
     rw (c .refused-opening3 .ensures)
     (sym (in-11 _ _ _ _ (at-if1 .if1 .left) there (said-no (at-in-cover .in-cover .ensures) (c .before .if2 .taken))))
 
@@ -68,7 +68,7 @@ returns-4 c =
     let at-find = at-block .before .before in
     let at-if1 = at-find .before in
     let yes-in-cover = said-yes (at-in-cover .in-cover .ensures) (at-if2 .if2 .left) in
-    let at = rw (at-block .block .given .1) at (at-find .find .ensures) in
+    let at = rw (at-block .block .given .1) at (at-find .find-rising .ensures) in
     let there = find-there _ _ _ _ at in
     let p = at-product-at .product-at .ensures ∙ find-product _ _ _ _ at in
     let week = said-no (at-week .is-week-into-cover .ensures) (c .before .if3 .taken) in
@@ -94,7 +94,7 @@ returns-5 c =
     let at-find = at-block .before .before in
     let at-if1 = at-find .before in
     let yes-in-cover = said-yes (at-in-cover .in-cover .ensures) (at-if2 .if2 .left) in
-    let at = rw (at-block .block .given .1) at (at-find .find .ensures) in
+    let at = rw (at-block .block .given .1) at (at-find .find-rising .ensures) in
     let there = find-there _ _ _ _ at in
     let p = at-product-at .product-at .ensures ∙ find-product _ _ _ _ at in
     let l = rw p at (at-list .list .ensures) in
@@ -115,7 +115,7 @@ returns-6 c =
     let at-find = at-block .before .before in
     let at-if1 = at-find .before in
     let yes-in-cover = said-yes (at-in-cover .in-cover .ensures) (at-if2 .if2 .left) in
-    let at = rw (at-block .block .given .1) at (at-find .find .ensures) in
+    let at = rw (at-block .block .given .1) at (at-find .find-rising .ensures) in
     let there = find-there _ _ _ _ at in
     let p = at-product-at .product-at .ensures ∙ find-product _ _ _ _ at in
     let l = rw p at (at-list .list .ensures) in
@@ -129,7 +129,7 @@ opening-in-spec =
     (tie.spec
     refused-opening-requires
     returns
-    find-requires
+    find-rising-requires
     enum-known-block
     enum-told
     refused-opening-requires-2
