@@ -26,12 +26,12 @@ SIZES = ((3, 15), (16, 1000))  # years, records
 MADE_UP_SEED = 14
 
 
-# So many products by their ids. A12 is an option with 12 months, A13 a future, A24
-# an option with 24 months.
+# So many products by their ids. A13, the first to be taken, is a future, A12 an option
+# with 12 months, A24 an option with 24 months.
 def products_of(records):
+    named = [cases.item(b'A13', group=b'FR01', kind=0), cases.item(b'A12'), cases.item(b'A24', kind=2)]
     others = cases.many_products(1680)
-    products = [cases.item(b'A12'), cases.item(b'A13', group=b'FR01', kind=0), cases.item(b'A24', kind=2),
-                *others[-records + 3:]]
+    products = named[:records] + others[len(others) - max(records - len(named), 0):]
     return sorted(products, key=lambda one: one.id)
 
 
