@@ -166,6 +166,17 @@ unfolding fed
 fed-append l [] b = refl
 fed-append l (byte ∷ a) b = fed-append (extended l byte) a b
 
+-- a byte more where there is room for it
+pub extended-is : (bytes : List ℕ) (n byte : ℕ) → n < 64 → extended (record { bytes = bytes; length = n }) byte ≡ record { bytes = set bytes n byte; length = n + 1 }
+unfolding extended
+extended-is bytes n byte h = rw (lt-ltb n 64 h) refl
+
+-- a line of 64 bytes stays as it is
+pub fed-full : (l : Line) (bytes : List ℕ) → 64 ≤ l .length → fed l bytes ≡ l
+unfolding fed extended
+fed-full l [] h = refl
+fed-full l (byte ∷ bytes) h = rw (le-ltb (l .length) 64 h) (fed-full l bytes h)
+
 -- a line that was fed fewer than 64 bytes has these bytes
 pub fed-is : (bytes : List ℕ) → length bytes < 64 → (fed emptyLine bytes .length ≡ length bytes) × (take (fed emptyLine bytes .length) (fed emptyLine bytes .bytes) ≡ bytes)
 fed-is bytes h = go (fed-holds bytes .holds)

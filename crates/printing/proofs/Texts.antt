@@ -3,7 +3,7 @@
 use mathlib.Core.Path.{_≡_, refl, _∙_, sym, ap}
 use mathlib.Core.Bool.{Bool, true, false, cond}
 use mathlib.Core.List.{List, [], _∷_, _++_}
-use Prim.Native.Nat.{ℕ, _+_, _*_, _/_, _%_, _≤_, _<_}
+use Prim.Native.Nat.{ℕ, _+_, _-_, _*_, _/_, _%_, _≤_, _<_}
 use native.Mathlib.Numerals.{add-one}
 use native.Mathlib.Omega.{arith}
 use lib.Dec.{lit≤}
@@ -49,6 +49,14 @@ module _ (n : ℕ) where
         pub decimal-5 : 10000 ≤ n → decimal n ≡ lastDigit (n / 10000) ∷ inFourDigits (n % 10000)
         unfolding decimal
         decimal-5 e = rw (le-ltb n 10 a, le-ltb n 100 b, le-ltb n 1000 d, le-ltb n 10000 e) refl
+
+-- a year of 2000 to 2099: 2, 0 and the years after 2000 in two digits
+pub year-digits : (year : ℕ) → 2000 ≤ year → year < 2100 → inFourDigits year ≡ 50 ∷ (48 ∷ inTwoDigits (year - 2000))
+unfolding inFourDigits inTwoDigits
+year-digits year a b =
+    let first : year / 100 ≡ 20 = omega arith in
+    let rest : year % 100 ≡ year - 2000 = omega arith in
+    rw (first, rest) refl
 
 -- the date in the answer of the call from a day to its date
 pub is-date : (a : DateAnswer) (d : ℕ) (x : Date) → dateAnswer a ≡ dateCall d → a ≡ Is x → x ≡ dateCall d .value

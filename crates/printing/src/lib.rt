@@ -78,12 +78,28 @@ fn put_spaced(out: &mut [u8], at: usize, n: u16) -> usize
     put_decimal(out, next, n)
 }
 
+// A year in four digits, of which those of 2000 to 2099 begin alike.
+fn put_year(out: &mut [u8], at: usize, year: u16) -> usize
+    requires { ⌜ at + 4 ≤ length (now out) ⌝ }
+    ensures { λ r. ⌜ Written (now (out .entry)) (now (out .exit)) at r (inFourDigits year) × (r ≤ at + 4) ⌝ }
+{
+    if year < 2000 {
+        return put_four(out, at, year);
+    }
+    if 2100 <= year {
+        return put_four(out, at, year);
+    }
+    let second = put(out, at, b'2');
+    let third = put(out, second, b'0');
+    put_two(out, third, year - 2000)
+}
+
 // A year and a month.
 fn put_year_month(out: &mut [u8], at: usize, year: u16, month: u16) -> usize
     requires { ⌜ at + 7 ≤ length (now out) ⌝ }
     ensures { λ r. ⌜ Written (now (out .entry)) (now (out .exit)) at r (yearMonth year month) × (r ≤ at + 7) ⌝ }
 {
-    let hyphen = put_four(out, at, year);
+    let hyphen = put_year(out, at, year);
     let next = put(out, hyphen, b'-');
     put_two(out, next, month)
 }

@@ -43,18 +43,23 @@ fn line_end(part: &[u8], from: usize) -> usize
     i
 }
 
-// A line with the bytes of a part from a place up to another more.
+// A line with the bytes of a part from a place up to another more: `extend` with each of them, on one array.
 fn feed(line: Line, part: &[u8], from: usize, to: usize) -> Line
     requires { ⌜ (from ≤ to) × (to ≤ length (now part)) ⌝ }
     ensures { λ r. ⌜ r ≡ fed line (slice from to (now (part .entry))) ⌝ }
 {
-    let mut whole = line;
+    let mut bytes = line.bytes;
+    let mut n = line.length;
     let mut i = from;
     while i < to {
-        whole = lines::extend(whole, part[i]);
+        if 64 <= n {
+            return Line { bytes, length: n };
+        }
+        bytes[n] = part[i];
+        n += 1;
         i += 1;
     }
-    whole
+    Line { bytes, length: n }
 }
 
 // The answer to the line that goes on at a place, if it ends in the part; else the line with all the rest of the part. Question 10 of the table, and what it says of the verdict's calendar, are at hand.

@@ -5,8 +5,8 @@ use borrow.Author.Needs.{needs}
 use Rattle.printing.proofs.put_year_month.Statement.{statement}
 use Rattle.printing.proofs.put_year_month.Tie as tie
 
-put-four-requires : tie.Need-put-four-requires
-put-four-requires c κs = search needs
+put-year-requires : tie.Need-put-year-requires
+put-year-requires c κs = search needs
 
 put-requires : tie.Need-put-requires
 put-requires c κs = search needs
@@ -21,9 +21,9 @@ returns : tie.Need-returns
 unfolding yearMonth
 returns c =
     let at-put = c .before .before .before .before .before .before in
-    let at-put-four = at-put .before .before .before .before in
-    (then (at-put-four .put-four .ensures .0) (then (at-put .put .ensures .0) (c .before .before .put-two .ensures .0)), omega (arith, at-put-four .put-four .ensures .1, at-put .put .ensures .1, c .before .before .put-two .ensures .1))
+    let at-put-year = at-put .before .before .before .before in
+    (then (at-put-year .put-year .ensures .0) (then (at-put .put .ensures .0) (c .before .before .put-two .ensures .0)), omega (arith, at-put-year .put-year .ensures .1, at-put .put .ensures .1, c .before .before .put-two .ensures .1))
 
 pub put-year-month-spec : {M : Type 1} → statement M
 put-year-month-spec =
-    tie.close (tie.spec put-four-requires put-requires put-two-requires same-length returns)
+    tie.close (tie.spec put-year-requires put-requires put-two-requires same-length returns)
