@@ -32,6 +32,12 @@ def words_of(*words):
     return ' '.join(str(int(word) if isinstance(word, bool) else word) for word in words)
 
 
+# Whether a map has a bit after those of the cover's last year, which is in no file that is written.
+def marked_after_cover(calendar):
+    after = trading.BYTES_PER_YEAR * calendar.years
+    return any(calendar.to_map()[after:] + calendar.to_second_map()[after:])
+
+
 # The lines written so far, the answers to them, and what they leave.
 class Script:
 
@@ -70,7 +76,7 @@ class Script:
     # ---- Days ----
 
     def interface(self):
-        self.ask(('interface',), 1)
+        self.ask(('interface',), 2)
 
     def day(self, *date):
         self.ask(('day', *date), *dates.date_to_day(*date))
@@ -109,7 +115,13 @@ class Script:
         held = self.calendar
         draft = writing.Draft(held.first_year, held.years, held.to_map(), held.to_second_map(), records)
         refusal, length, buffer = writing.write(draft, FILL * room)
+        if refusal == 0:
+            self.seen.add(('written', marked_after_cover(held)))
         return self.ask(('write', self.name_of(records), room), refusal, length, map_sum(buffer))
+
+    def marked(self):
+        self.say('marked')
+        self.answers.append(words_of(marked_after_cover(self.calendar)))
 
     # ---- Tables ----
 
@@ -427,17 +439,20 @@ def some_writings(script):
         years = chance.choice((1, 2, 16, 1, 0, 17))
         first_year = chance.choice((2000, 2008, 2099 - years, 2100 - years, 2101 - years, 1999))
         script.make(chance.below(2**32), first_year, years)
+        script.marked()
         records = some_records(chance)
         length = master.BLOCK * (script.calendar.years + -(-len(records) // 480))
         for room in (length, max(0, length - 1), chance.choice((0, length + 7))):
             script.write(records, room)
     script.keep()
     now = script.table
-    changes = [*damages.calendar_damages(now), (FIRST_YEAR, 0, 2008), (YEARS, 0, 3)] if now.places[1][3] else []
-    for change in chance.sample(changes, min(8, len(changes))):
+    changes = damages.calendar_damages(now) if now.places[1][3] else []
+    always = ((FIRST_YEAR, 0, 2008), (YEARS, 0, 3), (EXCHANGE, trading.MAP_BYTES - 1, 1))
+    for change in (*chance.sample(changes, min(6, len(changes))), *always):
         script.restore()
         script.damage(*change)
         script.take_calendar()
+        script.marked()
         script.write(some_records(chance), 65536)
 
 
@@ -459,7 +474,8 @@ def some_rounds(script):
 
 PARTS = (some_days, some_files, some_histories, some_writings, some_rounds)
 
-# What the scripts of a set must have: every refusal of every call, and both verdicts on a list.
+# What the scripts of a set must have: every refusal of every call, both verdicts on a list, and files written from
+# calendars with and without days after their cover.
 ANSWERS = {
     'day': (0, 23), 'date': (0, 23), 'load': range(9), 'open': (*range(10), 11, 16, 24), 'roll': (0, 10, 11, 12, 16),
     'close': (0, 10, 11, 13, 14, 15, 16), 'reopen': (0, 10, 11, 13, 26, 27), 'measure': (0, 10, 19, 21, 28, 29),
@@ -468,7 +484,7 @@ ANSWERS = {
     'write': (0, *range(3, 9), 25), 'handle': (0, 10, 30), 'join': (0, 10, 30, 31), 'leave': (0, 10, 30, 31),
 }
 WANTED = frozenset((name, number) for name, numbers in ANSWERS.items() for number in numbers) | {
-    ('verdict', True), ('verdict', False)}
+    ('verdict', True), ('verdict', False), ('written', True), ('written', False)}
 
 
 # A script of a seed: every part of it.

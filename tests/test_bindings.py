@@ -48,6 +48,15 @@ def read(*path):
         return file.read()
 
 
+# The three numbers of the release, and the shared object's name, which ends with the first.
+def version():
+    return re.search(r'^Version: (.*)$', read(BINDINGS, 'scullpouch.pc.in'), re.M)[1]
+
+
+def soname():
+    return 'libscullpouch.so.' + version().split('.')[0]
+
+
 # Runs a command, which must succeed: what it printed.
 def run(*command, **ways):
     ran = subprocess.run(command, stdout=subprocess.PIPE, stderr=subprocess.PIPE, timeout=10 * SECONDS, **ways)
@@ -110,7 +119,7 @@ class Built:
     @property
     def environment(self):
         return {**os.environ, 'SCULLPOUCH_LIB': os.path.join(self.prefix, 'lib'),
-                'SCULLPOUCH': os.path.join(self.prefix, 'lib', 'libscullpouch.so.1'),
+                'SCULLPOUCH': os.path.join(self.prefix, 'lib', soname()),
                 'CARGO_TARGET_DIR': self.path('cargo'), 'PYTHONDONTWRITEBYTECODE': '1'}
 
     # The README's first lines, with this folder for the one in the reader's home.
@@ -336,18 +345,6 @@ def python_layouts():
             for name, size, fields in rows}
 
 
-# Calendars with a field that does not fit: the fields for which a ValueError comes.
-UNFIT = '''
-import scullpouch
-calendar = scullpouch.make(7, 2008, 1)
-for field, value in ('years', 65536), ('closed', bytes(735)), ('closed', bytes(737)), ('exchange', bytes(737)):
-    try:
-        scullpouch.write(calendar._replace(**{field: value}), bytes(32))
-    except ValueError:
-        print(field)
-'''
-
-
 class Interface(unittest.TestCase):
 
     # Every struct that the crates export, with every field, in each language.
@@ -384,19 +381,19 @@ class Interface(unittest.TestCase):
         _, data, bss, *_ = map(int, re.findall(r'\d+', run('size', '-t', BUILT.library).decode().splitlines()[-1]))
         self.assertEqual((data, bss), (0, 0))
 
+    # The numbers of the release, wherever they stand.
     def test_versions(self):
-        version = re.search(r'^Version: (.*)$', read(BINDINGS, 'scullpouch.pc.in'), re.M)[1]
-        self.assertIn(f'\nversion = "{version}"\n', read(BINDINGS, 'rust', 'Cargo.toml'))
-        major = version.split('.')[0]
+        for name in ('Cargo.toml', 'Cargo.lock'):
+            self.assertIn(f'name = "scullpouch"\nversion = "{version()}"\n', read(BINDINGS, 'rust', name))
+        major = version().split('.')[0]
         self.assertIn(f'#define SCULLPOUCH_INTERFACE {major} ', read(BINDINGS, HEADER))
         self.assertIn(f'\nINTERFACE = {major}\n', read(BINDINGS, 'python', 'scullpouch.py'))
-        self.assertIn(f'soname,libscullpouch.so.{major} ', read(BINDINGS, 'install'))
-        self.assertIn(f'    {major}\n', read(*CRATE).split('scullpouch_interface')[1])
-
-    # In Python a number or a map that does not fit its C type is a ValueError.
-    def test_python_fits(self):
-        found = run(sys.executable, '-c', UNFIT, cwd=BUILT.source('python'), env=BUILT.environment)
-        self.assertEqual(found.decode().split(), ['years', 'closed', 'closed', 'exchange'])
+        self.assertIn(f'soname,{soname()} ', read(BINDINGS, 'install'))
+        self.assertIn(f'r ≡ {major} ⌝ }}\n{{\n    {major}\n}}', read(*CRATE).split('scullpouch_interface')[1])
+        self.assertIn(f'the contract has the number, {major};', read(ROOT, 'docs', 'READING.md'))
+        for text in (section(), *(read(BINDINGS, *path) for path in (
+                ('README.md',), ('install',), ('python', 'scullpouch.py')))):
+            self.assertEqual({name for name in re.findall(r'libscullpouch\.so\.\w+', text)}, {soname()})
 
     # `unsafe` stands only at the calls.
     def test_unsafe(self):
@@ -415,6 +412,52 @@ class Interface(unittest.TestCase):
                 run('c++', f'-std={standard}', *flags, '-x', 'c++', '-', input=b'#include <scullpouch.h>\n')
 
 
+# What every language's documents say of a calendar that has more days than its cover, and the header of a refused
+# announcement.
+SAID = (
+    ("after the cover's last year", (
+        ('README.md',), ('docs', 'REFUSALS.md'), ('bindings', 'include', 'scullpouch.h'),
+        ('bindings', 'rust', 'src', 'lib.rs'), ('bindings', 'python', 'scullpouch.py'))),
+    ('/* Of a refused announcement the state is all zeros. */\ntypedef struct {\n    uint8_t refusal;\n'
+     '    scullpouch_intake state;\n} scullpouch_taken;', (('bindings', 'include', 'scullpouch.h'),)),
+)
+
+
+class Said(unittest.TestCase):
+
+    def test_said(self):
+        for words, paths in SAID:
+            for path in paths:
+                self.assertIn(words, read(ROOT, *path), path)
+
+
+# ---- Hostile input ----
+
+# What an attempt of hostile.py says on a module; '' where all is answered as it should be. A process that a signal ends
+# has a negative status.
+def attempted(name, built):
+    environment = {**built.environment, 'PYTHONPATH': built.source('python')}
+    ran = subprocess.run([sys.executable, os.path.join(TESTS, 'hostile.py'), name], stdout=subprocess.PIPE,
+                         stderr=subprocess.STDOUT, timeout=SECONDS, env=environment)
+    return f'status {ran.returncode}: {ran.stdout.decode(errors="replace")}' if ran.returncode or ran.stdout else ''
+
+
+# The attempts of hostile.py, each with a line of the module as it must not be: what stands there, and what stands there
+# instead.
+ATTEMPTS = {
+    'ids': ("str.encode(text, 'ascii', 'replace')", "str.encode(text, 'latin-1')"),
+    'items': ('    data = _bytes(data)\n    if len(data)', '    if len(data)'),
+    'counts': ('_fit(entered), _fit(left)', 'entered, left'),
+    'numbers': ('    number = int(index(number))\n', ''),
+    'lengths': ('if type(data) is bytes', 'if isinstance(data, bytes)'),
+    'room': ('    room = memoryview(buffer).nbytes\n    lent = (c_uint8 * room).from_buffer(buffer)\n',
+             '    lent = (c_uint8 * len(buffer)).from_buffer(buffer)\n    room = len(buffer)\n'),
+    'locks': ('del lent', 'pass'),
+    'verdicts': ('return self.same', 'return bool(self.key)'),
+    'marks': ('after = YEAR_MAP * held.cover.years', 'after = MAP'),
+}
+
+
 # ---- Planted faults ----
 
 # The part of bindings/, a file of it, what stands there and what stands there instead.
@@ -428,9 +471,11 @@ FAULTS = (
     ('include', 'scullpouch.h', '    if (o->refusal != 0) return o->refusal;\n    *table = o->table;',
      '    *table = o->table;\n    if (o->refusal != 0) return o->refusal;'),
     ('include', 'scullpouch.h', '= scullpouch_reopen(*table, day);', '= scullpouch_close(*table, day);'),
-    ('rust', 'src/lib.rs', '(!r.same).then_some(r.key)', 'r.same.then_some(r.key)'),
+    ('include', 'scullpouch.h', '* calendar->cover.years; i <', '* calendar->cover.years + 1; i <'),
+    ('rust', 'src/lib.rs', 'if r.same { Verdict::Same }', 'if r.key == 0 { Verdict::Same }'),
+    ('rust', 'src/lib.rs', '.chain(self.exchange.iter().skip(after))', ''),
     ('python', 'scullpouch.py', 'Moved(outcome.entered, outcome.left)', 'Moved(outcome.left, outcome.entered)'),
-    ('python', 'scullpouch.py', 'return None if reply.same else reply.key', 'return None'),
+    ('python', 'scullpouch.py', 'Verdict(reply.same, None', 'Verdict(True, None'),
 )
 
 
@@ -470,6 +515,20 @@ class Faults(unittest.TestCase):
             built = self.planted(*fault)
             with self.subTest(fault=fault[:3]), self.assertRaisesRegex(AssertionError, 'layout'):
                 self.assertEqual(self.found(self.program(fault[0], built), built), '')
+
+    # The module answers hostile input as it should, and with a wrong line it does not.
+    def test_hostile(self):
+        self.assertEqual(re.findall(r'^def (\w+)\(\):', read(TESTS, 'hostile.py'), re.M), list(ATTEMPTS))
+        for name, (old, new) in ATTEMPTS.items():
+            with self.subTest(attempt=name):
+                self.assertEqual(attempted(name, BUILT), '')
+                self.assertNotEqual(attempted(name, self.planted('python', 'scullpouch.py', old, new)), '')
+
+    # A module of another interface is not imported.
+    def test_interface(self):
+        major = version().split('.')[0]
+        built = self.planted('python', 'scullpouch.py', f'INTERFACE = {major}', f'INTERFACE = {major}0')
+        self.assertIn('has another interface', self.found(self.program('python', built), built))
 
     # Another wrong line: the comparison finds it.
     def test_comparisons(self):

@@ -265,16 +265,19 @@ static void call_load(void) {
     printf("%d %d %d\n", r.refusal, r.counts.years, r.counts.records);
 }
 
-static void taken(scullpouch_taken t, unsigned refusal, scullpouch_intake into) {
-    agree(t.refusal == refusal && memcmp(&into, refusal == 0 ? &t.state : &state, sizeof into) == 0);
+/* refused: the state of a refused call. */
+static void taken(scullpouch_taken t, unsigned refusal, scullpouch_intake into, const scullpouch_intake *refused) {
+    agree(t.refusal == refusal && memcmp(&into, refusal == 0 ? &t.state : &state, sizeof into) == 0 &&
+          (refusal == 0 || memcmp(&t.state, refused, sizeof into) == 0));
     state = into;
     printf("%d\n", t.refusal);
 }
 
 static void call_announce(void) {
+    static const scullpouch_intake zeros;
     scullpouch_intake into = state;
     unsigned refusal = scullpouch_announce_into(&into, (uint16_t)number[0]);
-    taken(scullpouch_announce((uint16_t)number[0]), refusal, into);
+    taken(scullpouch_announce((uint16_t)number[0]), refusal, into, &zeros);
 }
 
 /* The block is so many bytes of the file from a place on. */
@@ -285,7 +288,7 @@ static void call_take(void) {
     scullpouch_taken t = scullpouch_take(state, block, number[1]);
     unsigned refusal = scullpouch_take_into(&into, block, number[1]);
     free(block);
-    taken(t, refusal, into);
+    taken(t, refusal, into, &state);
 }
 
 static void call_finish(void) {
@@ -316,6 +319,8 @@ static void call_write(void) {
     free(records);
     free(buffer);
 }
+
+static void print_marked(void) { printf("%d\n", scullpouch_marked_after_cover(&calendar)); }
 
 /* ---- The round ---- */
 
@@ -409,6 +414,7 @@ static const struct {
     {"due", false, call_due}, {"tick", false, call_tick}, {"cash", false, call_cash}, {"judge", false, call_judge},
     {"record", false, call_record}, {"set", true, set}, {"keep", false, keep}, {"restore", false, restore},
     {"calendar", false, take_calendar}, {"make", false, call_make}, {"write", true, call_write},
+    {"marked", false, print_marked},
     {"announce", false, call_announce}, {"take", false, call_take}, {"finish", false, call_finish},
     {"numbers", false, set_queue}, {"queue", false, call_queue}, {"round", false, print_round},
     {"handle", false, call_handle}, {"join", false, call_join}, {"leave", false, call_leave},

@@ -34,12 +34,13 @@
 extern "C" {
 #endif
 
-#define SCULLPOUCH_INTERFACE 1 /* what scullpouch_interface() answers */
+#define SCULLPOUCH_INTERFACE 2 /* what scullpouch_interface() answers */
 #define SCULLPOUCH_FILE_AT_MOST 65536
 #define SCULLPOUCH_BLOCK 512
 #define SCULLPOUCH_RECORD 32
 #define SCULLPOUCH_PLACES 15
 #define SCULLPOUCH_MAP 736
+#define SCULLPOUCH_YEAR_MAP 46
 #define SCULLPOUCH_TABLES 200
 #define SCULLPOUCH_WEEKLY 5 /* the kind whose keys are days */
 
@@ -177,6 +178,7 @@ typedef struct {
     size_t length;
 } scullpouch_written;
 
+/* Of a refused announcement the state is all zeros. */
 typedef struct {
     uint8_t refusal;
     scullpouch_intake state;
@@ -188,7 +190,8 @@ typedef struct {
     scullpouch_intake state;
 } scullpouch_finished;
 
-/* same: whether the list is the table's listing; where it is not, key is the smallest that differs. */
+/* refusal 0 says that the list was judged; same: whether it is the table's listing; where it is not, key is the
+ * smallest that differs, which may be 0. */
 typedef struct {
     uint8_t refusal;
     bool same;
@@ -248,7 +251,8 @@ scullpouch_cash_reply scullpouch_cash(scullpouch_table table, uint32_t contracts
 scullpouch_verdict scullpouch_judge(scullpouch_table table, const uint16_t *list, size_t count);
 
 /* Writes the master file of a calendar and of records, 32 bytes each, into a buffer; a last record of fewer bytes is
- * not as stated (7). 3-8, 25 */
+ * not as stated (7). Days that are marked after the cover's last year are not in the file, and no question asks for
+ * them (scullpouch_marked_after_cover). 3-8, 25 */
 scullpouch_written scullpouch_write(scullpouch_calendar calendar, const uint8_t *records, size_t length,
                                     uint8_t *buffer, size_t room);
 
@@ -327,6 +331,13 @@ static inline size_t scullpouch_listed(const scullpouch_table *table) {
     size_t n = 0;
     while (n < SCULLPOUCH_PLACES && table->maturities[n].number != 0) n++;
     return n;
+}
+
+/* Whether a map has days marked after the cover's last year, which are in no file that scullpouch_write makes. */
+static inline bool scullpouch_marked_after_cover(const scullpouch_calendar *calendar) {
+    for (size_t i = (size_t)SCULLPOUCH_YEAR_MAP * calendar->cover.years; i < SCULLPOUCH_MAP; i++)
+        if (calendar->closed[i] != 0 || calendar->exchange[i] != 0) return true;
+    return false;
 }
 
 /* No call: what the next four share. */

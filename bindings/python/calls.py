@@ -101,6 +101,9 @@ class Calls:
             assert scullpouch.write(self.days, read(name)) == buffer[:length]
         return refusal, length, sum_of(buffer)
 
+    def marked(self):
+        return (int(self.days.marked_after_cover()),)
+
     # ---- Tables ----
 
     def open(self, code, date):
@@ -147,8 +150,8 @@ class Calls:
         return (refusal, int(cash[0]), *cash[1:])
 
     def judge(self, *numbers):
-        refusal, key = asked(self.held.judge, numbers, refused=0)
-        return refusal, int(key is None), key or 0
+        refusal, verdict = asked(self.held.judge, numbers, refused=scullpouch.Verdict(False, 0))
+        return refusal, int(bool(verdict)), verdict.key or 0
 
     def record(self):
         return (self.held.product.record().hex(),)

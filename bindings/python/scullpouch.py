@@ -5,10 +5,12 @@
 
 A day is a number from 0, 1 January 2000; a month is a number from 0, January 2000. The key
 of a maturity is its month, or the day of a weekly option's Friday. A call gives its value
-or raises Refused; a refused call leaves the table, queue or load as it was. A number or a
-map that does not fit its C type is a ValueError.
+or raises Refused; a refused call leaves the table, queue or load as it was. A number, a
+map or a stored table that does not fit its C type is a ValueError. Files, records, blocks,
+maps and stored tables are the bytes of anything that has the buffer protocol, however it
+measures itself.
 
-The shared object is libscullpouch.so.1, or the file that the variable SCULLPOUCH names.
+The shared object is libscullpouch.so.2, or the file that the variable SCULLPOUCH names.
 """
 
 import ctypes
@@ -16,11 +18,13 @@ import os
 from collections import namedtuple
 from ctypes import c_bool, c_size_t, c_uint8, c_uint16, c_uint32, c_uint64
 from itertools import takewhile
+from operator import index
 
-INTERFACE = 1
+INTERFACE = 2
 FILE_AT_MOST = 65536
 PLACES = 15
 MAP = 736
+YEAR_MAP = 46
 TABLES = 200
 WEEKLY = 5  # the kind whose keys are days
 
@@ -256,29 +260,41 @@ def _calls_of(path):
 for _struct, _layout in _LAYOUT.items():
     if _layout_of(_struct) != _layout:
         raise ImportError(f'scullpouch: the layout of {_struct.__name__}')
-_call = _calls_of(os.environ.get('SCULLPOUCH', 'libscullpouch.so.1'))
+_call = _calls_of(os.environ.get('SCULLPOUCH', 'libscullpouch.so.2'))
 
 
 # ---- Arguments and answers ----
 
 # ctypes would cut a number that does not fit its C type, so each is held to its range.
 def _fit(number, bits=16):
+    number = int(index(number))
     if not 0 <= number < 1 << bits:
         raise ValueError(f'{number} does not fit {bits} bits')
     return number
 
 
-# A map of a calendar; ctypes would cut a longer one.
-def _map(data):
-    if len(data) != MAP:
-        raise ValueError(f'a map has {MAP} bytes')
-    return (c_uint8 * MAP).from_buffer_copy(data)
+# The bytes that an object lends. They are copied where they could change meanwhile, or where the object could measure
+# itself otherwise than its bytes are.
+def _bytes(data):
+    return data if type(data) is bytes else memoryview(data).tobytes()
 
 
-# Bytes and their length. They are copied where they could change meanwhile.
+# Bytes and their length.
 def _lent(data):
-    data = data if isinstance(data, bytes) else bytes(memoryview(data))
+    data = _bytes(data)
     return data, len(data)
+
+
+# Bytes that have the size of a C type, which would cut longer ones.
+def _sized(kind, data, name):
+    data = _bytes(data)
+    if len(data) != ctypes.sizeof(kind):
+        raise ValueError(f'a {name} has {ctypes.sizeof(kind)} bytes')
+    return kind.from_buffer_copy(data)
+
+
+def _map(data):
+    return _sized(c_uint8 * MAP, data, 'map')
 
 
 def _judged(reply):
@@ -289,10 +305,17 @@ def _judged(reply):
 
 # The bytes of a code, such as an id, filled up with spaces.
 def _code(text, length=4):
-    code = text.encode('latin-1')
+    code = str.encode(text, 'latin-1')
     if len(code) > length:
         raise ValueError(f'{text!r} has more than {length} characters')
     return (c_uint8 * length)(*code.ljust(length))
+
+
+# The id of a text. A character that is not ASCII becomes '?', a text of more than 4 characters four spaces: no record
+# has either, so open refuses them as any id that is not there.
+def _id(text):
+    code = str.encode(text, 'ascii', 'replace')
+    return _Id((c_uint8 * 4)(*(code if len(code) <= 4 else b'').ljust(4)))
 
 
 def _text(code):
@@ -303,6 +326,16 @@ Maturity = namedtuple('Maturity', 'key day back number')
 Counts = namedtuple('Counts', 'years records')
 Moved = namedtuple('Moved', 'entered left')
 Cash = namedtuple('Cash', 'negative amount rest')
+
+
+class Verdict(namedtuple('Verdict', 'same key')):
+    """What is said of a list: whether it is the table's listing, and the smallest key that differs, None where it is.
+    It is true where same is."""
+
+    __slots__ = ()
+
+    def __bool__(self):
+        return self.same
 
 
 class Product(namedtuple('Product', 'id group market kind currency size tick')):
@@ -322,6 +355,12 @@ class Calendar(namedtuple('Calendar', 'first_year years closed exchange')):
 
     def _held(self):
         return _Calendar(_Cover(_fit(self.first_year), _fit(self.years)), _map(self.closed), _map(self.exchange))
+
+    def marked_after_cover(self):
+        """Whether a map has days marked after the cover's last year, which are in no file that write makes."""
+        held = self._held()
+        after = YEAR_MAP * held.cover.years
+        return any(bytes(held.closed)[after:] + bytes(held.exchange)[after:])
 
 
 def _calendar_of(held):
@@ -356,16 +395,21 @@ def make(seed, first_year, years):
 
 def write_into(buffer, calendar, records):
     """Writes the master file of a calendar and of records, 32 bytes each, into a bytearray that nobody else uses
-    meanwhile: the file's length. What stands after the file stays; refused, everything does."""
-    records, length = _lent(records)
-    lent = (c_uint8 * len(buffer)).from_buffer(buffer)
-    reply = _call['write'](calendar._held(), records, length, lent, len(buffer))
-    del lent  # a lent bytearray cannot be made longer, also where the call is refused
+    meanwhile: the file's length. What stands after the file stays; refused, everything does. Days that are marked
+    after the cover's last year are not in the file (Calendar.marked_after_cover)."""
+    held, (records, length) = calendar._held(), _lent(records)
+    room = memoryview(buffer).nbytes
+    lent = (c_uint8 * room).from_buffer(buffer)
+    try:
+        reply = _call['write'](held, records, length, lent, room)
+    finally:
+        del lent  # a lent bytearray cannot be made longer, also where an error is raised
     return _judged(reply).length
 
 
 def write(calendar, records):
-    """The master file of a calendar and of records, 32 bytes each."""
+    """The master file of a calendar and of records, 32 bytes each. Days that are marked after the cover's last year
+    are not in it (Calendar.marked_after_cover)."""
     buffer = bytearray(FILE_AT_MOST)
     return bytes(buffer[:write_into(buffer, calendar, records)])
 
@@ -389,10 +433,8 @@ class Intake:
 # ---- Tables ----
 
 def open(file, id, date):  # noqa: A001, A002
-    """The table of a product of a master file on a date."""
-    # no file has an id of spaces
-    known = _code(id) if len(id) <= 4 else _code('')
-    return Table(_judged(_call['open'](*_lent(file), _Id(known), _fit(date))))
+    """The table of a product of a master file on a date. An id that no record can have is not there (9)."""
+    return Table(_judged(_call['open'](*_lent(file), _id(id), _fit(date))))
 
 
 class Table:
@@ -450,11 +492,11 @@ class Table:
         return Cash(cash.negative, cash.amount, cash.rest)
 
     def judge(self, numbers):
-        """Whether keys and last trading days, in turn, are the table's listing: None, or the smallest key that
-        differs."""
+        """Whether keys and last trading days, in turn, are the table's listing: a Verdict, true where they are, with
+        the smallest key that differs where they are not."""
         numbers = [_fit(number) for number in numbers]
         reply = _judged(_call['judge'](self._held, (c_uint16 * len(numbers))(*numbers), len(numbers)))
-        return None if reply.same else reply.key
+        return Verdict(reply.same, None if reply.same else reply.key)
 
     @property
     def product(self):
@@ -489,10 +531,10 @@ class Table:
 
     @classmethod
     def from_bytes(cls, data, moved=Moved(0, 0)):
-        """A table that was stored. Calls refuse one that is not sound (10)."""
-        if len(data) != ctypes.sizeof(_Table):
-            raise ValueError(f'a table has {ctypes.sizeof(_Table)} bytes')
-        return cls(_Outcome(0, *moved, _Table.from_buffer_copy(data)))
+        """A table that was stored, and how many maturities entered and left before. Calls refuse one that is not
+        sound (10)."""
+        entered, left = moved
+        return cls(_Outcome(0, _fit(entered), _fit(left), _sized(_Table, data, 'table')))
 
     def __eq__(self, other):
         return isinstance(other, Table) and bytes(self) == bytes(other)

@@ -1,6 +1,8 @@
 //! A line of input for each call of the crate, a line of output for each answer (bindings/README.md).
 
-use scullpouch::{load, Calendar, Counts, Cover, Day, Intake, Maturity, Moved, Product, Queue, Refusal, Table};
+use scullpouch::{
+    load, Calendar, Counts, Cover, Day, Intake, Maturity, Moved, Product, Queue, Refusal, Table, Verdict,
+};
 use std::fmt::Display;
 use std::io::{self, BufRead, Write};
 use std::time::Instant;
@@ -247,7 +249,11 @@ impl Held {
             }
             "judge" => {
                 let answer = self.table.judge(&w.shorts());
-                let (same, key) = answer.map_or((0, 0), |key| (u8::from(key.is_none()), key.unwrap_or(0)));
+                let (same, key) = match answer {
+                    Ok(Verdict::Same) => (1, 0),
+                    Ok(Verdict::Differs(key)) => (0, key),
+                    Err(_) => (0, 0),
+                };
                 line(&[&refusal_of(&answer), &same, &key])
             }
             "record" => hex(&self.table.product.record()),
@@ -276,6 +282,7 @@ impl Held {
                 line(&[&refusal_of(&answer), &calendar_text(&self.calendar)])
             }
             "write" => self.write(w.text(), w.number(1) as usize),
+            "marked" => u8::from(self.calendar.marked_after_cover()).to_string(),
             "round" => queue_text(&self.queue),
             "handle" => self.handle(w.short(0)),
             "join" => line(&[&refusal_of(&self.queue.join(w.short(0)))]),

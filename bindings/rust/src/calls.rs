@@ -81,7 +81,7 @@ pub struct Finished {
 }
 
 #[repr(C)]
-pub struct Verdict {
+pub struct VerdictReply {
     pub refusal: u8,
     pub same: bool,
     pub key: u16,
@@ -120,7 +120,7 @@ extern "C" {
     pub fn scullpouch_due(table: Table, day: u16) -> DayReply;
     pub fn scullpouch_tick(table: Table, price: u32) -> u8;
     pub fn scullpouch_cash(table: Table, contracts: u32, agreed: u32, final_price: u32) -> CashReply;
-    pub fn scullpouch_judge(table: Table, list: *const u16, count: usize) -> Verdict;
+    pub fn scullpouch_judge(table: Table, list: *const u16, count: usize) -> VerdictReply;
     pub fn scullpouch_write(
         calendar: Calendar,
         records: *const u8,

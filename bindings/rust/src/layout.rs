@@ -30,7 +30,7 @@ layout!(Written, 16, refusal 0, length 8);
 layout!(Intake, 18, announced 0, taken 2, lowest 4, first_year 6, years 8, idle 10, records 12, last_id 14);
 layout!(Taken, 20, refusal 0, state 2);
 layout!(Finished, 24, refusal 0, counts 2, state 6);
-layout!(Verdict, 4, refusal 0, same 1, key 2);
+layout!(VerdictReply, 4, refusal 0, same 1, key 2);
 layout!(Queue, 402, tables 0, count 400);
 layout!(Handled, 806, refusal 0, taken 2, queue 404);
 layout!(Changed, 404, refusal 0, queue 2);

@@ -22,6 +22,9 @@ pub const BLOCK: usize = 512;
 /// The bytes of a record of it.
 pub const RECORD: usize = 32;
 
+/// The bytes of a year in a calendar's map.
+pub const YEAR_MAP: usize = 46;
+
 /// The kind of a weekly option, whose keys are days.
 pub const WEEKLY: u8 = 5;
 
@@ -125,6 +128,16 @@ pub struct Amount {
     pub rest: u16,
 }
 
+/// What is said of a list of keys and last trading days.
+#[derive(Clone, Copy, Debug, PartialEq, Eq)]
+#[must_use]
+pub enum Verdict {
+    /// It is the table's listing.
+    Same,
+    /// It is not, and this is the smallest key that differs.
+    Differs(u16),
+}
+
 /// The counts of an accepted master file.
 #[derive(Clone, Copy, Debug, PartialEq, Eq)]
 #[repr(C)]
@@ -155,8 +168,16 @@ impl Calendar {
         judged(r.refusal, r.calendar)
     }
 
+    /// Whether a map has days marked after the cover's last year, which are in no file that
+    /// `write` makes.
+    pub fn marked_after_cover(&self) -> bool {
+        let after = YEAR_MAP * usize::from(self.cover.years);
+        self.closed.iter().skip(after).chain(self.exchange.iter().skip(after)).any(|byte| *byte != 0)
+    }
+
     /// Writes the master file of this calendar and of records, 32 bytes each, and answers its
-    /// length. What stands in the buffer after the file stays; refused, everything does.
+    /// length. What stands in the buffer after the file stays; refused, everything does. Days that
+    /// are marked after the cover's last year are not in the file (`marked_after_cover`).
     pub fn write(&self, records: &[u8], buffer: &mut [u8]) -> Result<usize, Refusal> {
         let (calendar, room) = (self.clone(), buffer.len());
         let r =
@@ -278,11 +299,10 @@ impl Table {
         judged(r.refusal, r.cash)
     }
 
-    /// Whether a list of keys and last trading days, in turn, is the table's listing: `None`, or
-    /// the smallest key that differs.
-    pub fn judge(&self, list: &[u16]) -> Result<Option<u16>, Refusal> {
+    /// Whether a list of keys and last trading days, in turn, is the table's listing.
+    pub fn judge(&self, list: &[u16]) -> Result<Verdict, Refusal> {
         let r = unsafe { calls::scullpouch_judge(self.clone(), list.as_ptr(), list.len()) };
-        judged(r.refusal, (!r.same).then_some(r.key))
+        judged(r.refusal, if r.same { Verdict::Same } else { Verdict::Differs(r.key) })
     }
 }
 
