@@ -47,7 +47,7 @@ class Script:
         self.answers = []
         self.files = {}
         self.seen = set()
-        self.file = b''
+        self.file = self.judged = b''
         self.table = self.kept = table.ZERO_TABLE
         self.calendar = table.ZERO_TABLE.calendar
         self.state = None
@@ -93,6 +93,13 @@ class Script:
     def load(self):
         self.ask(('load',), *master.load(self.file))
 
+    # The file is kept, where it is accepted; its calendar is that of the file kept.
+    def judge_file(self):
+        refusal = master.load(self.file)[0]
+        self.judged = self.judged if refusal else self.file
+        kept = master.contents(self.judged)[0] if self.judged else table.ZERO_TABLE.calendar
+        return self.ask(('judge_file',), refusal, kept.first_year, kept.years, *calendar_sums(kept))
+
     def announce(self, blocks):
         refusal, state = intake.announce(blocks, intake.Whole)
         self.state = state or self.state
@@ -126,10 +133,17 @@ class Script:
     # ---- Tables ----
 
     def open(self, code, date):
+        return self.open_from('open', self.file, code, date)
+
+    # The file kept is an accepted one, so it is opened as any.
+    def open_in(self, code, date):
+        return self.open_from('open_in', self.judged, code, date)
+
+    def open_from(self, call, file, code, date):
         name = code.ljust(4) if len(code) <= 4 else b'    '
-        refusal, held, entered, left = table.open_table(self.file, name, date)
+        refusal, held, entered, left = table.open_table(file, name, date)
         self.table = self.table if refusal else held
-        return self.ask(('open', code.decode('ascii'), date), refusal, entered, left)
+        return self.ask((call, code.decode('ascii'), date), refusal, entered, left)
 
     def move(self, name, day):
         refusal, self.table, entered, left = getattr(table, name)(self.table, day)
@@ -276,19 +290,30 @@ def some_blocks(script):
     script.finish()
 
 
-# Files of every sort, loaded whole and by blocks, and opens of some of their products.
-def some_files(script):
+# Opens of some products of a file's parts, and of ids that are not there.
+def some_opens(script, call, layout):
     chance = script.chance
+    first, last = trading.first_day(layout.calendar), trading.last_day(layout.calendar)
+    codes = [one.id.rstrip() for one in layout.products]
+    for code in (chance.choice(codes), chance.choice(codes), chance.choice((b'NONE', b'AX', b'TOOLONG'))):
+        call(code, chance.choice((first, first + 7, chance.randint(first, last), last, last + 1)))
+        script.show()
+
+
+# Files of every sort, loaded whole and by blocks, and opens of some of their products, and of those of the accepted file
+# that was judged last.
+def some_files(script):
+    accepted = None
     for _ in range(8):
-        layout, file = some_file(chance)
+        layout, file = some_file(script.chance)
         script.use(file)
         script.load()
         some_blocks(script)
-        first, last = trading.first_day(layout.calendar), trading.last_day(layout.calendar)
-        codes = [one.id.rstrip() for one in layout.products]
-        for code in (chance.choice(codes), chance.choice(codes), chance.choice((b'NONE', b'AX', b'TOOLONG'))):
-            script.open(code, chance.choice((first, first + 7, chance.randint(first, last), last, last + 1)))
-            script.show()
+        some_opens(script, script.open, layout)
+        if script.judge_file() == 0:
+            accepted = layout
+        if accepted:
+            some_opens(script, script.open_in, accepted)
 
 
 # A file of every kind of product, of which histories are told.
@@ -326,7 +351,7 @@ def opened(script, calendar, items):
     first, last = trading.first_day(calendar), trading.last_day(calendar)
     for _ in range(40):
         item, date = chance.choice(items), chance.randint(first, chance.choice((first + 60, last)))
-        if script.open(item.id.rstrip(), date) == 0:
+        if chance.choice((script.open, script.open_in))(item.id.rstrip(), date) == 0:
             script.show()
             return True
     return False
@@ -412,6 +437,7 @@ def some_damages(script, calendar, items):
 def some_histories(script):
     calendar, items, file = file_of_histories(script.chance)
     script.use(file)
+    script.judge_file()
     for _ in range(3):
         some_history(script, calendar, items, 8)
         some_end(script, calendar, items)
@@ -477,7 +503,8 @@ PARTS = (some_days, some_files, some_histories, some_writings, some_rounds)
 # What the scripts of a set must have: every refusal of every call, both verdicts on a list, and files written from
 # calendars with and without days after their cover.
 ANSWERS = {
-    'day': (0, 23), 'date': (0, 23), 'load': range(9), 'open': (*range(10), 11, 16, 24), 'roll': (0, 10, 11, 12, 16),
+    'day': (0, 23), 'date': (0, 23), 'load': range(9), 'open': (*range(10), 11, 16, 24),
+    'judge_file': range(9), 'open_in': (0, 9, 11, 16, 24), 'roll': (0, 10, 11, 12, 16),
     'close': (0, 10, 11, 13, 14, 15, 16), 'reopen': (0, 10, 11, 13, 26, 27), 'measure': (0, 10, 19, 21, 28, 29),
     'last': (0, 10, 18), 'due': (0, 10, 11, 17), 'tick': (0, 10, 19, 20), 'cash': (0, 10, 19, 20, 21, 22),
     'judge': (0, 10), 'announce': (0, 1), 'take': (0, 1), 'finish': range(9), 'make': (0, 4),

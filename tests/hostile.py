@@ -89,6 +89,7 @@ def ids():
             for date in (DATE, 0):
                 refusal = table.open_table(file, b'\xff' * 4, date)[0]
                 expect(came(scullpouch.open, file, text, date), ('refused', refusal), (text, len(file), date))
+        expect(came(scullpouch.Master(FILE).open, text, DATE), ('refused', 9), text)
     expect(came(scullpouch.open, FILE, b'AXA', DATE), 'TypeError')
 
 
@@ -140,6 +141,7 @@ def lengths():
         expect(came(scullpouch.load, lying(FILE)), (years, records), lying)
         expect(came(scullpouch.load, lying(FILE[:511])), ('refused', 1), lying)
         expect(bytes(scullpouch.open(lying(FILE), 'AXA', DATE)), stored, lying)
+        expect(bytes(scullpouch.Master(lying(FILE)).open('AXA', DATE)), stored, lying)
         expect(came(scullpouch.Intake(2).take, lying(FILE[:511])), ('refused', 1), lying)
         expect(came(scullpouch.Intake(2).take, lying(FILE[:512])), None, lying)
         expect(came(scullpouch.write, calendar, lying(record)), right, lying)
@@ -163,6 +165,17 @@ def room():
     expect(wide.tobytes(), scullpouch.write(calendar, records))
     expect(came(scullpouch.write_into, bytes(LARGEST), calendar, records), 'TypeError')
     expect(came(scullpouch.write_into, memoryview(bytearray(2 * LARGEST))[::2], calendar, records), 'TypeError')
+
+
+# A file that was judged stays as it was then, whatever becomes of the caller's.
+def changes():
+    right = bytes(scullpouch.open(FILE, 'AXA', DATE))
+    file = bytearray(FILE)
+    judged = scullpouch.Master(file)
+    file[:] = bytes(len(file))
+    expect(bytes(judged.open('AXA', DATE)), right)
+    del file[512:]
+    expect(bytes(judged.open('AXA', DATE)), right)
 
 
 # A bytearray is the caller's own again while an error is still at hand.

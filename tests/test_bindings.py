@@ -452,6 +452,9 @@ ATTEMPTS = {
     'lengths': ('if type(data) is bytes', 'if isinstance(data, bytes)'),
     'room': ('    room = memoryview(buffer).nbytes\n    lent = (c_uint8 * room).from_buffer(buffer)\n',
              '    lent = (c_uint8 * len(buffer)).from_buffer(buffer)\n    room = len(buffer)\n'),
+    'changes': ("        self._lent = _lent(file)\n        self._said = _judged(_call['judge_file'](*self._lent))\n",
+                "        self._said = _judged(_call['judge_file'](*_lent(file)))\n        self._file = file\n\n"
+                '    @property\n    def _lent(self):\n        return _lent(self._file)\n'),
     'locks': ('del lent', 'pass'),
     'verdicts': ('return self.same', 'return bool(self.key)'),
     'marks': ('after = YEAR_MAP * held.cover.years', 'after = MAP'),
@@ -473,9 +476,11 @@ FAULTS = (
     ('include', 'scullpouch.h', '= scullpouch_reopen(*table, day);', '= scullpouch_close(*table, day);'),
     ('include', 'scullpouch.h', '* calendar->cover.years; i <', '* calendar->cover.years + 1; i <'),
     ('rust', 'src/lib.rs', 'if r.same { Verdict::Same }', 'if r.key == 0 { Verdict::Same }'),
+    ('include', 'scullpouch.h', 'if (j.refusal == 0) *judged = j;', '*judged = j;'),
     ('rust', 'src/lib.rs', '.chain(self.exchange.iter().skip(after))', ''),
     ('python', 'scullpouch.py', 'Moved(outcome.entered, outcome.left)', 'Moved(outcome.left, outcome.entered)'),
     ('python', 'scullpouch.py', 'Verdict(reply.same, None', 'Verdict(True, None'),
+    ('python', 'scullpouch.py', "_call['open_in'](self._said,", "_call['open_in'](_FileCalendar(),"),
 )
 
 

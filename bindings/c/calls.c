@@ -13,6 +13,9 @@
 
 static uint8_t *file;
 static size_t file_length;
+static scullpouch_file_calendar judged;
+static uint8_t *judged_file;
+static size_t judged_length;
 static scullpouch_table table, kept;
 static scullpouch_calendar calendar;
 static scullpouch_intake state;
@@ -40,6 +43,10 @@ static bool same_table(const scullpouch_table *a, const scullpouch_table *b) {
     return same_product(&a->product, &b->product) && memcmp(&a->calendar, &b->calendar, sizeof a->calendar) == 0 &&
            a->date == b->date && a->given == b->given &&
            memcmp(a->maturities, b->maturities, sizeof a->maturities) == 0;
+}
+
+static bool same_calendar(const scullpouch_calendar *a, const scullpouch_calendar *b) {
+    return memcmp(a, b, sizeof *a) == 0;
 }
 
 static bool same_queue(const scullpouch_round *a, const scullpouch_round *b) {
@@ -136,6 +143,31 @@ static void call_open(void) {
     scullpouch_outcome o = scullpouch_open(bytes, file_length, scullpouch_id_of(word), date);
     unsigned refusal = scullpouch_open_into(&into, bytes, file_length, word, date, &entered, &left);
     free(bytes);
+    outcome(o, refusal, into, entered, left, &zeros);
+}
+
+/* What was said of a file, its refusal changed to one that no file gets, is the answer. */
+static void agree_on_refusal(uint16_t date) {
+    static const scullpouch_table zeros;
+    scullpouch_file_calendar other = judged;
+    other.refusal = 99;
+    scullpouch_outcome o = scullpouch_open_in(other, judged_file, judged_length, scullpouch_id_of(word), date);
+    agree(o.refusal == 99 && o.entered == 0 && o.left == 0 && same_table(&o.table, &zeros));
+}
+
+/* Opens from the file that was judged, as open does. */
+static void call_open_in(void) {
+    static const scullpouch_table zeros;
+    scullpouch_table into = table;
+    uint16_t date = (uint16_t)number[0], entered = 0, left = 0;
+    scullpouch_id id = scullpouch_id_of(word);
+    scullpouch_outcome o = scullpouch_open_in(judged, judged_file, judged_length, id, date);
+    scullpouch_outcome whole = scullpouch_open(judged_file, judged_length, id, date);
+    agree(o.refusal == whole.refusal && o.entered == whole.entered && o.left == whole.left &&
+          same_table(&o.table, &whole.table));
+    agree_on_refusal(date);
+    unsigned refusal =
+        scullpouch_open_in_into(&into, &judged, judged_file, judged_length, word, date, &entered, &left);
     outcome(o, refusal, into, entered, left, &zeros);
 }
 
@@ -263,6 +295,26 @@ static void call_load(void) {
     scullpouch_loaded r = scullpouch_load(bytes, file_length);
     free(bytes);
     printf("%d %d %d\n", r.refusal, r.counts.years, r.counts.records);
+}
+
+/* The file is kept with what was said of it, where it is accepted. */
+static void call_judge_file(void) {
+    static const scullpouch_calendar zeros;
+    scullpouch_file_calendar into = judged;
+    uint8_t *bytes = lent(file, file_length);
+    scullpouch_file_calendar j = scullpouch_judge_file(bytes, file_length);
+    unsigned refusal = scullpouch_judge_file_into(&into, bytes, file_length);
+    agree(j.refusal == refusal && same_calendar(&into.calendar, refusal == 0 ? &j.calendar : &judged.calendar) &&
+          (refusal == 0 || same_calendar(&j.calendar, &zeros)));
+    free(refusal == 0 ? judged_file : bytes);
+    if (refusal == 0) {
+        judged_file = bytes;
+        judged_length = file_length;
+    }
+    judged = into;
+    printf("%d", j.refusal);
+    print_calendar(&judged.calendar);
+    putchar('\n');
 }
 
 /* refused: the state of a refused call. */
@@ -409,6 +461,7 @@ static const struct {
 } commands[] = {
     {"interface", false, call_interface}, {"question", false, print_question}, {"day", false, call_day},
     {"date", false, call_date}, {"file", true, set_file}, {"load", false, call_load}, {"open", true, call_open},
+    {"judge_file", false, call_judge_file}, {"open_in", true, call_open_in},
     {"roll", false, call_roll}, {"close", false, call_close}, {"reopen", false, call_reopen},
     {"measure", false, call_measure}, {"table", false, print_table}, {"last", false, call_last},
     {"due", false, call_due}, {"tick", false, call_tick}, {"cash", false, call_cash}, {"judge", false, call_judge},
@@ -443,5 +496,6 @@ int main(void) {
     while (getline(&line, &room, stdin) > 0) answer(line);
     free(line);
     free(file);
+    free(judged_file);
     return fflush(stdout) != 0;
 }

@@ -13,7 +13,7 @@ import scullpouch  # noqa: E402
 LOOPS = 50
 SUM_MODULUS = 65521
 PRODUCT = ('id', 'group', 'market', 'kind', 'currency', 'size', 'tick')
-TEXTS = ('file', 'open', 'set', 'write')  # the commands whose first word is a text
+TEXTS = ('file', 'open', 'open_in', 'set', 'write')  # the commands whose first word is a text
 ZERO_TABLE = scullpouch.Table.from_bytes(bytes(1624))
 
 
@@ -51,6 +51,7 @@ class Calls:
 
     def __init__(self):
         self.bytes = b''
+        self.master = None
         self.held = self.kept = ZERO_TABLE
         self.days = ZERO_TABLE.calendar
         self.load_state = None
@@ -77,6 +78,10 @@ class Calls:
     def load(self):
         refusal, counts = asked(scullpouch.load, self.bytes, refused=(0, 0))
         return (refusal, *counts)
+
+    def judge_file(self):
+        refusal, self.master = asked(scullpouch.Master, self.bytes, refused=self.master)
+        return (refusal, *calendar_words(self.master.calendar if self.master else ZERO_TABLE.calendar))
 
     def announce(self, blocks):
         refusal, state = asked(scullpouch.Intake, blocks)
@@ -106,9 +111,15 @@ class Calls:
 
     # ---- Tables ----
 
-    def open(self, code, date):
-        refusal, self.held = asked(scullpouch.open, self.bytes, code, date, refused=self.held)
+    def opened(self, call, *arguments):
+        refusal, self.held = asked(call, *arguments, refused=self.held)
         return (refusal, *((0, 0) if refusal else self.held.moved))
+
+    def open(self, code, date):
+        return self.opened(scullpouch.open, self.bytes, code, date)
+
+    def open_in(self, code, date):
+        return self.opened(self.master.open, code, date)
 
     def outcome(self, call, day):
         refusal, moved = asked(call, day, refused=(0, 0))

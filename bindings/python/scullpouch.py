@@ -144,6 +144,10 @@ class _Loaded(ctypes.Structure):
     _fields_ = [('refusal', c_uint8), ('counts', _Counts)]
 
 
+class _FileCalendar(ctypes.Structure):
+    _fields_ = [('refusal', c_uint8), ('calendar', _Calendar)]
+
+
 class _Written(ctypes.Structure):
     _fields_ = [('refusal', c_uint8), ('length', c_size_t)]
 
@@ -199,6 +203,7 @@ _LAYOUT = {
     _CashReply: (32, dict(refusal=0, cash=8)),
     _Counts: (4, dict(years=0, records=2)),
     _Loaded: (6, dict(refusal=0, counts=2)),
+    _FileCalendar: (1478, dict(refusal=0, calendar=2)),
     _Written: (16, dict(refusal=0, length=8)),
     _Intake: (18, dict(announced=0, taken=2, lowest=4, first_year=6, years=8, idle=10, records=12, last_id=14)),
     _Taken: (20, dict(refusal=0, state=2)),
@@ -217,6 +222,8 @@ _SIGNATURES = {
     'date': (_DateReply, c_uint16),
     'load': (_Loaded, *_BYTES),
     'open': (_Outcome, *_BYTES, _Id, c_uint16),
+    'judge_file': (_FileCalendar, *_BYTES),
+    'open_in': (_Outcome, _FileCalendar, *_BYTES, _Id, c_uint16),
     'roll': (_Outcome, _Table, c_uint16),
     'close': (_Outcome, _Table, c_uint16),
     'reopen': (_Outcome, _Table, c_uint16),
@@ -433,8 +440,26 @@ class Intake:
 # ---- Tables ----
 
 def open(file, id, date):  # noqa: A001, A002
-    """The table of a product of a master file on a date. An id that no record can have is not there (9)."""
+    """The table of a product of a master file on a date. An id that no record can have is not there (9). Master judges
+    the file once for many."""
     return Table(_judged(_call['open'](*_lent(file), _id(id), _fit(date))))
+
+
+class Master:
+    """A master file, bytes, that was judged once, for many opens. It keeps the bytes that were judged."""
+
+    def __init__(self, file):
+        self._lent = _lent(file)
+        self._said = _judged(_call['judge_file'](*self._lent))
+
+    @property
+    def calendar(self):
+        """The file's calendar."""
+        return _calendar_of(self._said.calendar)
+
+    def open(self, id, date):  # noqa: A002
+        """The table of a product of the file on a date: what open answers."""
+        return Table(_judged(_call['open_in'](self._said, *self._lent, _id(id), _fit(date))))
 
 
 class Table:

@@ -1,7 +1,7 @@
 //! A line of input for each call of the crate, a line of output for each answer (bindings/README.md).
 
 use scullpouch::{
-    load, Calendar, Counts, Cover, Day, Intake, Maturity, Moved, Product, Queue, Refusal, Table, Verdict,
+    load, Calendar, Counts, Cover, Day, Intake, Master, Maturity, Moved, Product, Queue, Refusal, Table, Verdict,
 };
 use std::fmt::Display;
 use std::io::{self, BufRead, Write};
@@ -13,6 +13,7 @@ const SUM_MODULUS: u64 = 65521;
 // What the lines before have left.
 struct Held {
     file: Vec<u8>,
+    master: Option<Master<'static>>,
     table: Table,
     kept: Table,
     calendar: Calendar,
@@ -115,11 +116,23 @@ impl Held {
         let calendar = Calendar { cover, closed: [0; 736], exchange: [0; 736] };
         let unused = Maturity { key: 0, day: Day(0), back: 0, number: 0 };
         let table = Table { product, calendar: calendar.clone(), date: Day(0), given: 0, maturities: [unused; 15] };
-        Held { file: Vec::new(), kept: table.clone(), table, calendar, state: None, queue: Queue::new() }
+        Held { file: Vec::new(), master: None, kept: table.clone(), table, calendar, state: None, queue: Queue::new() }
     }
 
     fn open(&mut self, id: &str, date: Day) -> Result<Moved, Refusal> {
         let (table, moved) = Table::open(&self.file, id, date)?;
+        self.table = table;
+        Ok(moved)
+    }
+
+    // The file as it is now, which stays for the rest of the run.
+    fn judge_file(&mut self) -> Result<(), Refusal> {
+        self.master = Some(Master::judge(self.file.clone().leak())?);
+        Ok(())
+    }
+
+    fn open_in(&mut self, id: &str, date: Day) -> Result<Moved, Refusal> {
+        let (table, moved) = self.master.as_ref().unwrap().open(id, date)?;
         self.table = table;
         Ok(moved)
     }
@@ -227,6 +240,7 @@ impl Held {
     fn on_table(&mut self, name: &str, w: &Words) -> Option<String> {
         Some(match name {
             "open" => moved_text(self.open(w.text(), w.day(1))),
+            "open_in" => moved_text(self.open_in(w.text(), w.day(1))),
             "roll" => moved_text(self.table.roll(w.day(0))),
             "close" => moved_text(self.table.close(w.day(0))),
             "reopen" => moved_text(self.table.reopen(w.day(0))),
@@ -274,6 +288,11 @@ impl Held {
                 line(&[&refusal_of(&answer), &year, &month, &day])
             }
             "load" => counts_text(load(&self.file)),
+            "judge_file" => {
+                let answer = self.judge_file();
+                let calendar = self.master.as_ref().map(|m| calendar_text(m.calendar()));
+                line(&[&refusal_of(&answer), &calendar.unwrap_or("0 0 0 0".to_string())])
+            }
             "announce" => line(&[&refusal_of(&self.announce(w.short(0)))]),
             "take" => line(&[&refusal_of(&self.take(w.number(0) as usize, w.number(1) as usize))]),
             "finish" => counts_text(self.state.as_ref().unwrap().finish()),

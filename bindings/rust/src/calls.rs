@@ -61,6 +61,13 @@ pub struct Loaded {
     pub counts: Counts,
 }
 
+#[derive(Clone, Debug)]
+#[repr(C)]
+pub struct FileCalendar {
+    pub refusal: u8,
+    pub calendar: Calendar,
+}
+
 #[repr(C)]
 pub struct Written {
     pub refusal: u8,
@@ -112,6 +119,8 @@ extern "C" {
     pub fn scullpouch_date(day: u16) -> DateReply;
     pub fn scullpouch_load(file: *const u8, length: usize) -> Loaded;
     pub fn scullpouch_open(file: *const u8, length: usize, id: Id, date: u16) -> Outcome;
+    pub fn scullpouch_judge_file(file: *const u8, length: usize) -> FileCalendar;
+    pub fn scullpouch_open_in(judged: FileCalendar, file: *const u8, length: usize, id: Id, date: u16) -> Outcome;
     pub fn scullpouch_roll(table: Table, date: u16) -> Outcome;
     pub fn scullpouch_close(table: Table, day: u16) -> Outcome;
     pub fn scullpouch_reopen(table: Table, day: u16) -> Outcome;

@@ -26,6 +26,7 @@ layout!(Amount, 24, negative 0, amount 8, rest 16);
 layout!(CashReply, 32, refusal 0, cash 8);
 layout!(Counts, 4, years 0, records 2);
 layout!(Loaded, 6, refusal 0, counts 2);
+layout!(FileCalendar, 1478, refusal 0, calendar 2);
 layout!(Written, 16, refusal 0, length 8);
 layout!(Intake, 18, announced 0, taken 2, lowest 4, first_year 6, years 8, idle 10, records 12, last_id 14);
 layout!(Taken, 20, refusal 0, state 2);

@@ -232,11 +232,42 @@ fn id_of(text: &str) -> calls::Id {
     calls::Id { bytes }
 }
 
+// The table and the counts of an accepted open.
+fn opened(r: calls::Outcome) -> Result<(Table, Moved), Refusal> {
+    judged(r.refusal, (r.table, Moved { entered: r.entered, left: r.left }))
+}
+
+/// A master file that was judged once, for many opens. The file is lent as long as this is kept,
+/// so it stays the one that was judged.
+#[derive(Clone, Debug)]
+pub struct Master<'a> {
+    file: &'a [u8],
+    judged: calls::FileCalendar,
+}
+
+impl<'a> Master<'a> {
+    /// Judges a master file.
+    pub fn judge(file: &'a [u8]) -> Result<Master<'a>, Refusal> {
+        let r = unsafe { calls::scullpouch_judge_file(file.as_ptr(), file.len()) };
+        judged(r.refusal, Master { file, judged: r })
+    }
+
+    /// The file's calendar.
+    pub fn calendar(&self) -> &Calendar {
+        &self.judged.calendar
+    }
+
+    /// The table of a product of the file on a date: what `Table::open` answers.
+    pub fn open(&self, id: &str, date: Day) -> Result<(Table, Moved), Refusal> {
+        let (file, said) = (self.file, self.judged.clone());
+        opened(unsafe { calls::scullpouch_open_in(said, file.as_ptr(), file.len(), id_of(id), date.0) })
+    }
+}
+
 impl Table {
-    /// The table of a product of a master file on a date.
+    /// The table of a product of a master file on a date. [`Master`] judges the file once for many.
     pub fn open(file: &[u8], id: &str, date: Day) -> Result<(Table, Moved), Refusal> {
-        let r = unsafe { calls::scullpouch_open(file.as_ptr(), file.len(), id_of(id), date.0) };
-        judged(r.refusal, (r.table, Moved { entered: r.entered, left: r.left }))
+        opened(unsafe { calls::scullpouch_open(file.as_ptr(), file.len(), id_of(id), date.0) })
     }
 
     // The table is replaced where the call is accepted.

@@ -67,7 +67,7 @@ module _ {A : Type 0} (n : ℕ) (accepted other : A) where
       go false e = same (eqb-false n 0 e)
 
 -- a call on a table: refused, it is the table with the number and counts 0 and 0
-answered-same : (t : Table) (asks : List Ask) (o : Outcome) → o .refusal ≡ 0 → (answered t asks o .refusal ≡ 0 → ⊥) → answered t asks o ≡ refusedWith t (firstNo asks)
+pub answered-same : (t : Table) (asks : List Ask) (o : Outcome) → o .refusal ≡ 0 → (answered t asks o .refusal ≡ 0 → ⊥) → answered t asks o ≡ refusedWith t (firstNo asks)
 unfolding answered
 answered-same t asks o e no-zero = refused-one (λ (r : Outcome). r .refusal) (eqb (firstNo asks) 0) o (refusedWith t (firstNo asks)) e no-zero
 

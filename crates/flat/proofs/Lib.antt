@@ -2,3 +2,4 @@ pub mod Undo
 mod Answers
 pub mod AsItCame
 pub mod Histories
+pub mod Judged

@@ -1,3 +1,4 @@
 pub mod Flat
 pub mod AsItCame
 pub mod Histories
+pub mod Judged

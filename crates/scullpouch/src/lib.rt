@@ -22,12 +22,14 @@ use rounds::Queue;
 use values::DayReply;
 use values::LastDayReply;
 use writing::WrittenFile;
+use years::FileCalendar;
 ghost use mathlib.Core.Path.{_≡_};
 ghost use mathlib.Core.List.{[]};
 ghost use lib.ListN.{length};
 ghost use Rattle.days.specs.Dates.{dayCall, dateCall};
-ghost use Rattle.master.specs.Load.{loadAnswer, loadCall};
-ghost use Rattle.table.specs.Table.{openCall, rollCall, closeCall, reopenCall};
+ghost use Rattle.years.specs.Calendars.{calendarAnswer};
+ghost use Rattle.master.specs.Load.{loadAnswer, loadCall, judgeCall};
+ghost use Rattle.table.specs.Table.{openCall, openIn, rollCall, closeCall, reopenCall};
 ghost use Rattle.values.specs.Values.{dayReply, lastDayReply, lastDayCall, dueCall};
 ghost use Rattle.prices.specs.Prices.{cashReply, tickCall, cashCall};
 ghost use Rattle.writing.specs.Writing.{writeCall, writeAnswer, bufferAfter};
@@ -78,6 +80,28 @@ pub extern "C" fn scullpouch_open(file: &[u8], id: Id, date: u16) -> FlatOutcome
     let bytes = id.bytes;
     let table = table::zero_table();
     flat::flat_outcome(table.open(file, bytes, date))
+}
+
+// Judges a master file for the opens that follow: questions 1 to 8, and its calendar.
+#[no_mangle]
+pub extern "C" fn scullpouch_judge_file(file: &[u8]) -> FileCalendar
+    ensures { λ r. ⌜ calendarAnswer r ≡ judgeCall (now (file .entry)) ⌝ }
+{
+    master::judge(file)
+}
+
+// Opens a table by what was said of a file. Said of this file, it is the open above.
+#[no_mangle]
+pub extern "C" fn scullpouch_open_in(
+    judged: FileCalendar,
+    file: &[u8],
+    id: Id,
+    date: u16,
+) -> FlatOutcome
+    ensures { λ r. ⌜ r ≡ flatOutcome (openIn (calendarAnswer judged) (now (file .entry)) (id .bytes) date) ⌝ }
+{
+    let bytes = id.bytes;
+    flat::flat_outcome(table::open_in(file, judged, bytes, date))
 }
 
 // Rolls a table to a date.

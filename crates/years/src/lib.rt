@@ -9,6 +9,7 @@ ghost use Rattle.blocks.specs.Blocks.{blockCount, blockOf, numberAt, zeros};
 ghost use Rattle.years.specs.Calendars.{yearCount, inOrder, orderRight, mapBit, dayClean, blockClean, mapsFrom, calendarBlocks, calendarOf, calendarAnswer, refusedFile, orderCall};
 
 // A refusal, or 0 and the file's calendar.
+#[repr(C)]
 pub struct FileCalendar {
     pub refusal: u8,
     pub calendar: Calendar,

@@ -1,0 +1,24 @@
+-- An open by a verdict on a master file, the answer to questions 1 to 8 with the file's calendar, which the caller keeps (01, Questions, in order, 'Load' and 'Open').
+-- Assumes nothing.
+use Prim.Native.Nat.{ℕ}
+use mathlib.Core.Path.{_≡_}
+use mathlib.Core.List.{List}
+use Rattle.years.specs.declared.FileCalendar.{FileCalendar}
+use Rattle.years.specs.Calendars.{calendarAnswer}
+use Rattle.master.specs.Load.{judgeCall}
+use Rattle.table.specs.Table.{zeroTable, openCall, openIn}
+use Rattle.flat.specs.declared.FlatOutcome.{FlatOutcome}
+use Rattle.flat.specs.Flat.{flatTable, flatOutcome}
+
+-- what it gives back
+abbrev pub openedBy : FileCalendar → List ℕ → List ℕ → ℕ → FlatOutcome
+openedBy judged f id date = flatOutcome (openIn (calendarAnswer judged) f id date)
+
+-- of every verdict and every file
+pub record Judged (judged : FileCalendar) (f id : List ℕ) (date : ℕ) : Type 0 where
+  -- where the verdict is the file's: all that an open gives back which asks 1 to 8 itself
+  pub same-file : calendarAnswer judged ≡ judgeCall f → openedBy judged f id date ≡ flatOutcome (openCall f id date)
+  -- where it is a refusal: its number
+  pub number : (judged .refusal ≡ 0 → ⊥) → openedBy judged f id date .refusal ≡ judged .refusal
+  -- '(open: a table of zeros)'
+  pub zeros : (openedBy judged f id date .refusal ≡ 0 → ⊥) → openedBy judged f id date .table ≡ flatTable zeroTable
