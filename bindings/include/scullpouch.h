@@ -235,8 +235,8 @@ scullpouch_loaded scullpouch_load(const uint8_t *file, size_t length);
 scullpouch_outcome scullpouch_open(const uint8_t *file, size_t length, scullpouch_id id, uint16_t date);
 
 /* The same for many opens of one file, which is judged once: 1-8. Then open_in, handed what was said of the file and the
- * file, answers what open answers. Of another file's judgement it takes the refusal and the calendar as they are, and
- * looks for the id in the file that it is handed: judged.refusal, 9, 11, of a weekly option 24, 16 */
+ * file, answers what open answers. What was said of another file is taken as it is, refusal and calendar, and the id is
+ * looked for in the file that is handed in: judged.refusal, 9, 11, of a weekly option 24, 16 */
 scullpouch_file_calendar scullpouch_judge_file(const uint8_t *file, size_t length);
 scullpouch_outcome scullpouch_open_in(scullpouch_file_calendar judged, const uint8_t *file, size_t length,
                                       scullpouch_id id, uint16_t date);
@@ -328,8 +328,8 @@ static inline const char *scullpouch_question(unsigned refusal) {
 }
 
 /* ---- The same calls by pointers: short C over the proved calls ----
- * NAME_into writes the table, state, queue, calendar or judgement that NAME gives back into the one that is handed in,
- * and the other values where their pointers are not null, all only where it answers 0. */
+ * NAME_into writes the table, state, queue or calendar that NAME gives back, or what it says of a file, into the one
+ * that is handed in, and the other values where their pointers are not null, all only where it answers 0. */
 
 /* The id of a text. One of no or more than 4 characters gets an id that no file has, which open refuses (9). */
 static inline scullpouch_id scullpouch_id_of(const char *text) {
@@ -353,6 +353,13 @@ static inline bool scullpouch_marked_after_cover(const scullpouch_calendar *cale
     return false;
 }
 
+static inline unsigned scullpouch_judge_file_into(scullpouch_file_calendar *judged, const uint8_t *file,
+                                                  size_t length) {
+    scullpouch_file_calendar j = scullpouch_judge_file(file, length);
+    if (j.refusal == 0) *judged = j;
+    return j.refusal;
+}
+
 /* No call: what the next five share. */
 static inline unsigned scullpouch_keep_outcome(const scullpouch_outcome *o, scullpouch_table *table, uint16_t *entered,
                                                uint16_t *left) {
@@ -367,13 +374,6 @@ static inline unsigned scullpouch_open_into(scullpouch_table *table, const uint8
                                             uint16_t date, uint16_t *entered, uint16_t *left) {
     scullpouch_outcome o = scullpouch_open(file, length, scullpouch_id_of(id), date);
     return scullpouch_keep_outcome(&o, table, entered, left);
-}
-
-static inline unsigned scullpouch_judge_file_into(scullpouch_file_calendar *judged, const uint8_t *file,
-                                                  size_t length) {
-    scullpouch_file_calendar j = scullpouch_judge_file(file, length);
-    if (j.refusal == 0) *judged = j;
-    return j.refusal;
 }
 
 static inline unsigned scullpouch_open_in_into(scullpouch_table *table, const scullpouch_file_calendar *judged,
