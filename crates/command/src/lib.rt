@@ -13,7 +13,7 @@ ghost use Rattle.years.specs.Calendars.{calendarAnswer};
 ghost use Rattle.table.specs.Table.{sound, openIn};
 ghost use Rattle.lines.specs.Lines.{lineCommand};
 ghost use Rattle.printing.specs.Buffer.{Printed};
-ghost use Rattle.command.specs.Sessions.{nothingKept, bad, outcomeOf, answerText, keptAfter, Known};
+ghost use Rattle.command.specs.Sessions.{nothingKept, bad, outcomeOf, answerText, keptAfter};
 
 // Whether an O has been accepted, and the table of the last accepted call.
 pub struct Kept {
@@ -21,10 +21,9 @@ pub struct Kept {
     pub table: Table,
 }
 
-// What is kept after a line, the answer to question 10 of its table, and the place in the buffer after the line's answer.
+// What is kept after a line, and the place in the buffer after its answer.
 pub struct Answered {
     pub kept: Kept,
-    pub ten: bool,
     pub at: usize,
 }
 
@@ -40,14 +39,14 @@ pub fn nothing_kept() -> Kept
 }
 
 // Another line, or R or C before an accepted O.
-fn is_bad(opened: bool, letter: u8) -> bool
+pub fn is_bad(opened: bool, letter: u8) -> bool
     ensures { λ r. ⌜ r ≡ bad opened letter ⌝ }
 {
     (letter == 0) | ((letter != b'O') & !opened)
 }
 
 // The call of a command, where the verdict on the file and the answer to question 10 of the table are at hand.
-fn outcome_of(file: &[u8], judged: FileCalendar, t: Table, ten: bool, c: Command) -> Outcome
+pub fn outcome_known(file: &[u8], judged: FileCalendar, t: Table, ten: bool, c: Command) -> Outcome
     ensures { λ r. ⌜ (ten ≡ sound t → r ≡ outcomeOf (openIn (calendarAnswer judged) (now (file .entry))) t c) ⌝ }
 {
     let letter = c.letter;
@@ -66,7 +65,7 @@ fn outcome_of(file: &[u8], judged: FileCalendar, t: Table, ten: bool, c: Command
 }
 
 // Question 10 of the table of an accepted call: a roll and a close leave a sound one, an open does where the calendar and the product are right.
-fn leaves_sound(letter: u8, right: bool, product: Product) -> bool
+pub fn leaves_sound(letter: u8, right: bool, product: Product) -> bool
     ensures { λ r. ⌜ r ≡ cond (eqb letter 79) (right && productRight product) true ⌝ }
 {
     if letter != b'O' {
@@ -76,52 +75,6 @@ fn leaves_sound(letter: u8, right: bool, product: Product) -> bool
         return false;
     }
     product::product_right(product)
-}
-
-// The answer to a line, in a lent buffer from a place on, and what is kept after it, where question 10 of the table and what it says of the verdict's calendar are at hand: neither is asked again.
-pub fn answer_known(
-    file: &[u8],
-    judged: FileCalendar,
-    right: bool,
-    kept: Kept,
-    ten: bool,
-    line: Line,
-    out: &mut [u8],
-    at: usize,
-) -> Answered
-    ensures { λ r. ⌜ (Known judged right (kept .table) ten → (r .kept ≡ keptAfter (openIn (calendarAnswer judged) (now (file .entry))) kept (lineCommand line)) × Printed (now (out .entry)) (now (out .exit)) at (r .at) (answerText (openIn (calendarAnswer judged) (now (file .entry))) kept (lineCommand line)) × Known judged right (r .kept .table) (r .ten)) ⌝ }
-{
-    let c = lines::command_of(line);
-    let t = kept.table;
-    if is_bad(kept.opened, c.letter) {
-        let next = printing::print_bad(out, at);
-        return Answered {
-            kept,
-            ten,
-            at: next,
-        };
-    }
-    let o = outcome_of(file, judged, t, ten, c);
-    let refusal = o.refusal;
-    if refusal != 0 {
-        let next = printing::print_refusal(out, at, refusal);
-        return Answered {
-            kept,
-            ten,
-            at: next,
-        };
-    }
-    let next = printing::print_outcome(out, at, c.letter, o);
-    let table = o.table;
-    let still = leaves_sound(c.letter, right, table.product);
-    Answered {
-        kept: Kept {
-            opened: true,
-            table,
-        },
-        ten: still,
-        at: next,
-    }
 }
 
 // The answer to a line, in a lent buffer from a place on, and what is kept after it. The verdict on the file is at hand.
@@ -135,7 +88,26 @@ pub fn answer(
 ) -> Answered
     ensures { λ r. ⌜ (r .kept ≡ keptAfter (openIn (calendarAnswer judged) (now (file .entry))) kept (lineCommand line)) × Printed (now (out .entry)) (now (out .exit)) at (r .at) (answerText (openIn (calendarAnswer judged) (now (file .entry))) kept (lineCommand line)) ⌝ }
 {
-    let right = table::is_calendar_sound(judged.calendar);
-    let ten = table::is_sound(kept.table);
-    answer_known(file, judged, right, kept, ten, line, out, at)
+    let c = lines::command_of(line);
+    let t = kept.table;
+    if is_bad(kept.opened, c.letter) {
+        let next = printing::print_bad(out, at);
+        return Answered { kept, at: next };
+    }
+    let ten = table::is_sound(t);
+    let o = outcome_known(file, judged, t, ten, c);
+    let refusal = o.refusal;
+    if refusal != 0 {
+        let next = printing::print_refusal(out, at, refusal);
+        return Answered { kept, at: next };
+    }
+    let next = printing::print_outcome(out, at, c.letter, o);
+    let table = o.table;
+    Answered {
+        kept: Kept {
+            opened: true,
+            table,
+        },
+        at: next,
+    }
 }

@@ -10,10 +10,13 @@ use lib.ListN.{length, getD, take, drop}
 use Rattle.lines.specs.declared.Line.{Line}
 use Rattle.lines.specs.Lines.{emptyLine}
 use Rattle.printing.specs.Buffer.{roomy}
+use Rattle.years.specs.declared.FileCalendar.{FileCalendar}
 use Rattle.table.specs.declared.Outcome.{Outcome}
 use Rattle.command.specs.declared.Kept.{Kept}
-use Rattle.command.specs.Sessions.{nothingKept, restText, restKept}
+use Rattle.command.specs.Sessions.{nothingKept, restText, restKept, Known}
+use Rattle.apart.specs.Apart.{tableWith, keptWith}
 use Rattle.sessions.specs.declared.Progress.{Progress}
+use Rattle.sessions.specs.declared.Step.{Step}
 
 -- where the line that goes on at `from` ends: at the first line feed, 10, or where the part does
 pub record LineEnd (part : List ℕ) (from r : ℕ) : Type 0 where
@@ -25,6 +28,15 @@ pub record LineEnd (part : List ℕ) (from r : ℕ) : Type 0 where
 -- the part goes on at a place, and the buffer has room for another answer
 unfoldable pub another : List ℕ → ℕ → List ℕ → ℕ → Bool
 another part at out n = ltb at (length part) && roomy out n
+
+-- only the code needs these: how far a part was answered, with the table put together again from its maps
+abbrev pub progressWith : Step → List ℕ → List ℕ → Progress
+progressWith s closed exchange =
+    record { kept = keptWith (s .replied .opened) (s .replied .rest) closed exchange; line = s .line; at = s .at; length = s .replied .at }
+
+-- and what is known of it beforehand
+abbrev pub KnownStep : FileCalendar → Bool → Step → List ℕ → List ℕ → Type 0
+KnownStep judged right s closed exchange = Known judged right (tableWith (s .replied .rest) closed exchange) (s .replied .ten)
 
 -- one line, or the rest of the part: a piece of text stands after what stood in the buffer, and for every rest of the input it is what comes next
 pub record Next (opening : List ℕ → ℕ → Outcome) (part before after : List ℕ) (s r : Progress) : Type 0 where

@@ -1,4 +1,5 @@
 // The answers to all lines that end in a part of the input, and to a last line that no line feed ends.
+use apart::Replied;
 use command::Kept;
 use lines::Line;
 use years::FileCalendar;
@@ -11,8 +12,7 @@ ghost use Rattle.years.specs.Calendars.{calendarAnswer};
 ghost use Rattle.table.specs.Table.{openIn};
 ghost use Rattle.lines.specs.Lines.{fed};
 ghost use Rattle.printing.specs.Buffer.{roomy};
-ghost use Rattle.command.specs.Sessions.{Known};
-ghost use Rattle.sessions.specs.Parts.{LineEnd, another, Next, Answers, LastAnswer};
+ghost use Rattle.sessions.specs.Parts.{LineEnd, another, progressWith, KnownStep, Next, Answers, LastAnswer};
 
 // What is kept, the line so far, the place in the part of the input, and how many bytes of answers stand in the buffer.
 pub struct Progress {
@@ -22,10 +22,11 @@ pub struct Progress {
     pub length: usize,
 }
 
-// The same, with the answer to question 10 of the table that is kept.
+// The same on the way, where the maps of the table's calendar are apart: what is kept but for them, with the answer to question 10 and how many bytes of answers stand in the buffer; the line so far, and the place in the part.
 struct Step {
-    progress: Progress,
-    ten: bool,
+    replied: Replied,
+    line: Line,
+    at: usize,
 }
 
 // The place of the first line feed from a place on, or the part's end.
@@ -62,46 +63,39 @@ fn feed(line: Line, part: &[u8], from: usize, to: usize) -> Line
     Line { bytes, length: n }
 }
 
-// The answer to the line that goes on at a place, if it ends in the part; else the line with all the rest of the part. Question 10 of the table, and what it says of the verdict's calendar, are at hand.
+// The answer to the line that goes on at a place, if it ends in the part; else the line with all the rest of the part. The maps of the table's calendar are lent; question 10 of the table, and what it says of the verdict's calendar, are at hand.
 fn answer_next(
     file: &[u8],
     judged: FileCalendar,
     right: bool,
-    s: Progress,
-    ten: bool,
+    s: Step,
+    closed: &mut [u8; 736],
+    exchange: &mut [u8; 736],
     part: &[u8],
     out: &mut [u8],
 ) -> Step
-    requires { ⌜ (s .at < length (now part)) × (roomy (now out) (s .length) ≡ true) × Known judged right (s .kept .table) ten ⌝ }
-    ensures { λ r. ⌜ Next (openIn (calendarAnswer judged) (now (file .entry))) (now (part .entry)) (now (out .entry)) (now (out .exit)) s (r .progress) × Known judged right (r .progress .kept .table) (r .ten) ⌝ }
+    requires { ⌜ (s .at < length (now part)) × (roomy (now out) (s .replied .at) ≡ true) × KnownStep judged right s (now closed) (now exchange) ⌝ }
+    ensures { λ r. ⌜ Next (openIn (calendarAnswer judged) (now (file .entry))) (now (part .entry)) (now (out .entry)) (now (out .exit)) (progressWith s (now (closed .entry)) (now (exchange .entry))) (progressWith r (now (closed .exit)) (now (exchange .exit))) × KnownStep judged right r (now (closed .exit)) (now (exchange .exit)) ⌝ }
 {
-    let kept = s.kept;
+    let k = s.replied;
     let begun = s.line;
     let at = s.at;
     let end = line_end(part, at);
     let line = feed(begun, part, at, end);
     if part.len() <= end {
-        let progress = Progress {
-            kept,
+        return Step {
+            replied: k,
             line,
             at: end,
-            length: s.length,
         };
-        return Step { progress, ten };
     }
-    let a = command::answer_known(file, judged, right, kept, ten, line, out, s.length);
-    let after = a.kept;
+    let replied = apart::reply(file, judged, right, k, closed, exchange, line, out);
     let empty = lines::empty_line();
     let next = end + 1;
-    let progress = Progress {
-        kept: after,
+    Step {
+        replied,
         line: empty,
         at: next,
-        length: a.at,
-    };
-    Step {
-        progress,
-        ten: a.ten,
     }
 }
 
@@ -118,6 +112,25 @@ fn goes_on(part: &[u8], at: usize, out: &[u8], n: usize) -> bool
     n <= out.len() - 512
 }
 
+// How far a part was answered, the table with its maps again.
+fn put_together(s: Step, closed: [u8; 736], exchange: [u8; 736]) -> Progress
+    ensures { λ r. ⌜ r ≡ progressWith s closed exchange ⌝ }
+{
+    let k = s.replied;
+    let line = s.line;
+    let rest = k.rest;
+    let table = apart::table_of(rest, closed, exchange);
+    Progress {
+        kept: Kept {
+            opened: k.opened,
+            table,
+        },
+        line,
+        at: s.at,
+        length: k.at,
+    }
+}
+
 // The answers to the lines that end in a part of the input from a place on, in a lent buffer from its start, as long as it has room for another answer of 512 bytes. A buffer of fewer bytes, and a place past the part, leave all as it is. The verdict on the file is at hand, and question 10 is asked once, of the table that is handed in.
 pub fn answer_part(
     file: &[u8],
@@ -131,19 +144,36 @@ pub fn answer_part(
     ensures { λ r. ⌜ Answers (openIn (calendarAnswer judged) (now (file .entry))) kept line (now (part .entry)) from (now (out .entry)) (now (out .exit)) r ⌝ }
 {
     let right = table::is_calendar_sound(judged.calendar);
-    let mut ten = table::is_sound(kept.table);
-    let mut s = Progress {
-        kept,
+    let t = kept.table;
+    let ten = table::is_sound(t);
+    let cal = t.calendar;
+    let mut closed = cal.closed;
+    let mut exchange = cal.exchange;
+    let rest = apart::rest_of(t);
+    let replied = Replied {
+        opened: kept.opened,
+        rest,
+        ten,
+        at: 0,
+    };
+    let mut s = Step {
+        replied,
         line,
         at: from,
-        length: 0,
     };
-    while goes_on(part, s.at, out, s.length) {
-        let n = answer_next(file, judged, right, s, ten, part, out);
-        s = n.progress;
-        ten = n.ten;
+    while goes_on(part, s.at, out, s.replied.at) {
+        s = answer_next(
+            file,
+            judged,
+            right,
+            s,
+            &mut closed,
+            &mut exchange,
+            part,
+            out,
+        );
     }
-    s
+    put_together(s, closed, exchange)
 }
 
 // The answer to a last line that no line feed ends, in a lent buffer from its start, and its length. A line with no bytes has none, and a buffer of fewer than 512 bytes stays as it is.

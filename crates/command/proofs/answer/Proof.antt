@@ -1,24 +1,91 @@
-use borrow.Author.Needs.{needs}
+use Rattle.command.proofs.Answers.{bad-kept, bad-text, no-kept, no-text, yes-kept, yes-text}
+use mathlib.Core.Path.{sym, _∙_}
 use Rattle.command.proofs.answer.Statement.{statement}
 use Rattle.command.proofs.answer.Tie as tie
 
-is-calendar-sound-requires : tie.Need-is-calendar-sound-requires
-is-calendar-sound-requires c κs = tt
+command-of-requires : tie.Need-command-of-requires
+command-of-requires c κs = tt
+
+is-bad-requires : tie.Need-is-bad-requires
+is-bad-requires c κs = tt
+
+print-bad-requires : tie.Need-print-bad-requires
+print-bad-requires c κs = tt
+
+same-length : tie.Need-same-length
+same-length c = c .before .before .print-bad .ensures .long
+
+returns : tie.Need-returns
+returns c =
+    let at-if1 = c .before .before .before .before in
+    let at-is-bad = at-if1 .before in
+    let at-command-of = at-is-bad .before .before in
+    let b = sym (at-is-bad .is-bad .ensures) ∙ at-if1 .if1 .taken in
+    rw (← at-command-of .command-of .ensures) (bad-kept _ _ _ b, rw (← bad-text _ _ _ b) (c .before .before .print-bad .ensures))
 
 is-sound-requires : tie.Need-is-sound-requires
 is-sound-requires c κs = tt
 
-answer-known-requires : tie.Need-answer-known-requires
-answer-known-requires c κs = tt
+outcome-known-requires : tie.Need-outcome-known-requires
+outcome-known-requires c κs = tt
 
-same-length : tie.Need-same-length
-same-length c = search needs
+print-refusal-requires : tie.Need-print-refusal-requires
+print-refusal-requires c κs = tt
 
-returns : tie.Need-returns
-returns c =
-    let at-answer-known = c .before .before in
-    let a = at-answer-known .answer-known .ensures (record { calendar = at-answer-known .before .before .before .is-calendar-sound .ensures; tenth = at-answer-known .before .before .is-sound .ensures }) in
-    (a .0, a .1)
+same-length-2 : tie.Need-same-length-2
+same-length-2 c = c .before .before .print-refusal .ensures .long
+
+returns-2 : tie.Need-returns-2
+returns-2 c =
+    let at-if2 = c .before .before .before .before in
+    let at-outcome-of = at-if2 .before in
+    let at-if1 = at-outcome-of .before .before in
+    let at-is-bad = at-if1 .before in
+    let at-command-of = at-is-bad .before .before in
+    let start = at-command-of .before .before .before in
+    let b = sym (at-is-bad .is-bad .ensures) ∙ at-if1 .if1 .left in
+    let h = start .args .kept in
+    let k = at-command-of .command-of .result in
+    let o = at-outcome-of .outcome-known .ensures (at-outcome-of .before .is-sound .ensures) in
+    let n = at-if2 .if2 .taken in
+    rw (← at-command-of .command-of .ensures) (no-kept _ h k b _ o n, rw (← no-text _ h k b _ o n) (c .before .before .print-refusal .ensures))
+
+print-outcome-requires : tie.Need-print-outcome-requires
+print-outcome-requires c κs = tt
+
+same-length-3 : tie.Need-same-length-3
+same-length-3 c = c .before .before .before .print-outcome .ensures .long
+
+returns-3 : tie.Need-returns-3
+returns-3 c =
+    let at-print-outcome = c .before .before .before in
+    let at-if2 = at-print-outcome .before .before in
+    let at-outcome-of = at-if2 .before in
+    let at-if1 = at-outcome-of .before .before in
+    let at-is-bad = at-if1 .before in
+    let at-command-of = at-is-bad .before .before in
+    let start = at-command-of .before .before .before in
+    let b = sym (at-is-bad .is-bad .ensures) ∙ at-if1 .if1 .left in
+    let h = start .args .kept in
+    let k = at-command-of .command-of .result in
+    let o = at-outcome-of .outcome-known .ensures (at-outcome-of .before .is-sound .ensures) in
+    let n = at-if2 .if2 .left in
+    rw (← at-command-of .command-of .ensures) (yes-kept _ h k b _ o n, rw (← yes-text _ h k b _ o n) (at-print-outcome .print-outcome .ensures))
 
 pub answer-spec : {M : Type 1} → statement M
-answer-spec = tie.close (tie.spec is-calendar-sound-requires is-sound-requires answer-known-requires same-length returns)
+answer-spec =
+    tie.close
+    (tie.spec
+    command-of-requires
+    is-bad-requires
+    print-bad-requires
+    same-length
+    returns
+    is-sound-requires
+    outcome-known-requires
+    print-refusal-requires
+    same-length-2
+    returns-2
+    print-outcome-requires
+    same-length-3
+    returns-3)

@@ -1,8 +1,8 @@
 use Rattle.command.proofs.Answers.{opens-by, rolls, closes, unsound}
 use Rattle.questions.proofs.Bools.{said-no, said-yes}
 use mathlib.Core.Path.{_∙_}
-use Rattle.command.proofs.outcome_of.Statement.{statement}
-use Rattle.command.proofs.outcome_of.Tie as tie
+use Rattle.command.proofs.outcome_known.Statement.{statement}
+use Rattle.command.proofs.outcome_known.Tie as tie
 
 open-in-requires : tie.Need-open-in-requires
 open-in-requires c κs = tt
@@ -28,8 +28,8 @@ close-sound-requires c κs = tt
 returns-4 : tie.Need-returns-4
 returns-4 c = λ k. c .close-sound .ensures (said-yes k (c .before .before .if2 .left)) ∙ closes _ _ _ (c .before .before .before .if1 .left) (c .before .if3 .left)
 
-pub outcome-of-spec : {M : Type 1} → statement M
-outcome-of-spec =
+pub outcome-known-spec : {M : Type 1} → statement M
+outcome-known-spec =
     tie.close
     (tie.spec
     open-in-requires

@@ -1,0 +1,128 @@
+-- A roll whose front stays, on a table apart from its maps; a table put together and taken apart again; the answer to a line.
+-- Assumes nothing.
+use mathlib.Core.Path.{_≡_, refl, sym, ap, _∙_}
+use mathlib.Core.Bool.{Bool, true, false, _&&_, cond}
+use mathlib.Core.List.{List}
+use Prim.Native.Nat.{ℕ}
+use native.Mathlib.Omega.{arith}
+use lib.Dec.{leb, eqb}
+use lib.ListN.{length, getD}
+use Rattle.calendar.specs.Trading.{calendarWith, inCover}
+use Rattle.listing.specs.Rules.{front, unused}
+use Rattle.listing.specs.Months.{ruleOf}
+use Rattle.listing.proofs.Second.{front-second}
+use Rattle.questions.specs.Questions.{Answer}
+use Rattle.calendar.specs.declared.Calendar.{Calendar}
+use Rattle.product.specs.Fields.{productRight}
+use Rattle.printing.specs.Text.{outcomeText, refusalText}
+use Rattle.lines.specs.declared.Command.{Command}
+use Rattle.table.specs.declared.Table.{Table}
+use Rattle.table.specs.declared.Outcome.{Outcome}
+use Rattle.table.specs.Table.{sound, calendarSound, keptIn, rollCall, openIn}
+use Rattle.table.proofs.Calls.{roll-16}
+use Rattle.table.proofs.Staying.{stays}
+use Rattle.command.specs.declared.Kept.{Kept}
+use Rattle.command.specs.Sessions.{bad, outcomeOf, answerText, keptAfter}
+use Rattle.command.proofs.Answers.{rolls, opens-by, no-kept, no-text, yes-kept, yes-text, leaves-sound}
+use Rattle.apart.specs.declared.Rest.{Rest}
+use Rattle.apart.specs.declared.Moved.{Moved}
+use Rattle.apart.specs.Apart.{tableWith, restOf, keptWith, datedRest, Moves, shownOf}
+
+module _ (rest : Rest) (closed : List ℕ) (len : length (rest .maturities) ≡ 15) where
+  pub rolls-kept : (date : ℕ) → inCover (rest .cover) date ≡ true → leb (rest .date) date ≡ true
+      → eqb (getD (rest .maturities) 0 unused .key) (front (ruleOf (calendarWith (rest .cover) closed) (rest .product .kind) (rest .product .group)) (calendarWith (rest .cover) closed) date) ≡ true
+      → (exchange : List ℕ) → sound (tableWith rest closed exchange) ≡ true
+      → rollCall (tableWith rest closed exchange) date ≡ keptIn (tableWith rest closed exchange) (tableWith rest closed exchange .calendar) date
+  rolls-kept date c d e exchange s =
+      let t = tableWith rest closed exchange in
+      let r = ruleOf (t .calendar) (rest .product .kind) (rest .product .group) in
+      let f : eqb (getD (rest .maturities) 0 unused .key) (front r (t .calendar) date) ≡ true = ap (eqb (getD (rest .maturities) 0 unused .key)) (front-second (calendarWith (rest .cover) closed) exchange r date) ∙ e in
+      roll-16 t date s c d ∙ stays t s len date f
+
+-- a table that is kept as it was but for its date and its first map
+moves-kept : (t : Table) (o : Outcome) (rest : Rest) (date : ℕ) (closed exchange : List ℕ)
+    → o ≡ record { refusal = 0; table = tableWith (datedRest rest date .rest) closed exchange; entered = 0; left = 0 } → Moves t o (datedRest rest date) closed exchange
+moves-kept t o rest date closed exchange e =
+    record {
+      refusal = sym (ap (λ (x : Outcome). x .refusal) e);
+      accepted = λ z. sym e;
+      refused = λ n. absurd (n (ap (λ (x : Outcome). x .refusal) e));
+    }
+
+module _ (opening : List ℕ → ℕ → Outcome) (rest : Rest) (closed exchange : List ℕ) (c : Command) where
+  pub rolled : c .letter ≡ 82 → rollCall (tableWith rest closed exchange) (c .day) ≡ keptIn (tableWith rest closed exchange) (tableWith rest closed exchange .calendar) (c .day)
+      → Moves (tableWith rest closed exchange) (outcomeOf opening (tableWith rest closed exchange) c) (datedRest rest (c .day)) closed exchange
+  rolled l e =
+      moves-kept (tableWith rest closed exchange) (outcomeOf opening (tableWith rest closed exchange) c) rest (c .day) closed exchange
+      (sym (rolls opening (tableWith rest closed exchange) c (λ q. omega (arith, q, l)) l) ∙ e)
+
+-- ---- a table that is put together and taken apart again
+
+module _ (t : Table) (o : Outcome) (closed exchange : List ℕ) where
+  pub whole-refused : (rest : Rest) (q : ℕ) → q ≡ o .refusal → (q ≡ 0 → ⊥) → t ≡ tableWith rest closed exchange → Moves t o (record { refusal = q; rest = rest; entered = 0; left = 0 }) closed exchange
+  whole-refused rest q e n i =
+      record {
+        refusal = e;
+        accepted = λ z. absurd (n (e ∙ z));
+        refused = λ x. sym i;
+      }
+
+pub whole-accepted : (t : Table) (o p : Outcome) → p ≡ o → p .refusal ≡ 0
+    → Moves t o (record { refusal = 0; rest = restOf (p .table); entered = p .entered; left = p .left }) (p .table .calendar .closed) (p .table .calendar .exchange)
+whole-accepted t o p e z =
+    record {
+      refusal = sym z ∙ ap (λ (x : Outcome). x .refusal) e;
+      accepted = λ y. rw (sym z) (own p) ∙ e;
+      refused = λ n. absurd (n (sym (ap (λ (x : Outcome). x .refusal) e) ∙ z));
+    }
+  where
+    own : (p : Outcome) → record { refusal = p .refusal; table = tableWith (restOf (p .table)) (p .table .calendar .closed) (p .table .calendar .exchange); entered = p .entered; left = p .left } ≡ p
+    own p = refl
+
+-- an open, whatever the table was
+pub opened-apart : (opening : List ℕ → ℕ → Outcome) (t : Table) (c : Command) (m : Moved) (closed exchange : List ℕ) → c .letter ≡ 79
+    → Moves t (opening (c .id) (c .day)) m closed exchange → Moves t (outcomeOf opening t c) m closed exchange
+opened-apart opening t c m closed exchange e v = rw (opens-by opening t c e) at v
+
+-- ---- the answer to a line
+
+-- the maps take no part in what is printed
+shown-text : (letter : ℕ) (m : Moved) (closed exchange : List ℕ) → outcomeText letter (shownOf m) ≡ outcomeText letter (record { refusal = 0; table = tableWith (m .rest) closed exchange; entered = m .entered; left = m .left })
+unfolding outcomeText shownOf
+shown-text letter m closed exchange = refl
+
+module _ (verdict : Answer Calendar) (f : List ℕ) (opened : Bool) (rest : Rest) (first second : List ℕ) (c : Command) (m : Moved) (closed exchange : List ℕ) where
+  abbrev opening : List ℕ → ℕ → Outcome
+  opening = openIn verdict f
+
+  abbrev before : Table
+  before = tableWith rest first second
+
+  abbrev h : Kept
+  h = record { opened = opened; table = before }
+
+  module _ (b : bad opened (c .letter) ≡ false) (v : Moves before (outcomeOf opening before c) m closed exchange) where
+    pub no-kept-apart : (m .refusal ≡ 0 → ⊥) → keptWith opened (m .rest) closed exchange ≡ keptAfter opening h c
+    no-kept-apart n =
+        ap (λ (t : Table). record { opened = opened; table = t }) (v .refused (λ z. n (v .refusal ∙ z)))
+        ∙ no-kept opening h c b (outcomeOf opening before c) refl (λ z. n (v .refusal ∙ z))
+
+    pub no-text-apart : (m .refusal ≡ 0 → ⊥) → refusalText (m .refusal) ≡ answerText opening h c
+    no-text-apart n = ap refusalText (v .refusal) ∙ no-text opening h c b (outcomeOf opening before c) refl (λ z. n (v .refusal ∙ z))
+
+    pub no-table-apart : (m .refusal ≡ 0 → ⊥) → tableWith (m .rest) closed exchange ≡ before
+    no-table-apart n = v .refused (λ z. n (v .refusal ∙ z))
+
+    is-out : m .refusal ≡ 0 → record { refusal = 0; table = tableWith (m .rest) closed exchange; entered = m .entered; left = m .left } ≡ outcomeOf opening before c
+    is-out z = v .accepted (sym (v .refusal) ∙ z)
+
+    pub yes-kept-apart : m .refusal ≡ 0 → keptWith true (m .rest) closed exchange ≡ keptAfter opening h c
+    yes-kept-apart z = yes-kept opening h c b (record { refusal = 0; table = tableWith (m .rest) closed exchange; entered = m .entered; left = m .left }) (is-out z) refl
+
+    pub yes-text-apart : m .refusal ≡ 0 → outcomeText (c .letter) (shownOf m) ≡ answerText opening h c
+    yes-text-apart z =
+        shown-text (c .letter) m closed exchange
+        ∙ yes-text opening h c b (record { refusal = 0; table = tableWith (m .rest) closed exchange; entered = m .entered; left = m .left }) (is-out z) refl
+
+    pub yes-sound-apart : m .refusal ≡ 0 → sound (tableWith (m .rest) closed exchange) ≡ cond (eqb (c .letter) 79) (calendarSound (verdict .value) && productRight (m .rest .product)) true
+    yes-sound-apart z = leaves-sound verdict f before c (record { refusal = 0; table = tableWith (m .rest) closed exchange; entered = m .entered; left = m .left }) (is-out z) refl

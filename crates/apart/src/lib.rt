@@ -1,0 +1,300 @@
+// A table apart from the two maps of its calendar, which are lent, so that a roll that leaves the listing as it is copies neither.
+use calendar::Calendar;
+use calendar::Cover;
+use lines::Command;
+use lines::Line;
+use listing::Maturity;
+use product::Product;
+use table::Outcome;
+use table::Table;
+use years::FileCalendar;
+ghost use mathlib.Core.Path.{_≡_};
+ghost use mathlib.Core.Bool.{true};
+ghost use mathlib.Core.List.{List};
+ghost use Prim.Native.Nat.{ℕ};
+ghost use Rattle.years.specs.Calendars.{calendarAnswer};
+ghost use Rattle.table.specs.Table.{sound, keptIn, rollCall, openIn};
+ghost use Rattle.lines.specs.Lines.{lineCommand};
+ghost use Rattle.command.specs.Sessions.{outcomeOf, Known};
+ghost use Rattle.apart.specs.Apart.{tableWith, restOf, keptWith, datedRest, Moves, shownOf, Replies};
+
+// A table but for the two maps of its calendar.
+pub struct Rest {
+    pub product: Product,
+    pub cover: Cover,
+    pub date: u16,
+    pub maturities: [Maturity; 15],
+    pub given: u16,
+}
+
+// What a call gives back of a table apart: the number of its refusal, the rest, and the counts of months that entered and that left.
+pub struct Moved {
+    pub refusal: u8,
+    pub rest: Rest,
+    pub entered: u16,
+    pub left: u16,
+}
+
+// What is kept after a line but for the maps, the answer to question 10 of its table, and the place in the buffer after the line's answer.
+pub struct Replied {
+    pub opened: bool,
+    pub rest: Rest,
+    pub ten: bool,
+    pub at: usize,
+}
+
+// A table but for its maps.
+pub fn rest_of(t: Table) -> Rest
+    ensures { λ r. ⌜ r ≡ restOf t ⌝ }
+{
+    let product = t.product;
+    let maturities = t.maturities;
+    let cal = t.calendar;
+    let cover = cal.cover;
+    Rest {
+        product,
+        cover,
+        date: t.date,
+        maturities,
+        given: t.given,
+    }
+}
+
+// The table of a rest and its maps.
+pub fn table_of(rest: Rest, closed: [u8; 736], exchange: [u8; 736]) -> Table
+    ensures { λ r. ⌜ r ≡ tableWith rest closed exchange ⌝ }
+{
+    let product = rest.product;
+    let maturities = rest.maturities;
+    let cover = rest.cover;
+    let calendar = Calendar {
+        cover,
+        closed,
+        exchange,
+    };
+    Table {
+        product,
+        calendar,
+        date: rest.date,
+        maturities,
+        given: rest.given,
+    }
+}
+
+// The same rest on a date, no month entered or left.
+fn dated(rest: Rest, date: u16) -> Moved
+    ensures { λ r. ⌜ r ≡ datedRest rest date ⌝ }
+{
+    let product = rest.product;
+    let maturities = rest.maturities;
+    let cover = rest.cover;
+    let next = Rest {
+        product,
+        cover,
+        date,
+        maturities,
+        given: rest.given,
+    };
+    Moved {
+        refusal: 0,
+        rest: next,
+        entered: 0,
+        left: 0,
+    }
+}
+
+// Whether a command is a roll that leaves the listing of a sound table as it is.
+fn rolls_on(ten: bool, letter: u8, rest: Rest, closed: &[u8], date: u16) -> bool
+    ensures { λ r. ⌜ (r ≡ true → (letter ≡ 82) × (ten ≡ true) × ((exchange : List ℕ) → sound (tableWith rest (now (closed .entry)) exchange) ≡ true → rollCall (tableWith rest (now (closed .entry)) exchange) date ≡ keptIn (tableWith rest (now (closed .entry)) exchange) (tableWith rest (now (closed .entry)) exchange .calendar) date)) ⌝ }
+{
+    if letter != b'R' {
+        return false;
+    }
+    if !ten {
+        return false;
+    }
+    let cover = rest.cover;
+    if !calendar::in_cover(cover, date) {
+        return false;
+    }
+    if date < rest.date {
+        return false;
+    }
+    let p = rest.product;
+    let kind = p.kind;
+    let group = p.group;
+    let maturities = rest.maturities;
+    let first = maturities[0];
+    first.key == listing::front_key_in(cover, closed, kind, group, date)
+}
+
+// The table that an open gives, apart, and its maps.
+fn open_apart(
+    file: &[u8],
+    judged: FileCalendar,
+    rest: Rest,
+    closed: &mut [u8; 736],
+    exchange: &mut [u8; 736],
+    id: [u8; 4],
+    date: u16,
+) -> Moved
+    ensures { λ r. ⌜ Moves (tableWith rest (now (closed .entry)) (now (exchange .entry))) (openIn (calendarAnswer judged) (now (file .entry)) id date) r (now (closed .exit)) (now (exchange .exit)) ⌝ }
+{
+    let o = table::open_in(file, judged, id, date);
+    let refusal = o.refusal;
+    if refusal != 0 {
+        return Moved {
+            refusal,
+            rest,
+            entered: 0,
+            left: 0,
+        };
+    }
+    let after = o.table;
+    let cal = after.calendar;
+    let first_map = cal.closed;
+    let second_map = cal.exchange;
+    *closed = first_map;
+    *exchange = second_map;
+    let next = rest_of(after);
+    Moved {
+        refusal: 0,
+        rest: next,
+        entered: o.entered,
+        left: o.left,
+    }
+}
+
+// The call of a command on a table that is put together, and its maps afterwards.
+fn move_whole(
+    file: &[u8],
+    judged: FileCalendar,
+    rest: Rest,
+    ten: bool,
+    closed: &mut [u8; 736],
+    exchange: &mut [u8; 736],
+    c: Command,
+) -> Moved
+    ensures { λ r. ⌜ (ten ≡ sound (tableWith rest (now (closed .entry)) (now (exchange .entry))) → Moves (tableWith rest (now (closed .entry)) (now (exchange .entry))) (outcomeOf (openIn (calendarAnswer judged) (now (file .entry))) (tableWith rest (now (closed .entry)) (now (exchange .entry))) c) r (now (closed .exit)) (now (exchange .exit))) ⌝ }
+{
+    let first = *closed;
+    let second = *exchange;
+    let t = table_of(rest, first, second);
+    let o = command::outcome_known(file, judged, t, ten, c);
+    let refusal = o.refusal;
+    if refusal != 0 {
+        return Moved {
+            refusal,
+            rest,
+            entered: 0,
+            left: 0,
+        };
+    }
+    let after = o.table;
+    let cal = after.calendar;
+    let first_map = cal.closed;
+    let second_map = cal.exchange;
+    *closed = first_map;
+    *exchange = second_map;
+    let next = rest_of(after);
+    Moved {
+        refusal: 0,
+        rest: next,
+        entered: o.entered,
+        left: o.left,
+    }
+}
+
+// The call of a command on a table apart, where the verdict on the file and the answer to question 10 of the table are at hand. A roll that leaves the listing as it is copies no map.
+pub fn move_apart(
+    file: &[u8],
+    judged: FileCalendar,
+    rest: Rest,
+    ten: bool,
+    closed: &mut [u8; 736],
+    exchange: &mut [u8; 736],
+    c: Command,
+) -> Moved
+    ensures { λ r. ⌜ (ten ≡ sound (tableWith rest (now (closed .entry)) (now (exchange .entry))) → Moves (tableWith rest (now (closed .entry)) (now (exchange .entry))) (outcomeOf (openIn (calendarAnswer judged) (now (file .entry))) (tableWith rest (now (closed .entry)) (now (exchange .entry))) c) r (now (closed .exit)) (now (exchange .exit))) ⌝ }
+{
+    let letter = c.letter;
+    let day = c.day;
+    if rolls_on(ten, letter, rest, closed, day) {
+        return dated(rest, day);
+    }
+    if letter == b'O' {
+        let id = c.id;
+        return open_apart(file, judged, rest, closed, exchange, id, day);
+    }
+    move_whole(file, judged, rest, ten, closed, exchange, c)
+}
+
+// What is printed of an accepted call: the maps take no part in it.
+fn shown(m: Moved) -> Outcome
+    ensures { λ r. ⌜ r ≡ shownOf m ⌝ }
+{
+    let rest = m.rest;
+    let product = rest.product;
+    let maturities = rest.maturities;
+    let calendar = calendar::zero_calendar();
+    let table = Table {
+        product,
+        calendar,
+        date: rest.date,
+        maturities,
+        given: rest.given,
+    };
+    Outcome {
+        refusal: 0,
+        table,
+        entered: m.entered,
+        left: m.left,
+    }
+}
+
+// The answer to a line, in a lent buffer from a place on, and what is kept after it, the maps lent. Question 10 of the table and what it says of the verdict's calendar are at hand.
+pub fn reply(
+    file: &[u8],
+    judged: FileCalendar,
+    right: bool,
+    k: Replied,
+    closed: &mut [u8; 736],
+    exchange: &mut [u8; 736],
+    line: Line,
+    out: &mut [u8],
+) -> Replied
+    ensures { λ r. ⌜ (Known judged right (tableWith (k .rest) (now (closed .entry)) (now (exchange .entry))) (k .ten) → Replies (openIn (calendarAnswer judged) (now (file .entry))) judged right (keptWith (k .opened) (k .rest) (now (closed .entry)) (now (exchange .entry))) (k .at) (lineCommand line) (now (out .entry)) (now (out .exit)) r (now (closed .exit)) (now (exchange .exit))) ⌝ }
+{
+    let c = lines::command_of(line);
+    let rest = k.rest;
+    if command::is_bad(k.opened, c.letter) {
+        let next = printing::print_bad(out, k.at);
+        return Replied {
+            opened: k.opened,
+            rest,
+            ten: k.ten,
+            at: next,
+        };
+    }
+    let m = move_apart(file, judged, rest, k.ten, closed, exchange, c);
+    let after = m.rest;
+    let refusal = m.refusal;
+    if refusal != 0 {
+        let next = printing::print_refusal(out, k.at, refusal);
+        return Replied {
+            opened: k.opened,
+            rest: after,
+            ten: k.ten,
+            at: next,
+        };
+    }
+    let o = shown(m);
+    let next = printing::print_outcome(out, k.at, c.letter, o);
+    let still = command::leaves_sound(c.letter, right, after.product);
+    Replied {
+        opened: true,
+        rest: after,
+        ten: still,
+        at: next,
+    }
+}
