@@ -13,14 +13,14 @@ use Rattle.table.specs.declared.Outcome.{Outcome}
 use Rattle.table.specs.Table.{answered, refusedWith, zeroTable, openCall, openIn}
 use Rattle.table.proofs.Opens.{open-is}
 use Rattle.flat.specs.Flat.{flatTable, flatOutcome}
-use Rattle.flat.specs.Judged.{openedBy, Judged}
+use Rattle.flat.specs.Judged.{flatOpenIn, OpenByVerdict}
 use Rattle.flat.proofs.AsItCame.{answered-same}
 
 module _ (judged : FileCalendar) (f id : List ℕ) (date : ℕ) where
-  same-file : calendarAnswer judged ≡ judgeCall f → openedBy judged f id date ≡ flatOutcome (openCall f id date)
+  same-file : calendarAnswer judged ≡ judgeCall f → flatOpenIn judged f id date ≡ flatOutcome (openCall f id date)
   same-file e = rw e (ap flatOutcome (open-is f id date))
 
-  number : (judged .refusal ≡ 0 → ⊥) → openedBy judged f id date .refusal ≡ judged .refusal
+  number : (judged .refusal ≡ 0 → ⊥) → flatOpenIn judged f id date .refusal ≡ judged .refusal
   unfolding openIn answered asksIn firstNo
   number no-zero = rw (ne-eqb (judged .refusal) 0 no-zero, ne-eqb (judged .refusal) 0 no-zero) refl
 
@@ -28,7 +28,7 @@ module _ (judged : FileCalendar) (f id : List ℕ) (date : ℕ) where
   unfolding openIn
   refused = answered-same zeroTable (asksIn (calendarAnswer judged) f id date) _ refl
 
-  pub judged-before : Judged judged f id date
+  pub judged-before : OpenByVerdict judged f id date
   judged-before =
       record {
         same-file = same-file;

@@ -44,7 +44,7 @@ flatReplies t (c ∷ cs) = answerOn t c ∷ flatReplies (tableAfter t c) cs
 abbrev pub flatOpened : List ℕ → List ℕ → ℕ → FlatTable
 flatOpened f id date = flatOutcome (openCall f id date) .table
 
--- of every file, id and date with an accepted open, and every list of calls; no claim of its own, it joins those of demand 3
+-- of every file, id and date with an accepted open, and every list of calls: the flat calls are those of demand 3, of which demand 3 holds
 pub record FlatHistory (f id : List ℕ) (date : ℕ) (cs ds : List Call) : Type 0 where
   -- the flat table after the list stands for the table of demand 3 after the list, and is that table's flat form
   pub stands : unflatTable (flatRun (flatOpened f id date) cs) ≡ after (productOf f id) (calendarOf f) date cs

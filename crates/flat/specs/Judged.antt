@@ -11,14 +11,14 @@ use Rattle.flat.specs.declared.FlatOutcome.{FlatOutcome}
 use Rattle.flat.specs.Flat.{flatTable, flatOutcome}
 
 -- what it gives back
-abbrev pub openedBy : FileCalendar → List ℕ → List ℕ → ℕ → FlatOutcome
-openedBy judged f id date = flatOutcome (openIn (calendarAnswer judged) f id date)
+abbrev pub flatOpenIn : FileCalendar → List ℕ → List ℕ → ℕ → FlatOutcome
+flatOpenIn judged f id date = flatOutcome (openIn (calendarAnswer judged) f id date)
 
--- of every verdict and every file
-pub record Judged (judged : FileCalendar) (f id : List ℕ) (date : ℕ) : Type 0 where
+-- of every verdict and every file; of a verdict that is neither the file's nor a refusal nothing more is said than `openIn`: its table may be unsound, and calls on it then get 10
+pub record OpenByVerdict (judged : FileCalendar) (f id : List ℕ) (date : ℕ) : Type 0 where
   -- where the verdict is the file's: all that an open gives back which asks 1 to 8 itself
-  pub same-file : calendarAnswer judged ≡ judgeCall f → openedBy judged f id date ≡ flatOutcome (openCall f id date)
+  pub same-file : calendarAnswer judged ≡ judgeCall f → flatOpenIn judged f id date ≡ flatOutcome (openCall f id date)
   -- where it is a refusal: its number
-  pub number : (judged .refusal ≡ 0 → ⊥) → openedBy judged f id date .refusal ≡ judged .refusal
+  pub number : (judged .refusal ≡ 0 → ⊥) → flatOpenIn judged f id date .refusal ≡ judged .refusal
   -- '(open: a table of zeros)'
-  pub zeros : (openedBy judged f id date .refusal ≡ 0 → ⊥) → openedBy judged f id date .table ≡ flatTable zeroTable
+  pub zeros : (flatOpenIn judged f id date .refusal ≡ 0 → ⊥) → flatOpenIn judged f id date .table ≡ flatTable zeroTable

@@ -21,7 +21,7 @@ use Rattle.history.specs.declared.Called.{Called}
 use Rattle.places.specs.Numbering.{isListed, numberOf, unnumbered}
 use Rattle.table.specs.Table.{listedIn, sound, openedTable}
 use Rattle.history.specs.Book.{Call, Book, bookOpened, bookAfter, bookRun, bookReplies}
-use Rattle.history.specs.History.{tableCall, tableRun, tableReplies, calendarOfCalls, dateOfCalls, opens, ListedOnce, Demand3}
+use Rattle.history.specs.History.{tableCall, tableRun, tableReplies, calendarOfCalls, dateOfCalls, opens, WasListed, Demand3}
 use Rattle.history.proofs.Gone.{once-apart}
 use Rattle.history.proofs.Left.{left-listed}
 use Rattle.history.proofs.Moves.{fresh, now, present-is, number-is, given-most, numbersFirst}
@@ -168,7 +168,7 @@ module _ (p : Product) (cal : Calendar) (date : ℕ) (o : Opened p cal date) whe
       rw l at (after cs ds .stays m h)
 
   -- a month that left was listed after some beginning of the calls
-  listed-once : (cs : List Call) (m : ℕ) → oneOf (book cs .gone) m ≡ true → ListedOnce p cal date cs m
+  listed-once : (cs : List Call) (m : ℕ) → oneOf (book cs .gone) m ≡ true → WasListed p cal date cs m
   listed-once cs m e =
       let s = left-listed (p .kind) (p .group) (p .size) cal date cs m e in
       record { beginning = s .beginning; rest = s .rest; whole = s .whole; listed = rw (listed-are (s .beginning)) (s .listed) }
@@ -220,7 +220,7 @@ module _ (p : Product) (cal : Calendar) (date : ℕ) (o : Opened p cal date) whe
     for-good = for-good cs ds;
     never-back = λ m es e off. for-good (cs ++ ds) es m (has-left cs ds m e off);
     in-gone = has-left cs ds;
-    once-listed = listed-once cs;
+    was-listed = listed-once cs;
     gone-once = once-apart (book cs .gone) (at cs .inv .apart);
     off = taken-off cs;
     sum = rw (listed-are cs) (ap (λ (t : Table). t .given) (table-is cs) ∙ at cs .inv .total);

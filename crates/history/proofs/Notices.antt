@@ -114,7 +114,7 @@ pub closure-notice : (t : Table) (day : ℕ) → ClosureNotice t day
 closure-notice t day =
     record {
       closed = close-bit t day;
-      not-closed = λ one e. clash one (bit-before t day (close-asked t day e));
+      no-second-close = λ one e. clash one (bit-before t day (close-asked t day e));
       reopened = reopen-bit t day;
       closed-again = λ first e. close-bit (reopenCall t day .table) day e;
       stays = λ e cs. run-zero day cs (closeCall t day .table) (close-bit t day e);

@@ -22,7 +22,7 @@ use Rattle.values.specs.Values.{ZeroSecond}
 use Rattle.values.proofs.Before.{old-due}
 use Rattle.history.specs.Book.{Call, roll, close, reopen, measure, Reply, calendarAfter}
 use Rattle.history.specs.History.{tableRun, tableReplies, calendarOfCalls, Demand3}
-use Rattle.history.specs.OldFiles.{OldFile}
+use Rattle.history.specs.OldFiles.{OldFileDues}
 use Rattle.history.proofs.FromFile.{from-file}
 
 pub exchange-after : (cal : Calendar) (c : Call) (s : ℕ) → bitAt (calendarAfter cal c .exchange) s ≡ true → bitAt (cal .exchange) s ≡ true
@@ -47,13 +47,13 @@ module _ (p : Product) (cal : Calendar) (date : ℕ) (cs ds : List Call) (h : De
   exchange-stays s t = exchange-of-calls cal cs (tableReplies (openedTable p cal date) cs) s (ap (λ (c : Calendar). bitAt (c .exchange) s) (sym (h .calendar-is)) ∙ t)
 
 -- an old file: every table opened from it, after any list of calls
-module _ (f id : List ℕ) (date : ℕ) (e : openCall f id date .refusal ≡ 0) (old : oldFile f ≡ true) where
-  old-bits-stay : (cs : List Call) → ZeroSecond (tableRun (openCall f id date .table) cs)
-  old-bits-stay cs s =
+module _ (f id : List ℕ) (date : ℕ) where
+  old-bits-stay : oldFile f ≡ true → openCall f id date .refusal ≡ 0 → (cs : List Call) → ZeroSecond (tableRun (openCall f id date .table) cs)
+  old-bits-stay old e cs s =
       let h = from-file f id date e cs [] in
       let o = ordered f (all-yes f (accepted-from f id date e .loaded) .yes4) in
       ap (λ (t : Table). bitAt (tableRun t cs .calendar .exchange) s) (h .opened) ∙
       is-false _ (λ t. clash (exchange-stays (productOf f id) (calendarOf f) date cs [] (h .demand) s t) (old-bits f o old s))
 
-  pub old-due-stays : OldFile f id date
-  old-due-stays = record { zero = old-bits-stay; days = λ cs. old-due (tableRun (openCall f id date .table) cs) .days (old-bits-stay cs) }
+  pub old-due-stays : OldFileDues f id date
+  old-due-stays = record { zero = old-bits-stay; days = λ old e cs. old-due (tableRun (openCall f id date .table) cs) .days (old-bits-stay old e cs) }

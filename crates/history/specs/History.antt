@@ -109,7 +109,7 @@ module _ (p : Product) (cal : Calendar) (date : ℕ) where
   numberThen cs m = numberOf (listedIn (after cs)) m
 
   -- a month was listed after some beginning of the list of calls
-  pub record ListedOnce (cs : List Call) (m : ℕ) : Type 0 where
+  pub record WasListed (cs : List Call) (m : ℕ) : Type 0 where
     pub beginning : List Call
     pub rest : List Call
     pub whole : cs ≡ beginning ++ rest
@@ -147,8 +147,8 @@ module _ (p : Product) (cal : Calendar) (date : ℕ) where
     pub never-back : (m : ℕ) (es : List Call) → listedThen cs m ≡ true → listedThen (cs ++ ds) m ≡ false → listedThen ((cs ++ ds) ++ es) m ≡ false
     -- 'A month only in the old one joins those that left': every month that was listed and is not any more is among them
     pub in-gone : (m : ℕ) → listedThen cs m ≡ true → listedThen (cs ++ ds) m ≡ false → oneOf (book (cs ++ ds) .gone) m ≡ true
-    -- and no other: every month among them was listed after some beginning of the list
-    pub once-listed : (m : ℕ) → oneOf (book cs .gone) m ≡ true → ListedOnce cs m
+    -- and no other: every month among them was listed after some beginning of the list of calls
+    pub was-listed : (m : ℕ) → oneOf (book cs .gone) m ≡ true → WasListed cs m
     -- none is among them twice
     pub gone-once : (i j : ℕ) → i < j → j < length (book cs .gone) → getD (book cs .gone) i 0 ≡ getD (book cs .gone) j 0 → ⊥
     -- 'A call took a listed month off exactly when its last trading day, as the calendar stands after the call, is before the date the table then has'

@@ -11,7 +11,7 @@ use Rattle.table.specs.Table.{closeCall, reopenCall}
 use Rattle.history.specs.Book.{Call}
 use Rattle.history.specs.History.{tableRun}
 
--- the second map's bit of a day
+-- the second map's bit of a day of the cover; what it is of another day is not used
 abbrev pub secondBit : Table → ℕ → Bool
 secondBit t day = bitAt (t .calendar .exchange) (slotOf (t .calendar .cover) day)
 
@@ -19,11 +19,11 @@ secondBit t day = bitAt (t .calendar .exchange) (slotOf (t .calendar .cover) day
 pub record ClosureNotice (t : Table) (day : ℕ) : Type 0 where
   -- 'A closure notice leaves the second map's bit 0': an accepted close, of the table that it gives back
   pub closed : closeCall t day .refusal ≡ 0 → secondBit (closeCall t day .table) day ≡ false
-  -- a day whose bit is 1 is not closed: no close of it is accepted
-  pub not-closed : secondBit t day ≡ true → closeCall t day .refusal ≡ 0 → ⊥
-  -- an accepted reopening 'clears the day in both maps' (02, note 9), whatever its bit was
+  -- a day whose bit is 1 is closed already: no close of it is accepted
+  pub no-second-close : secondBit t day ≡ true → closeCall t day .refusal ≡ 0 → ⊥
+  -- of 'clears the day in both maps' (02, note 9) the second map: an accepted reopening leaves the bit 0, whatever it was
   pub reopened : reopenCall t day .refusal ≡ 0 → secondBit (reopenCall t day .table) day ≡ false
-  -- and an accepted close of the day after it leaves it 0 again
+  -- and where the same day is then closed again, its bit is 0
   pub closed-again : reopenCall t day .refusal ≡ 0 → closeCall (reopenCall t day .table) day .refusal ≡ 0
       → secondBit (closeCall (reopenCall t day .table) day .table) day ≡ false
   -- nor does any list of calls after the close set it, reopenings and closes of the same day among them

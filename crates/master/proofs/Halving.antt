@@ -19,7 +19,7 @@ use Rattle.years.proofs.Years.{ordered, calendar-block, product-block}
 use Rattle.ids.specs.Ids.{placeCount, isRecord, idAt, idRises, pairRises, placeRises, idsRise}
 use Rattle.master.specs.Products.{sameId}
 use Rattle.master.specs.Load.{loadAsks, hasId, placeFrom, found, findCall, productOf}
-use Rattle.master.specs.Halves.{findFrom, beginsBy, stepped, halved, blockByHalves, placeByHalves, foundByHalves, productByHalves}
+use Rattle.master.specs.Halves.{findFrom, beginsBy, stepped, halved, blockByHalves, placeByHalves, foundByHalves, productByHalves, ByHalves}
 use Rattle.master.proofs.Seeking.{seek-next}
 use Rattle.master.proofs.Ids.{record-inside, rises-same}
 use Rattle.master.proofs.Answers.{AllYes, all-yes}
@@ -139,3 +139,7 @@ module _ (f id : List ℕ) (e : firstNo (loadAsks f) ≡ 0) where
   pub halves-find : findFrom f id (15 * blockByHalves f id) ≡ findCall f id
   unfolding placeByHalves findFrom findCall found
   halves-find = rw halves-place
+
+-- the same as one claim
+pub by-halves : (f id : List ℕ) → ByHalves f id
+by-halves f id = record { place = halves-place f id; found-same = halves-found f id; product-same = halves-product f id }

@@ -60,7 +60,7 @@ openingOf f id date =
     })
     (refusedOpening (firstNo (openAsks f id date)))
 
--- the questions of open where the verdict of 1 to 8 is at hand: its number, 0 where all are answered yes, and the file's calendar. The record is looked for by halves, which finds it in a file that load accepts
+-- the questions of open where a verdict on 1 to 8 is at hand: its number, 0 where all are answered yes, and its calendar. Whether the verdict is the file's is not asked. 9 is asked by halves, which in a file that load accepts is 9
 unfoldable pub asksIn : Answer Calendar → List ℕ → List ℕ → ℕ → List Ask
 asksIn verdict f id date =
     ask (verdict .refusal) (eqb (verdict .refusal) 0)

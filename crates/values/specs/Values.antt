@@ -79,11 +79,11 @@ pub record OldDueDays (t : Table) : Type 0 where
   -- where due answered with that day, it still does
   pub answers : ZeroSecond t → (day : ℕ) → firstNo (dueAsksBefore t day (oldDueDay t day)) ≡ 0 → dueCall t day ≡ record { refusal = 0; value = oldDueDay t day }
 
--- what note 5 says of due, which counted the exchange days of note 4 before it too
+-- what note 5 says of due. Before it due counted exchange days already (note 4), so the due day was `dueDay` then too; what changed is the questions
 pub record DueKept (t : Table) (day : ℕ) : Type 0 where
   -- 'Days that were answered before keep their due day'
   pub kept : firstNo (dueAsksBefore t day (dueDay t day)) ≡ 0 → dueCall t day ≡ record { refusal = 0; value = dueDay t day }
-  -- a trading day keeps its refusal too
+  -- a trading day keeps its answer, refusal or day
   pub as-before : tradingDay (t .calendar) day ≡ true → dueCall t day ≡ answer (dueAsksBefore t day (dueDay t day)) 0 (dueDay t day)
   -- 'and due no longer gives 14'
   pub never-14 : dueCall t day .refusal ≡ 14 → ⊥
