@@ -1,12 +1,13 @@
-"""Six streams of commands with their master files, made from a seed: opens, rolls
-and closes on 3 years with 15 records and on 16 years with 1,000; and three on 16
-years whose closed days are made up (document 02, note 14), by a text that says their
-seed.
+"""Streams of commands with their master files, made from a seed: opens, rolls, many
+rolls and closes on 3 years with 15 records and on 16 years with 1,000; and the same on
+16 years whose closed days are made up (document 02, note 14), by a text that says
+their seed. Of the rolls most move the listing, as some weeks lie between two of them;
+of the many rolls most leave it as it is, as one from a day to the next does.
 
   python3 bench/streams.py FOLDER    a folder of FOLDER for each stream, with the
                                      files master.bin and input, and the text
                                      made-up.txt, from which compose makes the
-                                     master.bin of the last three
+                                     master.bin of the last four
 """
 import os
 import random
@@ -22,6 +23,7 @@ from second.terms import day_text  # noqa: E402
 SEED = 1
 FIRST_YEAR = 2008
 LINES = 600
+MANY = 20_000
 SIZES = ((3, 15), (16, 1000))  # years, records
 MADE_UP_SEED = 14
 
@@ -104,22 +106,21 @@ def each(make, codes):
     return made
 
 
-# How the lines of each stream are made. An open of 16 years costs many rolls, so
-# there is one.
+# How the lines of each stream are made, and how many.
 def makers(years):
     codes = (b'A13 ', b'A12 ', b'A24 ') if years == 3 else (b'A13 ',)
-    return ('opens', opens), ('rolls', each(rolls, codes)), ('closes', each(closes, codes))
+    return (('opens', opens, LINES // 10 if years == 16 else LINES), ('rolls', each(rolls, codes), LINES),
+            ('many rolls', each(rolls, codes), MANY), ('closes', each(closes, codes), LINES))
 
 
 # The streams of a file: name and lines of each.
 def streams_of(file, years):
-    for name, make in makers(years):
-        count = LINES // 10 if (years, name) == (16, 'opens') else LINES
+    for name, make, count in makers(years):
         rng = random.Random(f'{SEED} {years} {name}')
         yield name, make(file, rng, count)
 
 
-# Each of the six streams: its name, its file, its lines.
+# Each stream of a file with the calendar in tests/data: its name, its file, its lines.
 def streams():
     for years, records in SIZES:
         file = file_of(years, records)
