@@ -89,11 +89,11 @@ fn answer_next(
             at: end,
         };
     }
-    let replied = apart::reply(file, judged, right, k, closed, exchange, line, out);
+    let after = apart::reply(file, judged, right, k, closed, exchange, line, out);
     let empty = lines::empty_line();
     let next = end + 1;
     Step {
-        replied,
+        replied: after,
         line: empty,
         at: next,
     }
