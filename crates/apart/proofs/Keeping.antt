@@ -1,13 +1,18 @@
--- A roll whose front stays, on a table apart from its maps; a table put together and taken apart again; the answer to a line.
+-- A roll whose front stays, and a close on which no listed maturity ends, on a table apart from its maps; a table put together and taken apart again; the answer to a line.
 -- Assumes nothing.
 use mathlib.Core.Path.{_≡_, refl, sym, ap, _∙_}
 use mathlib.Core.Bool.{Bool, true, false, _&&_, cond}
 use mathlib.Core.List.{List}
-use Prim.Native.Nat.{ℕ}
+use Prim.Native.Nat.{ℕ, _*_, _-_, _/_, _%_, _^_, _<_}
 use native.Mathlib.Omega.{arith}
-use lib.Dec.{leb, eqb}
-use lib.ListN.{length, getD}
-use Rattle.calendar.specs.Trading.{calendarWith, inCover}
+use lib.Dec.{leb, ltb, eqb}
+use lib.Bits.{bitOr}
+use lib.ListN.{length, getD, set}
+use Rattle.calendar.specs.Trading.{calendarWith, inCover, slotOf, tradingDay, everyWeek, closeDay}
+use Rattle.calendar.specs.declared.Cover.{Cover}
+use Rattle.calendar.proofs.Closing.{close-cover, close-store}
+use Rattle.calendar.proofs.Second.{trading-second}
+use Rattle.expiry.proofs.Fridays.{last-but}
 use Rattle.listing.specs.Rules.{front, unused}
 use Rattle.listing.specs.Months.{ruleOf}
 use Rattle.listing.proofs.Second.{front-second}
@@ -18,12 +23,14 @@ use Rattle.printing.specs.Text.{outcomeText, refusalText}
 use Rattle.lines.specs.declared.Command.{Command}
 use Rattle.table.specs.declared.Table.{Table}
 use Rattle.table.specs.declared.Outcome.{Outcome}
-use Rattle.table.specs.Table.{sound, calendarSound, keptIn, rollCall, openIn}
-use Rattle.table.proofs.Calls.{roll-16}
+use Rattle.table.specs.Table.{sound, calendarSound, keptIn, rollCall, closeCall, openIn, tradesAround, noneEndsOn}
+use Rattle.table.proofs.Calls.{roll-16, close-16, sound-parts}
 use Rattle.table.proofs.Staying.{stays}
+use Rattle.table.proofs.Around.{around-of, trades-second}
+use Rattle.table.proofs.Unmoved.{unmoved, none-of}
 use Rattle.command.specs.declared.Kept.{Kept}
 use Rattle.command.specs.Sessions.{bad, outcomeOf, answerText, keptAfter}
-use Rattle.command.proofs.Answers.{rolls, opens-by, no-kept, no-text, yes-kept, yes-text, leaves-sound}
+use Rattle.command.proofs.Answers.{rolls, closes, opens-by, no-kept, no-text, yes-kept, yes-text, leaves-sound}
 use Rattle.apart.specs.declared.Rest.{Rest}
 use Rattle.apart.specs.declared.Moved.{Moved}
 use Rattle.apart.specs.Apart.{tableWith, restOf, keptWith, datedRest, Moves, shownOf}
@@ -38,6 +45,16 @@ module _ (rest : Rest) (closed : List ℕ) (len : length (rest .maturities) ≡ 
       let r = ruleOf (t .calendar) (rest .product .kind) (rest .product .group) in
       let f : eqb (getD (rest .maturities) 0 unused .key) (front r (t .calendar) date) ≡ true = ap (eqb (getD (rest .maturities) 0 unused .key)) (front-second (calendarWith (rest .cover) closed) exchange r date) ∙ e in
       roll-16 t date s c d ∙ stays t s len date f
+
+  pub closes-kept : (day : ℕ) → inCover (rest .cover) day ≡ true → rest .date < day → ltb (rest .date) day ≡ true → tradingDay (calendarWith (rest .cover) closed) day ≡ true
+      → tradesAround (calendarWith (rest .cover) closed) day ≡ true → noneEndsOn (rest .maturities) day ≡ true
+      → (exchange : List ℕ) → sound (tableWith rest closed exchange) ≡ true
+      → closeCall (tableWith rest closed exchange) day ≡ keptIn (tableWith rest closed exchange) (closeDay (tableWith rest closed exchange .calendar) day) (rest .date)
+  closes-kept day c d l w a n exchange s =
+      let t = tableWith rest closed exchange in
+      let x : tradingDay (t .calendar) day ≡ true = trading-second (calendarWith (rest .cover) closed) exchange day ∙ w in
+      let y : everyWeek (closeDay (t .calendar) day) ≡ true = around-of (t .calendar) day (trades-second (calendarWith (rest .cover) closed) exchange day ∙ a) (sound-parts t s .weeks) in
+      close-16 t day s c l x y ∙ unmoved t s len day d (none-of (rest .maturities) day n) (closeDay (t .calendar) day) (close-cover (t .calendar) day) (last-but (t .calendar) day)
 
 -- a table that is kept as it was but for its date and its first map
 moves-kept : (t : Table) (o : Outcome) (rest : Rest) (date : ℕ) (closed exchange : List ℕ)
@@ -55,6 +72,26 @@ module _ (opening : List ℕ → ℕ → Outcome) (rest : Rest) (closed exchange
   rolled l e =
       moves-kept (tableWith rest closed exchange) (outcomeOf opening (tableWith rest closed exchange) c) rest (c .day) closed exchange
       (sym (rolls opening (tableWith rest closed exchange) c (λ q. omega (arith, q, l)) l) ∙ e)
+
+  pub closed-aside : (map : List ℕ) → c .letter ≡ 67 → map ≡ closeDay (calendarWith (rest .cover) closed) (c .day) .closed
+      → closeCall (tableWith rest closed exchange) (c .day) ≡ keptIn (tableWith rest closed exchange) (closeDay (tableWith rest closed exchange .calendar) (c .day)) (rest .date)
+      → Moves (tableWith rest closed exchange) (outcomeOf opening (tableWith rest closed exchange) c) (datedRest rest (rest .date)) map exchange
+  unfolding closeDay
+  closed-aside map l m e =
+      moves-kept (tableWith rest closed exchange) (outcomeOf opening (tableWith rest closed exchange) c) rest (rest .date) map exchange
+      (sym (closes opening (tableWith rest closed exchange) c (λ q. omega (arith, q, l)) (λ q. omega (arith, q, l))) ∙ e ∙ kept-is map m)
+    where
+      kept-is : (map : List ℕ) → map ≡ closeDay (calendarWith (rest .cover) closed) (c .day) .closed
+          → keptIn (tableWith rest closed exchange) (closeDay (tableWith rest closed exchange .calendar) (c .day)) (rest .date)
+          ≡ record { refusal = 0; table = tableWith (datedRest rest (rest .date) .rest) map exchange; entered = 0; left = 0 }
+      kept-is map m = rw m refl
+
+-- ---- one day closed in a map
+
+module _ (cover : Cover) (map : List ℕ) (day : ℕ) where
+  pub map-store : (slot : ℕ) → slot ≡ slotOf cover day → inCover cover day ≡ true
+      → set map (slot / 8) (bitOr (getD map (slot / 8) 0) (1 * 2 ^ (7 - slot % 8) % 256)) ≡ closeDay (calendarWith cover map) day .closed
+  map-store slot q e = ap (λ (c : Calendar). c .closed) (close-store (calendarWith cover map) day slot q e)
 
 -- ---- a table that is put together and taken apart again
 

@@ -1,4 +1,4 @@
-// A table apart from the two maps of its calendar, which are lent, so that a roll that leaves the listing as it is copies neither.
+// A table apart from the two maps of its calendar, which are lent, so that a roll and a close that leave the listing as it is copy neither.
 use calendar::Calendar;
 use calendar::Cover;
 use lines::Command;
@@ -11,9 +11,10 @@ use years::FileCalendar;
 ghost use mathlib.Core.Path.{_≡_};
 ghost use mathlib.Core.Bool.{true};
 ghost use mathlib.Core.List.{List};
-ghost use Prim.Native.Nat.{ℕ};
+ghost use Prim.Native.Nat.{ℕ, _/_, _<_};
+ghost use Rattle.calendar.specs.Trading.{calendarWith, inCover, slotOf, closeDay};
 ghost use Rattle.years.specs.Calendars.{calendarAnswer};
-ghost use Rattle.table.specs.Table.{sound, keptIn, rollCall, openIn};
+ghost use Rattle.table.specs.Table.{sound, keptIn, rollCall, closeCall, openIn};
 ghost use Rattle.lines.specs.Lines.{lineCommand};
 ghost use Rattle.command.specs.Sessions.{outcomeOf, Known};
 ghost use Rattle.apart.specs.Apart.{tableWith, restOf, keptWith, datedRest, Moves, shownOf, Replies};
@@ -128,6 +129,49 @@ fn rolls_on(ten: bool, letter: u8, rest: Rest, closed: &[u8], date: u16) -> bool
     first.key == listing::front_key_in(cover, closed, kind, group, date)
 }
 
+// Whether a command is a close that leaves the listing of a sound table as it is.
+fn closes_aside(ten: bool, letter: u8, rest: Rest, closed: &[u8], day: u16) -> bool
+    ensures { λ r. ⌜ (r ≡ true → (letter ≡ 67) × (ten ≡ true) × (inCover (rest .cover) day ≡ true) × (slotOf (rest .cover) day / 8 < 736) × ((exchange : List ℕ) → sound (tableWith rest (now (closed .entry)) exchange) ≡ true → closeCall (tableWith rest (now (closed .entry)) exchange) day ≡ keptIn (tableWith rest (now (closed .entry)) exchange) (closeDay (tableWith rest (now (closed .entry)) exchange .calendar) day) (rest .date))) ⌝ }
+{
+    if letter != b'C' {
+        return false;
+    }
+    if !ten {
+        return false;
+    }
+    let cover = rest.cover;
+    if !calendar::in_cover(cover, day) {
+        return false;
+    }
+    if day <= rest.date {
+        return false;
+    }
+    if !calendar::is_trading_day_in(cover, closed, day) {
+        return false;
+    }
+    if !table::trades_around(cover, closed, day) {
+        return false;
+    }
+    let slot = calendar::slot_of(cover, day);
+    if 736 <= slot / 8 {
+        return false;
+    }
+    let maturities = rest.maturities;
+    table::none_ends_on(maturities, day)
+}
+
+// Marks a day of the cover closed in a lent map.
+fn close_in(cover: Cover, closed: &mut [u8; 736], day: u16)
+    requires { ⌜ (inCover cover day ≡ true) × (slotOf cover day / 8 < 736) ⌝ }
+    ensures { λ _. ⌜ now (closed .exit) ≡ closeDay (calendarWith cover (now (closed .entry))) day .closed ⌝ }
+{
+    let slot = calendar::slot_of(cover, day);
+    let at = slot / 8;
+    let bit: u8 = 1 << (7 - slot % 8);
+    let byte = closed[at];
+    closed[at] = byte | bit;
+}
+
 // The table that an open gives, apart, and its maps.
 fn open_apart(
     file: &[u8],
@@ -205,7 +249,7 @@ fn move_whole(
     }
 }
 
-// The call of a command on a table apart, where the verdict on the file and the answer to question 10 of the table are at hand. A roll that leaves the listing as it is copies no map.
+// The call of a command on a table apart, where the verdict on the file and the answer to question 10 of the table are at hand. A roll and a close that leave the listing as it is copy no map.
 pub fn move_apart(
     file: &[u8],
     judged: FileCalendar,
@@ -221,6 +265,10 @@ pub fn move_apart(
     let day = c.day;
     if rolls_on(ten, letter, rest, closed, day) {
         return dated(rest, day);
+    }
+    if closes_aside(ten, letter, rest, closed, day) {
+        close_in(rest.cover, closed, day);
+        return dated(rest, rest.date);
     }
     if letter == b'O' {
         let id = c.id;

@@ -1,17 +1,17 @@
 -- A day on which no listed maturity ends, closed, leaves the listing as it is.
 -- Assumes nothing.
 use mathlib.Core.Path.{_≡_, refl, _∙_, sym, ap}
-use mathlib.Core.Bool.{Bool, true, false, _&&_, cond}
+use mathlib.Core.Bool.{Bool, true, false, not, _&&_, cond}
 use mathlib.Core.Logic.{_⊎_, inl, inr}
 use mathlib.Core.List.{List, [], _∷_, map}
 use Prim.Native.Nat.{ℕ, zero, suc, _+_, _-_, _≤_, _<_}
 use native.Mathlib.Omega.{arith}
 use native.Mathlib.Nat.{add-zero}
-use lib.Dec.{leb}
+use lib.Dec.{leb, eqb}
 use lib.ListN.{length, getD}
-use borrow.Author.Tests.{leb-false}
-use Rattle.questions.specs.Search.{firstFrom}
-use Rattle.questions.proofs.Bools.{lt-or-ge}
+use borrow.Author.Tests.{leb-false, eqb-false, eq-eqb, ne-eqb, not-true}
+use Rattle.questions.specs.Search.{every, firstFrom}
+use Rattle.questions.proofs.Search.{every-none, every-more, every-at, every-not}
 use Rattle.calendar.specs.declared.Calendar.{Calendar}
 use Rattle.calendar.specs.declared.Cover.{Cover}
 use Rattle.listing.specs.declared.Maturity.{Maturity}
@@ -23,23 +23,33 @@ use Rattle.listing.proofs.Lawful.{fresh-first}
 use Rattle.listing.proofs.OfKinds.{rule-lawful}
 use Rattle.table.specs.declared.Table.{Table}
 use Rattle.table.specs.declared.Outcome.{Outcome}
-use Rattle.table.specs.Table.{listedIn, sound, movedTo, moved, refusedWith, keptIn}
+use Rattle.table.specs.Table.{listedIn, sound, movedTo, moved, refusedWith, keptIn, noneEndsOn}
 use Rattle.table.proofs.Calls.{Sound, sound-parts}
 use Rattle.table.proofs.Staying.{fresh-long, place, in-places, blank-is, places-are, known, none-missing, none-left, known-numbers}
 use lib.ListN.{length-map}
 
 -- none of the places before one ends on a day
 pub record NoneEnds (ms : List Maturity) (d i : ℕ) : Type 0 where
-  pub none : (j : ℕ) → j < i → getD ms j unused .day ≡ d → ⊥
+  pub none : every i (λ i. not (eqb (getD ms i unused .day) d)) ≡ true
 
-pub none-more : (ms : List Maturity) (d i : ℕ) → NoneEnds ms d i → (getD ms i unused .day ≡ d → ⊥) → NoneEnds ms d (i + 1)
-none-more ms d i v n = record { none = λ j l e. go j e l (lt-or-ge j i) }
-  where
-    go : (j : ℕ) → getD ms j unused .day ≡ d → j < i + 1 → (j < i) ⊎ (i ≤ j) → ⊥
-    go j e l (inl s) = v .none j s e
-    go j e l (inr s) =
-        let q : i ≡ j = omega arith in
-        n (rw q e)
+module _ (ms : List Maturity) (d : ℕ) where
+  pub none-begins : NoneEnds ms d 0
+  none-begins = record { none = every-none (λ i. not (eqb (getD ms i unused .day) d)) }
+
+  pub none-more : (i : ℕ) → NoneEnds ms d i → (getD ms i unused .day ≡ d → ⊥) → NoneEnds ms d (i + 1)
+  none-more i v n = record { none = every-more (λ i. not (eqb (getD ms i unused .day) d)) i (v .none) (rw (ne-eqb (getD ms i unused .day) d n) refl) }
+
+  pub none-found : (i : ℕ) → i < 15 → getD ms i unused .day ≡ d → false ≡ noneEndsOn ms d
+  unfolding noneEndsOn
+  none-found i h e = sym (every-not (λ i. not (eqb (getD ms i unused .day) d)) 15 i (rw (eq-eqb (getD ms i unused .day) d e) refl) h)
+
+  pub none-all : (i : ℕ) → i ≡ 15 → NoneEnds ms d i → true ≡ noneEndsOn ms d
+  unfolding noneEndsOn
+  none-all i e v = sym (rw e at (v .none))
+
+  pub none-of : noneEndsOn ms d ≡ true → (i : ℕ) → i < 15 → getD ms i unused .day ≡ d → ⊥
+  unfolding noneEndsOn
+  none-of e i h = eqb-false (getD ms i unused .day) d (not-true (eqb (getD ms i unused .day) d) (every-at (λ i. not (eqb (getD ms i unused .day) d)) 15 i e h))
 
 -- a search finds the same where a second test refuses what the first refuses, and takes what the first finds
 search-same : (f g : ℕ → Bool) (none n k : ℕ) → ((x : ℕ) → f x ≡ false → g x ≡ false) → (f (firstFrom f none n k) ≡ true → g (firstFrom f none n k) ≡ true)

@@ -1,12 +1,12 @@
 -- The table, its soundness, and the calls that open it, roll it, close a day and open it again (01, The table; Questions, in order; 02, notes 2, 3 and 9).
 -- Assumes nothing.
 use Prim.Native.Nat.{ℕ, _+_, _-_}
-use mathlib.Core.Bool.{Bool, _&&_, cond}
+use mathlib.Core.Bool.{Bool, not, _&&_, cond}
 use mathlib.Core.List.{List, [], _∷_}
 use lib.Dec.{leb, ltb, eqb}
-use lib.ListN.{length, take, replicate}
+use lib.ListN.{length, getD, take, replicate}
 use Rattle.questions.specs.Questions.{Ask, ask, firstNo, Answer}
-use Rattle.questions.specs.Search.{every}
+use Rattle.questions.specs.Search.{every, firstFrom}
 use Rattle.calendar.specs.declared.Calendar.{Calendar}
 use Rattle.calendar.specs.Trading.{zeroCalendar, validCover, inCover, tradingDay, clean, everyWeek, closeDay, reopenDay, closedWeekday}
 use Rattle.product.specs.declared.Product.{Product}
@@ -167,3 +167,19 @@ keptIn t cal date =
       entered = 0;
       left = 0;
     }
+
+-- only the code needs these: how many days before a day the nearest trading day lies, 7 where none of the six days before it is one
+unfoldable pub stepsBack : Calendar → ℕ → ℕ
+stepsBack cal day = firstFrom (λ n. leb n day && tradingDay cal (day - n)) 7 6 1
+
+-- the same of the days after it; 7 of a day after 2099
+unfoldable pub stepsOn : Calendar → ℕ → ℕ
+stepsOn cal day = cond (leb 36525 day) 7 (firstFrom (λ n. tradingDay cal (day + n)) 7 6 1)
+
+-- the two trading days lie at most seven days apart
+unfoldable pub tradesAround : Calendar → ℕ → Bool
+tradesAround cal day = leb (stepsBack cal day + stepsOn cal day) 7
+
+-- no maturity in the fifteen places ends on a day
+unfoldable pub noneEndsOn : List Maturity → ℕ → Bool
+noneEndsOn ms day = every 15 (λ i. not (eqb (getD ms i unused .day) day))

@@ -6,15 +6,15 @@ use product::Product;
 use years::FileCalendar;
 ghost use mathlib.Core.Path.{_≡_};
 ghost use mathlib.Core.Bool.{true, _&&_, cond};
-ghost use Prim.Native.Nat.{ℕ, _+_, _-_, _≤_, _<_};
+ghost use Prim.Native.Nat.{_≤_};
 ghost use lib.ListN.{length, getD, take};
 ghost use Rattle.places.specs.Numbering.{isListed};
 ghost use lib.Dec.{eqb};
-ghost use Rattle.calendar.specs.Trading.{calendarWith, tradingDay, everyWeek, closeDay};
+ghost use Rattle.calendar.specs.Trading.{calendarWith, everyWeek, closeDay};
 ghost use Rattle.years.specs.Calendars.{calendarAnswer};
 ghost use Rattle.listing.specs.Rules.{front, unused};
 ghost use Rattle.listing.specs.Months.{placesOfKind, ruleOf, allInCover};
-ghost use Rattle.table.specs.Table.{listedIn, listsFresh, listingSound, sound, calendarSound, movedTo, moved, keptIn, refusedWith, zeroTable, openedWith, openCall, openIn, rollCall, closeCall, reopenCall};
+ghost use Rattle.table.specs.Table.{listedIn, listsFresh, listingSound, sound, calendarSound, movedTo, moved, keptIn, refusedWith, zeroTable, openedWith, openCall, openIn, rollCall, closeCall, reopenCall, stepsBack, stepsOn, tradesAround, noneEndsOn};
 
 // A product, its calendar, a date, up to 15 maturities by rising key, and the count of numbers given.
 pub struct Table {
@@ -246,8 +246,8 @@ fn kept(t: Table, cal: Calendar, date: u16) -> Outcome
 }
 
 // Whether no maturity ends on a day.
-fn none_ends_on(maturities: [Maturity; 15], day: u16) -> bool
-    ensures { λ r. ⌜ (r ≡ true → (i : ℕ) → i < 15 → getD maturities i unused .day ≡ day → ⊥) ⌝ }
+pub fn none_ends_on(maturities: [Maturity; 15], day: u16) -> bool
+    ensures { λ r. ⌜ r ≡ noneEndsOn maturities day ⌝ }
 {
     let mut i: usize = 0;
     while i < 15 {
@@ -262,7 +262,7 @@ fn none_ends_on(maturities: [Maturity; 15], day: u16) -> bool
 
 // How many days before a day the nearest trading day lies, by the cover and the lent maps; 7 where none of the six days before it is one.
 fn steps_back(cover: Cover, closed: &[u8], day: u16) -> u16
-    ensures { λ r. ⌜ (1 ≤ r) × (r ≤ 7) × (r < 7 → (r ≤ day) × (tradingDay (calendarWith cover (now (closed .entry))) (day - r) ≡ true)) ⌝ }
+    ensures { λ r. ⌜ r ≡ stepsBack (calendarWith cover (now (closed .entry))) day ⌝ }
 {
     let mut n: u16 = 1;
     while n < 7 {
@@ -280,7 +280,7 @@ fn steps_back(cover: Cover, closed: &[u8], day: u16) -> u16
 
 // The same of the days after a day.
 fn steps_on(cover: Cover, closed: &[u8], day: u16) -> u16
-    ensures { λ r. ⌜ (1 ≤ r) × (r ≤ 7) × (r < 7 → tradingDay (calendarWith cover (now (closed .entry))) (day + r) ≡ true) ⌝ }
+    ensures { λ r. ⌜ r ≡ stepsOn (calendarWith cover (now (closed .entry))) day ⌝ }
 {
     if 36525 <= day {
         return 7;
@@ -295,19 +295,21 @@ fn steps_on(cover: Cover, closed: &[u8], day: u16) -> u16
     7
 }
 
-// A quick look at the days around a day: yes where the trading days on its two sides lie at most seven days apart, so that every seven days with the day in them hold one of the two.
-fn trades_around(cal: Calendar, day: u16) -> bool
-    ensures { λ r. ⌜ (r ≡ true → everyWeek cal ≡ true → everyWeek (closeDay cal day) ≡ true) ⌝ }
+// A quick look at the days around a day, by the cover and the lent maps: yes where the trading days on its two sides lie at most seven days apart, so that every seven days with the day in them hold one of the two.
+pub fn trades_around(cover: Cover, closed: &[u8], day: u16) -> bool
+    ensures { λ r. ⌜ r ≡ tradesAround (calendarWith cover (now (closed .entry))) day ⌝ }
 {
-    let cover = cal.cover;
-    steps_back(cover, &cal.closed, day) + steps_on(cover, &cal.closed, day) <= 7
+    let back = steps_back(cover, closed, day);
+    let on = steps_on(cover, closed, day);
+    back + on <= 7
 }
 
 // Question 15 of a calendar that question 6 accepts: the quick look answers yes, the test of all weeks the rest.
 fn keeps_weeks(cal: Calendar, day: u16) -> bool
     ensures { λ r. ⌜ (everyWeek cal ≡ true → r ≡ everyWeek (closeDay cal day)) ⌝ }
 {
-    if trades_around(cal, day) {
+    let cover = cal.cover;
+    if trades_around(cover, &cal.closed, day) {
         return true;
     }
     calendar_questions::trades_with_closed(cal, day)

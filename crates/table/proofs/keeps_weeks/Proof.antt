@@ -1,4 +1,4 @@
-use mathlib.Core.Path.{sym}
+use Rattle.table.proofs.Around.{around-in}
 use Rattle.table.proofs.keeps_weeks.Statement.{statement}
 use Rattle.table.proofs.keeps_weeks.Tie as tie
 
@@ -6,7 +6,7 @@ trades-around-requires : tie.Need-trades-around-requires
 trades-around-requires c κs = tt
 
 returns : tie.Need-returns
-returns c = λ w. sym (c .before .trades-around .ensures (c .if1 .taken) w)
+returns c = λ w. around-in _ _ _ (c .before .trades-around .ensures) (c .if1 .taken) w
 
 trades-with-closed-requires : tie.Need-trades-with-closed-requires
 trades-with-closed-requires c κs = tt

@@ -1,20 +1,21 @@
 use native.Mathlib.Omega.{arith}
-use mathlib.Core.Path.{_≡_, sym}
-use mathlib.Core.Bool.{true≢false}
-use Prim.Native.Nat.{_-_}
+use mathlib.Core.Path.{_≡_, refl, sym}
+use mathlib.Core.Bool.{true, not}
+use Prim.Native.Nat.{_-_, _≤_}
 use lib.ListN.{length}
-use Rattle.table.proofs.Unmoved.{NoneEnds, none-more}
+use Rattle.table.specs.Table.{noneEndsOn}
+use Rattle.table.proofs.Unmoved.{NoneEnds, none-begins, none-more, none-found, none-all}
 use Rattle.table.proofs.none_ends_on.Statement.{statement}
 use Rattle.table.proofs.none_ends_on.Tie as tie
 
 abbrev Inv-loop : tie.InvT-loop
-Inv-loop day maturities i₀ i = (length maturities ≡ 15) × NoneEnds maturities day i
+Inv-loop day maturities i₀ i = (length maturities ≡ 15) × (i ≤ 15) × NoneEnds maturities day i
 
 abbrev μ-loop : tie.MeasureT-loop
 μ-loop day maturities i₀ i = 15 - i
 
 loop-holds : tie.Need-loop-holds Inv-loop μ-loop
-loop-holds c = (c .good .0 .1 .0 .1, record { none = λ j h e. omega arith })
+loop-holds c = (c .good .0 .1 .0 .1, omega arith, none-begins _ _)
 
 mul-m : tie.Need-mul-m Inv-loop μ-loop
 mul-m c = omega arith
@@ -23,7 +24,7 @@ array-copy-out-m : tie.Need-array-copy-out-m Inv-loop μ-loop
 array-copy-out-m c = omega arith
 
 returns : tie.Need-returns Inv-loop μ-loop
-returns c = λ e. absurd (true≢false (sym e))
+returns c = none-found _ _ _ (omega arith) (c .if1 .taken)
 
 add-i : tie.Need-add-i Inv-loop μ-loop
 add-i c = omega arith
@@ -34,10 +35,12 @@ loop-less c = omega arith
 loop-again : tie.Need-loop-again Inv-loop μ-loop
 loop-again c =
     let v = c .before .before .before .before .loop .inv in
-    (v .0, none-more _ _ _ (v .1) (c .if1 .left))
+    (v .0, omega arith, none-more _ _ _ (v .2) (c .if1 .left))
 
 returns-2 : tie.Need-returns-2 Inv-loop μ-loop
-returns-2 c = λ e i h. c .before .loop .inv .1 .none i (omega arith)
+returns-2 c =
+    let v = c .before .loop .inv in
+    none-all _ _ _ (omega arith) (v .2)
 
 pub none-ends-on-spec : {M : Type 1} → statement M
 none-ends-on-spec =

@@ -1,26 +1,33 @@
 use native.Mathlib.Omega.{arith}
 use mathlib.Core.Path.{sym, _∙_}
 use Prim.Native.Nat.{_-_, _≤_}
+use Rattle.calendar.specs.Trading.{calendarWith}
+use borrow.Author.Tests.{le-leb}
+use Rattle.table.specs.Table.{stepsBack}
+use Rattle.table.proofs.Around.{Searching, backTest, back-starts, back-none, search-at, search-on, search-end}
 use Rattle.table.proofs.steps_back.Statement.{statement}
 use Rattle.table.proofs.steps_back.Tie as tie
 
 abbrev Inv-loop : tie.InvT-loop
-Inv-loop cover closed day n₀ n = (1 ≤ n) × (n ≤ 7)
+Inv-loop cover closed day n₀ n = (1 ≤ n) × (n ≤ 7) × Searching (backTest (calendarWith cover closed) day) n (stepsBack (calendarWith cover closed) day)
 
 abbrev μ-loop : tie.MeasureT-loop
 μ-loop cover closed day n₀ n = 7 - n
 
 loop-holds : tie.Need-loop-holds Inv-loop μ-loop
-loop-holds c = (omega arith, omega arith)
+loop-holds c = (omega arith, omega arith, back-starts _ _)
 
 returns : tie.Need-returns Inv-loop μ-loop
-returns c = (omega arith, omega arith, λ h. absurd (omega arith))
+returns c = back-none _ _ _ _ (c .if1 .taken) (c .before .before .loop .inv .2)
 
 is-trading-day-in-requires : tie.Need-is-trading-day-in-requires Inv-loop μ-loop
 is-trading-day-in-requires c κs = tt
 
 returns-2 : tie.Need-returns-2 Inv-loop μ-loop
-returns-2 c = (omega arith, omega arith, λ h. (omega arith, sym (c .before .is-trading-day-in .ensures) ∙ c .if2 .taken))
+returns-2 c =
+    let at-if1 = c .before .before in
+    let at-loop-test = at-if1 .before in
+    search-at _ _ _ (at-loop-test .loop-test .taken) (at-loop-test .before .loop .inv .2) (rw (le-leb _ _ (at-if1 .if1 .left)) (sym (c .before .is-trading-day-in .ensures) ∙ c .if2 .taken))
 
 add-n : tie.Need-add-n Inv-loop μ-loop
 add-n c = omega arith
@@ -29,10 +36,13 @@ loop-less : tie.Need-loop-less Inv-loop μ-loop
 loop-less c = omega arith
 
 loop-again : tie.Need-loop-again Inv-loop μ-loop
-loop-again c = (omega arith, omega arith)
+loop-again c =
+    let at-if1 = c .before .before in
+    let at-loop-test = at-if1 .before in
+    (omega arith, omega arith, search-on _ _ _ (at-loop-test .loop-test .taken) (at-loop-test .before .loop .inv .2) (rw (le-leb _ _ (at-if1 .if1 .left)) (sym (c .before .is-trading-day-in .ensures) ∙ c .if2 .left)))
 
 returns-3 : tie.Need-returns-3 Inv-loop μ-loop
-returns-3 c = (omega arith, omega arith, λ h. absurd (omega arith))
+returns-3 c = search-end _ _ _ (c .loop-test .left) (c .before .loop .inv .2)
 
 pub steps-back-spec : {M : Type 1} → statement M
 steps-back-spec =

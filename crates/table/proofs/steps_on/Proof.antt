@@ -1,20 +1,23 @@
 use native.Mathlib.Omega.{arith}
 use mathlib.Core.Path.{sym, _∙_}
 use Prim.Native.Nat.{_-_, _≤_, _<_}
+use Rattle.calendar.specs.Trading.{calendarWith}
+use Rattle.table.specs.Table.{stepsOn}
+use Rattle.table.proofs.Around.{Searching, onTest, on-late, on-starts, search-at, search-on, search-end}
 use Rattle.table.proofs.steps_on.Statement.{statement}
 use Rattle.table.proofs.steps_on.Tie as tie
 
 abbrev Inv-loop : tie.InvT-loop
-Inv-loop cover closed day n₀ n = (1 ≤ n) × (n ≤ 7) × (day < 36525)
+Inv-loop cover closed day n₀ n = (1 ≤ n) × (n ≤ 7) × (day < 36525) × Searching (onTest (calendarWith cover closed) day) n (stepsOn (calendarWith cover closed) day)
 
 abbrev μ-loop : tie.MeasureT-loop
 μ-loop cover closed day n₀ n = 7 - n
 
 returns : tie.Need-returns Inv-loop μ-loop
-returns c = (omega arith, omega arith, λ h. absurd (omega arith))
+returns c = on-late _ _ (c .if1 .taken)
 
 loop-holds : tie.Need-loop-holds Inv-loop μ-loop
-loop-holds c = (omega arith, omega arith, omega arith)
+loop-holds c = (omega arith, omega arith, omega arith, on-starts _ _ (c .if1 .left))
 
 add-is-trading-day-in : tie.Need-add-is-trading-day-in Inv-loop μ-loop
 add-is-trading-day-in c = omega arith
@@ -23,7 +26,9 @@ is-trading-day-in-requires : tie.Need-is-trading-day-in-requires Inv-loop μ-loo
 is-trading-day-in-requires c κs = tt
 
 returns-2 : tie.Need-returns-2 Inv-loop μ-loop
-returns-2 c = (omega arith, omega arith, λ h. sym (c .before .is-trading-day-in .ensures) ∙ c .if2 .taken)
+returns-2 c =
+    let at-loop-test = c .before .before in
+    search-at _ _ _ (at-loop-test .loop-test .taken) (at-loop-test .before .loop .inv .3) (sym (c .before .is-trading-day-in .ensures) ∙ c .if2 .taken)
 
 add-n : tie.Need-add-n Inv-loop μ-loop
 add-n c = omega arith
@@ -32,10 +37,12 @@ loop-less : tie.Need-loop-less Inv-loop μ-loop
 loop-less c = omega arith
 
 loop-again : tie.Need-loop-again Inv-loop μ-loop
-loop-again c = (omega arith, omega arith, omega arith)
+loop-again c =
+    let at-loop-test = c .before .before in
+    (omega arith, omega arith, omega arith, search-on _ _ _ (at-loop-test .loop-test .taken) (at-loop-test .before .loop .inv .3) (sym (c .before .is-trading-day-in .ensures) ∙ c .if2 .left))
 
 returns-3 : tie.Need-returns-3 Inv-loop μ-loop
-returns-3 c = (omega arith, omega arith, λ h. absurd (omega arith))
+returns-3 c = search-end _ _ _ (c .loop-test .left) (c .before .loop .inv .3)
 
 pub steps-on-spec : {M : Type 1} → statement M
 steps-on-spec =

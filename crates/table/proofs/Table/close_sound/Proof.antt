@@ -1,4 +1,4 @@
-use Rattle.table.proofs.Unmoved.{unmoved}
+use Rattle.table.proofs.Unmoved.{unmoved, none-of}
 use Rattle.calendar.specs.Trading.{closeDay}
 use Rattle.calendar.proofs.Closing.{close-cover}
 use Rattle.expiry.proofs.Fridays.{last-but}
@@ -109,7 +109,7 @@ returns-6 c = λ s.
     let at-if3 = at-close-day .before .before .before .before .before in
     (rw (at-close-day .close-day .ensures) at (c .kept .ensures .0)) ∙
     sym (asked at-close-day s ∙
-    unmoved (table-at at-close-day) s (c .kept .ensures .1) (day-at at-close-day) (at-if3 .if3 .left) (at-none-ends-on .none-ends-on .ensures (c .before .if6 .taken))
+    unmoved (table-at at-close-day) s (c .kept .ensures .1) (day-at at-close-day) (at-if3 .if3 .left) (none-of _ _ (sym (at-none-ends-on .none-ends-on .ensures) ∙ c .before .if6 .taken))
     (closeDay (table-at at-close-day .calendar) (day-at at-close-day)) (close-cover _ _) (last-but _ _))
 
 relisted-requires : tie.Need-relisted-requires
