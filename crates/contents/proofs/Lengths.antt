@@ -21,7 +21,7 @@ use Rattle.printing.specs.Buffer.{roomy, Printed}
 use Rattle.printing.proofs.Texts.{decimal-1, decimal-2, decimal-3, decimal-4, decimal-5}
 use Rattle.contents.specs.Contents.{coverText, markedText, idText, partText, productText, dayLine, placeLine, coverDays, lineText}
 
-decimal-short : (n : ℕ) → length (decimal n) ≤ 5
+pub decimal-short : (n : ℕ) → length (decimal n) ≤ 5
 unfolding inTwoDigits inFourDigits
 decimal-short n = one (lt-or-ge n 10)
   where
@@ -45,11 +45,11 @@ spaced-short : (n : ℕ) → length (spaced n) ≤ 6
 unfolding spaced
 spaced-short n = omega (arith, decimal-short n)
 
-day-long : (d : ℕ) → length (dayText d) ≡ 10
+pub day-long : (d : ℕ) → length (dayText d) ≡ 10
 unfolding dayText dateText yearMonth inFourDigits inTwoDigits
 day-long d = refl
 
-id-short : (id : List ℕ) → length (idText id) ≤ length id
+pub id-short : (id : List ℕ) → length (idText id) ≤ length id
 unfolding idText
 id-short [] = omega arith
 id-short (byte ∷ rest) = go (eqb byte 32) (id-short rest)

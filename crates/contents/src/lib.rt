@@ -20,28 +20,28 @@ pub struct Progress {
 }
 
 // A line with the last decimal digit of a number more.
-fn with_digit(line: Line, n: u16) -> Line
+pub fn with_digit(line: Line, n: u16) -> Line
     ensures { λ r. ⌜ LineWith line (lastDigit n ∷ []) r ⌝ }
 {
     lines::extend(line, b'0' + (n % 10) as u8)
 }
 
 // A line with a number in two digits more.
-fn with_two(line: Line, n: u16) -> Line
+pub fn with_two(line: Line, n: u16) -> Line
     ensures { λ r. ⌜ LineWith line (inTwoDigits n) r ⌝ }
 {
     with_digit(with_digit(line, n / 10), n)
 }
 
 // A line with a number in four digits more.
-fn with_four(line: Line, n: u16) -> Line
+pub fn with_four(line: Line, n: u16) -> Line
     ensures { λ r. ⌜ LineWith line (inFourDigits n) r ⌝ }
 {
     with_two(with_two(line, n / 100), n % 100)
 }
 
 // A line with a number in decimal more, with no zeros before it.
-fn with_decimal(line: Line, n: u16) -> Line
+pub fn with_decimal(line: Line, n: u16) -> Line
     ensures { λ r. ⌜ LineWith line (decimal n) r ⌝ }
 {
     if n < 10 {
@@ -60,14 +60,14 @@ fn with_decimal(line: Line, n: u16) -> Line
 }
 
 // A line with a space and a number more.
-fn with_spaced(line: Line, n: u16) -> Line
+pub fn with_spaced(line: Line, n: u16) -> Line
     ensures { λ r. ⌜ LineWith line (spaced n) r ⌝ }
 {
     with_decimal(lines::extend(line, b' '), n)
 }
 
 // A line with a day by its date more.
-fn with_day(line: Line, day: u16) -> Line
+pub fn with_day(line: Line, day: u16) -> Line
     ensures { λ r. ⌜ LineWith line (dayText day) r ⌝ }
 {
     let date = printing::date_or_zeros(day);
@@ -96,7 +96,7 @@ fn marked_line(letter: u8, day: u16) -> Line
 }
 
 // A line with the characters of an id more.
-fn with_id(line: Line, id: [u8; 4]) -> Line
+pub fn with_id(line: Line, id: [u8; 4]) -> Line
     ensures { λ r. ⌜ LineWith line (idText id) r ⌝ }
 {
     let mut whole = line;
@@ -128,7 +128,7 @@ fn with_three_bytes(line: Line, three: [u8; 3]) -> Line
 }
 
 // A line with the ten-thousandths of a size more, where it is not whole.
-fn with_part(line: Line, part: u16) -> Line
+pub fn with_part(line: Line, part: u16) -> Line
     ensures { λ r. ⌜ LineWith line (partText part) r ⌝ }
 {
     if part == 0 {

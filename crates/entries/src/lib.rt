@@ -44,7 +44,7 @@ fn space_from(line: &[u8], from: usize) -> usize
 }
 
 // How many words a line has.
-fn word_count(line: &[u8]) -> usize
+pub fn word_count(line: &[u8]) -> usize
     ensures { λ r. ⌜ r ≡ length (wordsOf (now (line .entry))) ⌝ }
 {
     let mut count: usize = 1;
@@ -57,7 +57,7 @@ fn word_count(line: &[u8]) -> usize
 }
 
 // Word k of a line, from 0; no bytes where there is none.
-fn word_at(line: &[u8], k: usize) -> &[u8]
+pub fn word_at(line: &[u8], k: usize) -> &[u8]
     ensures { λ r. ⌜ now r ≡ wordAt (now (line .entry)) k ⌝ }
 {
     let mut from: usize = 0;
@@ -83,7 +83,7 @@ fn word_length(line: &[u8], k: usize) -> usize
 }
 
 // The number that a word is, where it is one and at most a given number.
-fn number_of(word: &[u8], most: u32) -> NumberRead
+pub fn number_of(word: &[u8], most: u32) -> NumberRead
     ensures { λ r. ⌜ r ≡ numberOf (now (word .entry)) most ⌝ }
 {
     let none = NumberRead {
@@ -120,7 +120,7 @@ fn number_in(line: &[u8], k: usize, most: u32) -> NumberRead
 }
 
 // Whether a point stands before the last four bytes of a word.
-fn is_pointed(word: &[u8]) -> bool
+pub fn is_pointed(word: &[u8]) -> bool
     ensures { λ r. ⌜ r ≡ pointed (now (word .entry)) ⌝ }
 {
     let n = word.len();
@@ -142,7 +142,7 @@ fn shares_read(word: &[u8]) -> NumberRead
 }
 
 // The ten-thousandths of a size.
-fn part_read(word: &[u8]) -> NumberRead
+pub fn part_read(word: &[u8]) -> NumberRead
     ensures { λ r. ⌜ r ≡ partRead (now (word .entry)) ⌝ }
 {
     if is_pointed(word) {
@@ -186,7 +186,7 @@ fn other_entry() -> Entry
 }
 
 // Whether a line has so many words, the letter among them, and the first of them has one byte.
-fn is_letter_form(line: &[u8], words: usize) -> bool
+pub fn is_letter_form(line: &[u8], words: usize) -> bool
     ensures { λ r. ⌜ r ≡ letterForm (now (line .entry)) words ⌝ }
 {
     (word_count(line) == words) & (word_length(line, 0) == 1)
@@ -304,7 +304,7 @@ fn byte_or_space(id: &[u8], i: usize) -> u8
 }
 
 // The four bytes of an id.
-fn id_bytes(id: &[u8]) -> records::FourBytes
+pub fn id_bytes(id: &[u8]) -> records::FourBytes
     ensures { λ r. ⌜ r ≡ idBytes (now (id .entry)) ⌝ }
 {
     [

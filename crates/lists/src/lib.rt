@@ -145,7 +145,7 @@ fn store_entry(records: &mut [u8], size: usize, e: Entry) -> usize
 }
 
 // The number of the next line.
-fn next_line(lines: u32) -> u32
+pub fn next_line(lines: u32) -> u32
     ensures { λ r. ⌜ r ≡ nextLine lines ⌝ }
 {
     if lines < 999999999 {

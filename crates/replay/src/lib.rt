@@ -55,8 +55,8 @@ fn without_counts(m: Measured) -> Called
     }
 }
 
-// One call of a list that fits: 0 rolls to a date, 2 reopens a day, 3 is a measure of p for q with a price, and 1, the only other kind, closes a day.
-fn call(t: Table, kind: u32, first: u32, second: u32, third: u32) -> Called
+// One call of a list whose kinds fit: 0 rolls to a date, 2 reopens a day, 3 is a measure of p for q with a price, and 1, the only other kind, closes a day. Whether a kind is one of these is asked before.
+pub fn call(t: Table, kind: u32, first: u32, second: u32, third: u32) -> Called
     ensures { λ r. ⌜ r ≡ tableCall t (callOf kind first second third) ⌝ }
 {
     let number = short_in(first);

@@ -130,7 +130,7 @@ module _ (fresh list : List Entry) (once : (m : ℕ) → times fresh m ≤ 1) wh
   alike-times m d (both-once p q e) = with-day list m d q ∙ ap (λ (x : ℕ). cond (eqb x d) 1 0) (sym e) ∙ sym (with-day fresh m d p)
 
   -- in another order every key is alike
-  reordered-alike : Reordered fresh list → (m : ℕ) → Alike m
+  pub reordered-alike : Reordered fresh list → (m : ℕ) → Alike m
   reordered-alike r m = go (times fresh m) refl (once m)
     where
       none : times fresh m ≡ 0 → (b : ℕ) → times list m ≡ b → times list m ≡ 0

@@ -70,11 +70,11 @@ module _ (t : Table) where
 
 module _ (t : Table) (e : sound t ≡ true) (long : length (t .maturities) ≡ 15) where
   -- the places hold the fresh entries
-  listed-entries : freshEntries t ≡ map entryOf (listedIn t)
+  pub listed-entries : freshEntries t ≡ map entryOf (listedIn t)
   unfolding freshEntries
   listed-entries = ap (map entryOf) (listed-fresh t e long) ∙ unnumbered-entries (listedIn t)
 
-  listed-once : (k : ℕ) → times (map entryOf (listedIn t)) k ≤ 1
+  pub listed-once : (k : ℕ) → times (map entryOf (listedIn t)) k ≤ 1
   listed-once k = rw (← listed-entries) (fresh-once t k)
 
   -- what the code finds

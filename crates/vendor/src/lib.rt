@@ -18,7 +18,7 @@ pub enum Verdict {
 }
 
 // A number of the list; one past its end counts as 0.
-fn number_at(list: &[u16], at: usize) -> u16
+pub fn number_at(list: &[u16], at: usize) -> u16
     ensures { λ r. ⌜ r ≡ getD (now (list .entry)) at 0 ⌝ }
 {
     if at < list.len() {

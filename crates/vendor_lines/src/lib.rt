@@ -17,7 +17,7 @@ pub struct EntryRead {
 }
 
 // A line with all bytes of a slice more.
-fn feed(line: Line, bytes: &[u8]) -> Line
+pub fn feed(line: Line, bytes: &[u8]) -> Line
     ensures { λ r. ⌜ r ≡ fed line (now (bytes .entry)) ⌝ }
 {
     let mut whole = line;
@@ -45,7 +45,7 @@ fn roll_begun() -> Line
 }
 
 // The day of a date; no letter where it is none.
-fn date_in(bytes: &[u8]) -> Command
+pub fn date_in(bytes: &[u8]) -> Command
     ensures { λ r. ⌜ r ≡ dateIn (now (bytes .entry)) ⌝ }
 {
     let line = feed(roll_begun(), bytes);
@@ -53,7 +53,7 @@ fn date_in(bytes: &[u8]) -> Command
 }
 
 // The first day of a month; no letter where it is none.
-fn month_in(bytes: &[u8]) -> Command
+pub fn month_in(bytes: &[u8]) -> Command
     ensures { λ r. ⌜ r ≡ monthIn (now (bytes .entry)) ⌝ }
 {
     let line = feed(roll_begun(), bytes);

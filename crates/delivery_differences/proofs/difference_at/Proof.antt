@@ -1,0 +1,20 @@
+use mathlib.Core.Path.{_≡_, refl, _∙_, sym, ap}
+use Rattle.delivery_differences.proofs.Passes.{up-to-15}
+use Rattle.delivery_differences.specs.Differences.{differenceOf, rowsAt}
+use mathlib.Core.List.{List}
+use Rattle.listing.specs.declared.Maturity.{Maturity}
+use borrow.Author.Needs.{needs}
+use Rattle.delivery_differences.proofs.difference_at.Statement.{statement}
+use Rattle.delivery_differences.proofs.difference_at.Tie as tie
+
+within-requires : tie.Need-within-requires
+within-requires c κs = search needs
+
+told-of-requires : tie.Need-told-of-requires
+told-of-requires c κs = search needs
+
+returns : tie.Need-returns
+returns c = c .told-of .ensures ∙ ap (λ (ms : List Maturity). differenceOf ms (rowsAt (c .before .before .before .before .before .before .before .before .args .keys .now) (c .before .before .before .before .before .before .before .before .args .days .now) (c .before .before .before .before .before .before .before .before .args .fulls .now) (c .before .before .before .before .before .before .before .before .args .numbers .now) (c .before .before .before .before .before .before .before .before .args .backs .now) (c .before .before .before .before .before .before .before .before .args .places .now)) (c .before .before .before .before .before .before .before .before .args .key)) (up-to-15 (c .before .before .before .before .before .before .before .before .args .maturities) (c .before .before .before .before .before .before .before .before .args .n) _ (c .before .before .before .before .before .before .before .before .good .0 .1 .0 .1) (c .before .within .ensures .1))
+
+pub difference-at-spec : {M : Type 1} → statement M
+difference-at-spec = tie.close (tie.spec within-requires told-of-requires returns)

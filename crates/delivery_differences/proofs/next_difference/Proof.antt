@@ -1,0 +1,34 @@
+use mathlib.Core.Path.{_≡_, refl, _∙_, sym, ap}
+use Rattle.delivery_differences.proofs.Passes.{up-to-15, passes-find}
+use Rattle.delivery_differences.specs.Differences.{differsIn, nextDifference, rowsAt}
+use Rattle.delivery_differences.specs.Passes.{keysOf, unlisted, leastOf}
+use Rattle.delivery_differences.proofs.Rows.{rowKeys, places-keys}
+use mathlib.Core.List.{List}
+use Prim.Native.Nat.{ℕ}
+use Rattle.listing.specs.declared.Maturity.{Maturity}
+use lib.ListN.{take}
+use borrow.Author.Needs.{needs}
+use Rattle.delivery_differences.proofs.next_difference.Statement.{statement}
+use Rattle.delivery_differences.proofs.next_difference.Tie as tie
+
+within-requires : tie.Need-within-requires
+within-requires c κs = search needs
+
+least-unlisted-requires : tie.Need-least-unlisted-requires
+least-unlisted-requires c κs = search needs
+
+least-listed-requires : tie.Need-least-listed-requires
+least-listed-requires c κs = search needs
+
+returns : tie.Need-returns
+returns c =
+    let rows = (rowsAt (c .before .before .before .before .before .before .before .before .before .args .keys .now) (c .before .before .before .before .before .before .before .before .before .args .days .now) (c .before .before .before .before .before .before .before .before .before .args .fulls .now) (c .before .before .before .before .before .before .before .before .before .args .numbers .now) (c .before .before .before .before .before .before .before .before .before .args .backs .now) (c .before .before .before .before .before .before .before .before .before .args .places .now)) in
+    let ms = take (c .before .before .within .result) (c .before .before .before .before .before .before .before .before .before .args .maturities) in
+    c .least-listed .ensures
+    ∙ ap (leastOf (differsIn ms rows) (c .before .before .before .before .before .before .before .before .before .args .from) (keysOf ms)) (c .before .least-unlisted .ensures ∙ ap (λ (ks : List ℕ). leastOf (unlisted ms) (c .before .before .before .before .before .before .before .before .before .args .from) ks 65536) (sym (places-keys (c .before .before .before .before .before .before .before .before .before .args .keys .now) (c .before .before .before .before .before .before .before .before .before .args .days .now) (c .before .before .before .before .before .before .before .before .before .args .fulls .now) (c .before .before .before .before .before .before .before .before .before .args .numbers .now) (c .before .before .before .before .before .before .before .before .before .args .backs .now) (c .before .before .before .before .before .before .before .before .before .args .places .now))))
+    ∙ passes-find ms rows (c .before .before .before .before .before .before .before .before .before .args .from)
+    ∙ ap (λ (ms : List Maturity). nextDifference ms rows (c .before .before .before .before .before .before .before .before .before .args .from)) (up-to-15 (c .before .before .before .before .before .before .before .before .before .args .maturities) (c .before .before .before .before .before .before .before .before .before .args .n) _ (c .before .before .before .before .before .before .before .before .before .good .0 .1 .0 .1) (c .before .before .within .ensures .1))
+
+pub next-difference-spec : {M : Type 1} → statement M
+next-difference-spec =
+    tie.close (tie.spec within-requires least-unlisted-requires least-listed-requires returns)

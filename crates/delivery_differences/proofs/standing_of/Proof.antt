@@ -1,0 +1,58 @@
+use mathlib.Core.Path.{_≡_, refl, _∙_, sym, ap}
+use native.Mathlib.Omega.{arith}
+use denote.Ref.{now}
+use Rattle.delivery_differences.proofs.Rows.{none-stands, row-is, one-stands, more-stand}
+use borrow.Author.Needs.{needs}
+use Rattle.delivery_differences.proofs.standing_of.Statement.{statement}
+use Rattle.delivery_differences.proofs.standing_of.Tie as tie
+
+index-from-requires : tie.Need-index-from-requires
+index-from-requires c κs = search needs
+
+returns : tie.Need-returns
+returns c = none-stands (now (c .before .before .before .before .before .before .before .before .args .keys)) (now (c .before .before .before .before .before .before .before .before .args .days)) (now (c .before .before .before .before .before .before .before .before .args .fulls)) (now (c .before .before .before .before .before .before .before .before .args .numbers)) (now (c .before .before .before .before .before .before .before .before .args .backs)) (now (c .before .before .before .before .before .before .before .before .args .places)) (c .before .before .before .before .before .before .before .before .args .key) _ (c .before .index-from .ensures) (c .if1 .taken)
+
+mul-row-at : tie.Need-mul-row-at
+mul-row-at c = search needs
+
+shared-slice-read-row-at : tie.Need-shared-slice-read-row-at
+shared-slice-read-row-at c = search needs
+
+cast-row-at : tie.Need-cast-row-at
+cast-row-at c = omega (arith, c .shared-slice-known7 .given (c .before .before .index-from .result))
+
+row-at-requires : tie.Need-row-at-requires
+row-at-requires c κs = search needs
+
+add-index-from : tie.Need-add-index-from
+add-index-from c = search needs
+
+index-from-requires-2 : tie.Need-index-from-requires-2
+index-from-requires-2 c κs = search needs
+
+returns-2 : tie.Need-returns-2
+returns-2 c =
+    let e = c .before .before .before .before .before .index-from .ensures in
+    let h = c .before .before .before .before .if1 .left in
+    (one-stands (now (c .before .before .before .before .before .before .before .before .before .before .before .before .args .keys)) (now (c .before .before .before .before .before .before .before .before .before .before .before .before .args .days)) (now (c .before .before .before .before .before .before .before .before .before .before .before .before .args .fulls)) (now (c .before .before .before .before .before .before .before .before .before .before .before .before .args .numbers)) (now (c .before .before .before .before .before .before .before .before .before .before .before .before .args .backs)) (now (c .before .before .before .before .before .before .before .before .before .before .before .before .args .places)) (c .before .before .before .before .before .before .before .before .before .before .before .before .args .key) _ e h _ (c .before .index-from2 .ensures) (c .if2 .taken), c .before .before .row-at .ensures ∙ row-is (now (c .before .before .before .before .before .before .before .before .before .before .before .before .args .keys)) (now (c .before .before .before .before .before .before .before .before .before .before .before .before .args .days)) (now (c .before .before .before .before .before .before .before .before .before .before .before .before .args .fulls)) (now (c .before .before .before .before .before .before .before .before .before .before .before .before .args .numbers)) (now (c .before .before .before .before .before .before .before .before .before .before .before .before .args .backs)) (now (c .before .before .before .before .before .before .before .before .before .before .before .before .args .places)) (c .before .before .before .before .before .before .before .before .before .before .before .before .args .key) _ e h)
+
+returns-3 : tie.Need-returns-3
+returns-3 c =
+    let e = c .before .before .before .before .before .index-from .ensures in
+    let h = c .before .before .before .before .if1 .left in
+    (more-stand (now (c .before .before .before .before .before .before .before .before .before .before .before .before .args .keys)) (now (c .before .before .before .before .before .before .before .before .before .before .before .before .args .days)) (now (c .before .before .before .before .before .before .before .before .before .before .before .before .args .fulls)) (now (c .before .before .before .before .before .before .before .before .before .before .before .before .args .numbers)) (now (c .before .before .before .before .before .before .before .before .before .before .before .before .args .backs)) (now (c .before .before .before .before .before .before .before .before .before .before .before .before .args .places)) (c .before .before .before .before .before .before .before .before .before .before .before .before .args .key) _ e h _ (c .before .index-from2 .ensures) (c .if2 .left), c .before .before .row-at .ensures ∙ row-is (now (c .before .before .before .before .before .before .before .before .before .before .before .before .args .keys)) (now (c .before .before .before .before .before .before .before .before .before .before .before .before .args .days)) (now (c .before .before .before .before .before .before .before .before .before .before .before .before .args .fulls)) (now (c .before .before .before .before .before .before .before .before .before .before .before .before .args .numbers)) (now (c .before .before .before .before .before .before .before .before .before .before .before .before .args .backs)) (now (c .before .before .before .before .before .before .before .before .before .before .before .before .args .places)) (c .before .before .before .before .before .before .before .before .before .before .before .before .args .key) _ e h)
+
+pub standing-of-spec : {M : Type 1} → statement M
+standing-of-spec =
+    tie.close
+    (tie.spec
+    index-from-requires
+    returns
+    mul-row-at
+    shared-slice-read-row-at
+    cast-row-at
+    row-at-requires
+    add-index-from
+    index-from-requires-2
+    returns-2
+    returns-3)

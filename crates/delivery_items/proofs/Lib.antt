@@ -1,0 +1,3 @@
+mod Parting
+mod Forms
+pub mod Long

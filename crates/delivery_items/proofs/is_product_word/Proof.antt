@@ -1,0 +1,64 @@
+use mathlib.Core.Path.{_≡_, refl, _∙_, sym, ap}
+use native.Mathlib.Omega.{arith}
+use Prim.Native.Nat.{_-_, _≤_}
+use mathlib.Core.Bool.{true, false}
+use lib.ListN.{length, getD}
+use lib.Dec.{eqb}
+use borrow.Author.Tests.{eq-eqb, ne-eqb}
+use Rattle.questions.specs.Search.{every}
+use Rattle.questions.proofs.Search.{every-none, every-more, every-not}
+use Rattle.delivery_items.specs.Items.{productWord}
+use Rattle.delivery_items.proofs.Forms.{other-length, same-word}
+use Rattle.delivery_items.proofs.is_product_word.Statement.{statement}
+use Rattle.delivery_items.proofs.is_product_word.Tie as tie
+
+abbrev Inv-loop : tie.InvT-loop
+Inv-loop field word i₀ i = (length field ≡ 7) × (i ≤ 7) × (every i (λ j. eqb (getD field j 0) (getD productWord j 0)) ≡ true)
+
+abbrev μ-loop : tie.MeasureT-loop
+μ-loop field word i₀ i = 7 - i
+
+returns : tie.Need-returns Inv-loop μ-loop
+returns c = other-length _ (c .if1 .taken)
+
+loop-holds : tie.Need-loop-holds Inv-loop μ-loop
+loop-holds c = (c .if1 .left, omega arith, every-none _)
+
+shared-slice-read-if2 : tie.Need-shared-slice-read-if2 Inv-loop μ-loop
+shared-slice-read-if2 c = omega (arith, c .before .before .loop .inv .0)
+
+array-read-if2 : tie.Need-array-read-if2 Inv-loop μ-loop
+array-read-if2 c = omega arith
+
+returns-2 : tie.Need-returns-2 Inv-loop μ-loop
+returns-2 c = same-word _ (c .before .before .before .loop .inv .0) _ (every-not _ _ _ (ne-eqb _ _ (c .if2 .taken)) (c .before .before .loop-test .taken))
+
+add-i : tie.Need-add-i Inv-loop μ-loop
+add-i c = omega arith
+
+loop-less : tie.Need-loop-less Inv-loop μ-loop
+loop-less c = omega arith
+
+loop-again : tie.Need-loop-again Inv-loop μ-loop
+loop-again c = (c .before .before .before .loop .inv .0, omega arith, every-more _ _ (c .before .before .before .loop .inv .2) (eq-eqb _ _ (c .if2 .left)))
+
+returns-3 : tie.Need-returns-3 Inv-loop μ-loop
+returns-3 c =
+    let e : c .before .loop .i ≡ 7 = omega arith in
+    same-word _ (c .before .loop .inv .0) true (rw e at (c .before .loop .inv .2))
+
+pub is-product-word-spec : {M : Type 1} → statement M
+is-product-word-spec =
+    tie.close
+    (tie.spec
+    Inv-loop
+    μ-loop
+    returns
+    loop-holds
+    shared-slice-read-if2
+    array-read-if2
+    returns-2
+    add-i
+    loop-less
+    loop-again
+    returns-3)

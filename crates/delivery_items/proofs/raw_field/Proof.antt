@@ -1,0 +1,88 @@
+use mathlib.Core.Path.{_≡_, refl, _∙_, sym, ap}
+use native.Mathlib.Omega.{arith}
+use Prim.Native.Nat.{_-_, _≤_}
+use lib.ListN.{length, drop}
+use Rattle.delivery_items.specs.Items.{fieldsOf, rawField}
+use Rattle.delivery_items.proofs.Parting.{fields-next, field-here, field-beyond}
+use Rattle.delivery_items.proofs.raw_field.Statement.{statement}
+use Rattle.delivery_items.proofs.raw_field.Tie as tie
+
+abbrev Inv-loop : tie.InvT-loop
+Inv-loop line k from₀ i₀ from i = (from ≤ length line) × (i ≤ k) × (drop i (fieldsOf line) ≡ fieldsOf (drop from line))
+
+abbrev μ-loop : tie.MeasureT-loop
+μ-loop line k from₀ i₀ from i = k - i
+
+loop-holds : tie.Need-loop-holds Inv-loop μ-loop
+loop-holds c = (omega arith, omega arith, refl)
+
+separator-from-requires : tie.Need-separator-from-requires Inv-loop μ-loop
+separator-from-requires c κs = omega arith
+
+sub-result : tie.Need-sub-result Inv-loop μ-loop
+sub-result c = omega arith
+
+part-result-start : tie.Need-part-result-start Inv-loop μ-loop
+part-result-start c = omega (arith, c .before .separator-from .ensures .on)
+
+part-result-end : tie.Need-part-result-end Inv-loop μ-loop
+part-result-end c = omega arith
+
+returns : tie.Need-returns Inv-loop μ-loop
+returns c =
+    let v = c .before .before .before .before .loop .inv in
+    field-beyond _ _ _ _ (v .2) (c .before .before .separator-from .ensures) (c .before .if1 .taken) _ (c .before .before .before .loop-test .taken)
+
+add-from : tie.Need-add-from Inv-loop μ-loop
+add-from c = omega arith
+
+add-i : tie.Need-add-i Inv-loop μ-loop
+add-i c = omega arith
+
+loop-less : tie.Need-loop-less Inv-loop μ-loop
+loop-less c = omega arith
+
+loop-again : tie.Need-loop-again Inv-loop μ-loop
+loop-again c =
+    let v = c .before .before .before .loop .inv in
+    (omega arith, omega arith, fields-next (c .before .before .before .before .before .args .line .now) (c .before .before .before .loop .i) _ _ (v .2) (c .before .separator-from .ensures) (c .if1 .left))
+
+separator-from-requires-2 : tie.Need-separator-from-requires-2 Inv-loop μ-loop
+separator-from-requires-2 c κs = omega arith
+
+sub-result-2 : tie.Need-sub-result-2 Inv-loop μ-loop
+sub-result-2 c = omega (arith, c .separator-from2 .ensures .on)
+
+part-result-start-2 : tie.Need-part-result-start-2 Inv-loop μ-loop
+part-result-start-2 c = omega (arith, c .separator-from2 .ensures .on)
+
+part-result-end-2 : tie.Need-part-result-end-2 Inv-loop μ-loop
+part-result-end-2 c = omega (arith, c .separator-from2 .ensures .within)
+
+returns-2 : tie.Need-returns-2 Inv-loop μ-loop
+returns-2 c =
+    let v = c .before .before .before .loop .inv in
+    let e : c .before .before .before .loop .i ≡ c .before .before .before .before .before .args .k = omega (arith, v .1) in
+    field-here (c .before .before .before .before .before .args .line .now) (c .before .before .before .loop .i) _ _ (v .2) (c .before .separator-from2 .ensures) ∙ ap (rawField (c .before .before .before .before .before .args .line .now)) e
+
+pub raw-field-spec : {M : Type 1} → statement M
+raw-field-spec =
+    tie.close
+    (tie.spec
+    Inv-loop
+    μ-loop
+    loop-holds
+    separator-from-requires
+    sub-result
+    part-result-start
+    part-result-end
+    returns
+    add-from
+    add-i
+    loop-less
+    loop-again
+    separator-from-requires-2
+    sub-result-2
+    part-result-start-2
+    part-result-end-2
+    returns-2)

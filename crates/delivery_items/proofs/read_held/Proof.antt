@@ -1,0 +1,61 @@
+use mathlib.Core.Path.{_≡_, refl, _∙_, sym, ap}
+use native.Mathlib.Omega.{arith}
+use lib.ListN.{length, length-map}
+use lib.Seq.{length-take-le}
+use Rattle.delivery_items.proofs.Forms.{held-over, held-whole}
+use borrow.Author.Needs.{needs}
+use Rattle.delivery_items.proofs.read_held.Statement.{statement}
+use Rattle.delivery_items.proofs.read_held.Tie as tie
+
+held-length-requires : tie.Need-held-length-requires
+held-length-requires c κs = search needs
+
+array-share-prefix-bytes : tie.Need-array-share-prefix-bytes
+array-share-prefix-bytes c =
+    let l : length (c .before .before .before .args .line .bytes) ≡ 255 = simp length-map at (c .before .before .before .good .0 .1 .1 .0 .1 .0 .1) in
+    omega (arith, l, c .before .before .held-length .ensures .0)
+
+slice-aggregate-is-headed : tie.Need-slice-aggregate-is-headed
+slice-aggregate-is-headed c =
+    let l : length (c .before .before .before .before .args .line .bytes) ≡ 255 = simp length-map at (c .before .before .before .before .good .0 .1 .1 .0 .1 .0 .1) in
+    sym (length-take-le (c .before .before .before .held-length .result) (c .before .before .before .before .args .line .bytes) (omega (arith, c .before .before .before .held-length .ensures .0, l)))
+
+is-headed-requires : tie.Need-is-headed-requires
+is-headed-requires c κs = search needs
+
+no-item-requires : tie.Need-no-item-requires
+no-item-requires c κs = search needs
+
+returns : tie.Need-returns
+returns c = held-over (c .before .before .before .before .before .before .args .line) (c .before .before .before .before .before .held-length .result) (c .before .before .before .before .before .held-length .ensures .1) (c .before .before .before .if1 .taken) _ _ (c .before .is-headed .ensures) (c .no-item .ensures)
+
+array-share-prefix-bytes-2 : tie.Need-array-share-prefix-bytes-2
+array-share-prefix-bytes-2 c =
+    let l : length (c .before .before .before .args .line .bytes) ≡ 255 = simp length-map at (c .before .before .before .good .0 .1 .1 .0 .1 .0 .1) in
+    omega (arith, l, c .before .before .held-length .ensures .0)
+
+slice-aggregate-read-line : tie.Need-slice-aggregate-read-line
+slice-aggregate-read-line c =
+    let l : length (c .before .before .before .before .args .line .bytes) ≡ 255 = simp length-map at (c .before .before .before .before .good .0 .1 .1 .0 .1 .0 .1) in
+    sym (length-take-le (c .before .before .before .held-length .result) (c .before .before .before .before .args .line .bytes) (omega (arith, c .before .before .before .held-length .ensures .0, l)))
+
+read-line-requires : tie.Need-read-line-requires
+read-line-requires c κs = search needs
+
+returns-2 : tie.Need-returns-2
+returns-2 c = held-whole (c .before .before .before .before .before .args .line) (c .before .before .before .before .held-length .result) (c .before .before .before .before .held-length .ensures .1) (c .before .before .if1 .left) _ (c .read-line .ensures)
+
+pub read-held-spec : {M : Type 1} → statement M
+read-held-spec =
+    tie.close
+    (tie.spec
+    held-length-requires
+    array-share-prefix-bytes
+    slice-aggregate-is-headed
+    is-headed-requires
+    no-item-requires
+    returns
+    array-share-prefix-bytes-2
+    slice-aggregate-read-line
+    read-line-requires
+    returns-2)

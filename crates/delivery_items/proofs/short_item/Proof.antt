@@ -1,0 +1,44 @@
+use mathlib.Core.Path.{_≡_, refl, _∙_, sym, ap}
+use Rattle.delivery_items.proofs.Forms.{item-none, item-is}
+use Rattle.questions.proofs.Bools.{said-no, said-yes}
+use borrow.Author.Tests.{not-true, not-false}
+use borrow.Author.Needs.{needs}
+use Rattle.delivery_items.proofs.short_item.Statement.{statement}
+use Rattle.delivery_items.proofs.short_item.Tie as tie
+
+maturity-read-requires : tie.Need-maturity-read-requires
+maturity-read-requires c κs = search needs
+
+date-in-requires : tie.Need-date-in-requires
+date-in-requires c κs = search needs
+
+is-id-requires : tie.Need-is-id-requires
+is-id-requires c κs = search needs
+
+no-item-requires : tie.Need-no-item-requires
+no-item-requires c κs = search needs
+
+returns : tie.Need-returns
+returns c = c .no-item .ensures ∙ item-none _ _ _ _ _ _ (c .before .before .before .before .is-id .ensures) (c .before .before .before .before .before .before .maturity-read .ensures) (c .before .before .before .before .before .date-in .ensures) (not-true _ (c .before .if1 .taken))
+
+id-bytes-requires : tie.Need-id-bytes-requires
+id-bytes-requires c κs = search needs
+
+key-read-requires : tie.Need-key-read-requires
+key-read-requires c κs = search needs
+
+returns-2 : tie.Need-returns-2
+returns-2 c = item-is _ _ _ _ _ _ (c .before .before .before .before .before .is-id .ensures) (c .before .before .before .before .before .before .before .maturity-read .ensures) (c .before .before .before .before .before .before .date-in .ensures) (not-false _ (c .before .before .if1 .left)) _ _ (c .before .id-bytes .ensures) (c .key-read .ensures)
+
+pub short-item-spec : {M : Type 1} → statement M
+short-item-spec =
+    tie.close
+    (tie.spec
+    maturity-read-requires
+    date-in-requires
+    is-id-requires
+    no-item-requires
+    returns
+    id-bytes-requires
+    key-read-requires
+    returns-2)

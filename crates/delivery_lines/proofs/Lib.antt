@@ -1,0 +1,4 @@
+pub mod Trimming
+pub mod Values
+pub mod Forms
+pub mod Lengths

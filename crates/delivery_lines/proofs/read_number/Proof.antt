@@ -1,0 +1,76 @@
+use mathlib.Core.Path.{_≡_, refl, sym, _∙_, ap}
+use Prim.Native.Nat.{_-_, _≤_}
+use native.Mathlib.Omega.{arith}
+use lib.ListN.{length, drop}
+use Rattle.delivery_lines.proofs.Values.{from-start, held-small, held-most, number-none, no-digit, one-digit, held-one, number-not, digits-whole, value-whole, number-is}
+use Rattle.questions.proofs.Bools.{said-no, said-yes}
+use Rattle.delivery_lines.specs.NoticeLines.{allDigits, valueFrom, valueOf, held}
+use Rattle.delivery_lines.proofs.read_number.Statement.{statement}
+use Rattle.delivery_lines.proofs.read_number.Tie as tie
+
+abbrev Inv-loop : tie.InvT-loop
+Inv-loop word none value₀ i₀ value i = (value ≤ 1000000000) × (i ≤ length word) × (allDigits (drop i word) ≡ allDigits word) × (held (valueFrom value (drop i word)) ≡ held (valueOf word))
+
+abbrev μ-loop : tie.MeasureT-loop
+μ-loop word none value₀ i₀ value i = length word - i
+
+returns : tie.Need-returns Inv-loop μ-loop
+returns c = number-none _ (c .if1 .taken)
+
+loop-holds : tie.Need-loop-holds Inv-loop μ-loop
+loop-holds c = (omega arith, omega arith, refl, from-start _)
+
+shared-slice-read-is-digit : tie.Need-shared-slice-read-is-digit Inv-loop μ-loop
+shared-slice-read-is-digit c = omega arith
+
+is-digit-requires : tie.Need-is-digit-requires Inv-loop μ-loop
+is-digit-requires c κs = tt
+
+returns-2 : tie.Need-returns-2 Inv-loop μ-loop
+returns-2 c =
+    number-not _ (sym (c .before .before .before .before .loop .inv .2) ∙ no-digit _ _ (c .before .before .before .loop-test .taken) (said-no (c .before .is-digit .ensures) (c .if2 .taken)))
+
+shared-slice-read-digit-value : tie.Need-shared-slice-read-digit-value Inv-loop μ-loop
+shared-slice-read-digit-value c = omega arith
+
+digit-value-requires : tie.Need-digit-value-requires Inv-loop μ-loop
+digit-value-requires c κs = tt
+
+with-digit-requires : tie.Need-with-digit-requires Inv-loop μ-loop
+with-digit-requires c κs = (c .before .before .before .before .before .before .loop .inv .0, c .digit-value .ensures .1)
+
+add-i : tie.Need-add-i Inv-loop μ-loop
+add-i c = omega arith
+
+loop-less : tie.Need-loop-less Inv-loop μ-loop
+loop-less c = omega arith
+
+loop-again : tie.Need-loop-again Inv-loop μ-loop
+loop-again c =
+    let r = c .with-digit .ensures in
+    let e = c .before .digit-value .ensures .0 in
+    (rw r (held-most _), omega arith, sym (one-digit _ _ (c .before .before .before .before .before .before .loop-test .taken) (said-yes (c .before .before .before .before .is-digit .ensures) (c .before .before .before .if2 .left))) ∙ c .before .before .before .before .before .before .before .loop .inv .2, held-one _ _ (c .before .before .before .before .before .before .loop-test .taken) _ _ (rw e at r) (c .before .before .before .before .before .before .before .loop .inv .3))
+
+returns-3 : tie.Need-returns-3 Inv-loop μ-loop
+returns-3 c =
+    let v = c .before .loop .inv in
+    number-is _ _ (c .before .before .if1 .left) (sym (v .2) ∙ digits-whole _ _ (v .1) (c .loop-test .left)) (held-small _ (v .0) ∙ ap held (sym (value-whole _ _ _ (v .1) (c .loop-test .left))) ∙ v .3)
+
+pub read-number-spec : {M : Type 1} → statement M
+read-number-spec =
+    tie.close
+    (tie.spec
+    Inv-loop
+    μ-loop
+    returns
+    loop-holds
+    shared-slice-read-is-digit
+    is-digit-requires
+    returns-2
+    shared-slice-read-digit-value
+    digit-value-requires
+    with-digit-requires
+    add-i
+    loop-less
+    loop-again
+    returns-3)

@@ -1,0 +1,39 @@
+use Prim.Native.Nat.{_≤_}
+use native.Mathlib.Omega.{arith}
+use borrow.Author.Tests.{not-true, not-false}
+use borrow.Author.Needs.{needs}
+use Rattle.delivery_lines.proofs.Values.{price-none, price-large, price-small}
+use Rattle.entries.proofs.Numbers.{part-most}
+use Rattle.delivery_lines.proofs.read_price.Statement.{statement}
+use Rattle.delivery_lines.proofs.read_price.Tie as tie
+
+read-whole-requires : tie.Need-read-whole-requires
+read-whole-requires c κs = tt
+
+part-read-requires : tie.Need-part-read-requires
+part-read-requires c κs = tt
+
+returns : tie.Need-returns
+returns c =
+    price-none _ _ _ (c .before .before .before .before .read-whole .ensures) (c .before .before .before .part-read .ensures) (not-true _ (c .if1 .taken))
+
+returns-2 : tie.Need-returns-2
+returns-2 c =
+    price-large _ _ _ (c .before .before .before .before .before .before .read-whole .ensures) (c .before .before .before .before .before .part-read .ensures) (not-false _ (c .before .before .if1 .left)) (c .if2 .taken)
+
+mul-t6 : tie.Need-mul-t6
+mul-t6 c = search needs
+
+add-t7 : tie.Need-add-t7
+add-t7 c =
+    let g : c .before .before .before .before .before .before .before .part-read .result .value ≤ 9999 = part-most _ _ (c .before .before .before .before .before .before .before .part-read .ensures) in
+    omega arith
+
+returns-3 : tie.Need-returns-3
+returns-3 c =
+    price-small _ _ _ (c .before .before .before .before .before .before .before .before .read-whole .ensures) (c .before .before .before .before .before .before .before .part-read .ensures) (not-false _ (c .before .before .before .before .if1 .left)) (c .before .before .if2 .left) (part-most _ _ (c .before .before .before .before .before .before .before .part-read .ensures))
+
+pub read-price-spec : {M : Type 1} → statement M
+read-price-spec =
+    tie.close
+    (tie.spec read-whole-requires part-read-requires returns returns-2 mul-t6 add-t7 returns-3)

@@ -1,0 +1,22 @@
+use borrow.Author.Needs.{needs}
+use Rattle.delivery_lines.proofs.Values.{held-small, held-large}
+use Rattle.delivery_lines.proofs.with_digit.Statement.{statement}
+use Rattle.delivery_lines.proofs.with_digit.Tie as tie
+
+mul-next : tie.Need-mul-next
+mul-next c = search needs
+
+add-next : tie.Need-add-next
+add-next c = search needs
+
+returns : tie.Need-returns
+returns c = held-large _ (c .if1 .taken)
+
+cast-result : tie.Need-cast-result
+cast-result c = search needs
+
+returns-2 : tie.Need-returns-2
+returns-2 c = held-small _ (c .if1 .left)
+
+pub with-digit-spec : {M : Type 1} → statement M
+with-digit-spec = tie.close (tie.spec mul-next add-next returns cast-result returns-2)

@@ -1,0 +1,2 @@
+pub mod NoticeLines
+pub mod Ends

@@ -1,0 +1,86 @@
+use mathlib.Core.Path.{refl}
+use Prim.Native.Nat.{_-_, _≤_}
+use native.Mathlib.Omega.{arith}
+use lib.ListN.{length}
+use borrow.Author.Needs.{needs}
+use Rattle.delivery_notices.proofs.Taking.{Going, begins, goes-on, all-lines}
+use Rattle.delivery_notices.proofs.read_lines.Statement.{statement}
+use Rattle.delivery_notices.proofs.read_lines.Tie as tie
+
+abbrev Inv-loop : tie.InvT-loop
+Inv-loop text long calls₀ ids₀ t₀ from₀ calls ids t from = (length text ≤ 65537) × (32770 ≤ length calls₀) × (26216 ≤ length ids₀) × Going text long calls₀ ids₀ t calls ids from
+
+abbrev μ-loop : tie.MeasureT-loop
+μ-loop text long calls₀ ids₀ t₀ from₀ calls ids t from = length text - from
+
+nothing-taken-requires : tie.Need-nothing-taken-requires Inv-loop μ-loop
+nothing-taken-requires c κs = tt
+
+loop-holds : tie.Need-loop-holds Inv-loop μ-loop
+loop-holds c =
+    (c .before .before .before .before .pre .0, c .before .before .before .before .pre .1, c .before .before .before .before .pre .2, begins _ _ _ _ _ (c .nothing-taken .ensures))
+
+line-end-requires : tie.Need-line-end-requires Inv-loop μ-loop
+line-end-requires c κs = omega (arith, c .loop-test .taken)
+
+add-cut : tie.Need-add-cut Inv-loop μ-loop
+add-cut c = omega (arith, c .line-end .ensures .within, c .before .before .loop .inv .0)
+
+sub-take-line : tie.Need-sub-take-line Inv-loop μ-loop
+sub-take-line c = c .line-end .ensures .on
+
+part-take-line-start : tie.Need-part-take-line-start Inv-loop μ-loop
+part-take-line-start c = search needs
+
+part-take-line-end : tie.Need-part-take-line-end Inv-loop μ-loop
+part-take-line-end c = search needs
+
+take-line-requires : tie.Need-take-line-requires Inv-loop μ-loop
+take-line-requires c κs =
+    let v = c .before .before .before .before .before .loop .inv in
+    let g = v .3 in
+    let h = c .before .before .before .before .loop-test .taken in
+    (omega (arith, g .lines, h, v .0), omega (arith, g .few, h, v .0), omega (arith, g .few, h, v .0, v .1, g .calls-long), omega (arith, g .few, h, v .0, v .2, g .ids-long))
+
+add-from : tie.Need-add-from Inv-loop μ-loop
+add-from c =
+    omega (arith, c .before .before .before .before .before .before .before .before .line-end .ensures .within, c .before .before .before .before .before .before .before .before .before .before .loop .inv .0)
+
+loop-less : tie.Need-loop-less Inv-loop μ-loop
+loop-less c =
+    omega (arith, c .before .before .before .before .before .before .before .before .line-end .ensures .on, c .before .before .before .before .before .before .before .before .before .loop-test .taken)
+
+loop-again : tie.Need-loop-again Inv-loop μ-loop
+loop-again c =
+    let v = c .before .before .before .before .before .before .before .before .before .before .loop .inv in
+    (v .0, v .1, v .2, goes-on _ _ _ _ _ _ _ _ _ (v .3) (c .before .before .before .before .before .before .before .before .before .loop-test .taken) (c .before .before .before .before .before .before .before .before .line-end .ensures) _ refl _ _ _ (c .before .before .before .before .take-line .ensures))
+
+same-length : tie.Need-same-length Inv-loop μ-loop
+same-length c = c .before .loop .inv .3 .calls-long
+
+same-length-2 : tie.Need-same-length-2 Inv-loop μ-loop
+same-length-2 c = c .before .loop .inv .3 .ids-long
+
+returns : tie.Need-returns Inv-loop μ-loop
+returns c = all-lines _ _ _ _ _ _ _ _ (c .before .loop .inv .3) (c .loop-test .left) (c .before .loop .inv .0)
+
+pub read-lines-spec : {M : Type 1} → statement M
+read-lines-spec =
+    tie.close
+    (tie.spec
+    Inv-loop
+    μ-loop
+    nothing-taken-requires
+    loop-holds
+    line-end-requires
+    add-cut
+    sub-take-line
+    part-take-line-start
+    part-take-line-end
+    take-line-requires
+    add-from
+    loop-less
+    loop-again
+    same-length
+    same-length-2
+    returns)

@@ -1,0 +1,48 @@
+// The products of a master file, place by place.
+use product::Product;
+ghost use mathlib.Core.Path.{_≡_};
+ghost use Rattle.master.specs.Products.{sameId};
+ghost use Rattle.delivery_products.specs.Products.{noProduct, placeCall, placeAnswer};
+
+// The refusal, 0 where the place holds a record, and the record's product, zeros with a refusal.
+pub struct PlaceProduct {
+    pub refusal: u8,
+    pub product: Product,
+}
+
+// The number of a refusal, and zeros.
+fn no_product(number: u8) -> PlaceProduct
+    ensures { λ r. ⌜ r ≡ noProduct number ⌝ }
+{
+    let product = opening::zero_product();
+    PlaceProduct {
+        refusal: number,
+        product,
+    }
+}
+
+// The product at a place of the file: place p is record p % 15 of block p / 15. A file with n blocks has 15 n places, and those that hold no record get 9.
+pub fn product_in(file: &[u8], place: usize) -> PlaceProduct
+    ensures { λ r. ⌜ placeAnswer r ≡ placeCall (now (file .entry)) place ⌝ }
+{
+    let judged = master::judge(file);
+    let refusal = judged.refusal;
+    if refusal != 0 {
+        return no_product(refusal);
+    }
+    if !ids::is_record(file, place) {
+        return no_product(9);
+    }
+    let product = master::product_at(file, place / 15, place % 15);
+    PlaceProduct {
+        refusal: 0,
+        product,
+    }
+}
+
+// Whether two ids are the same.
+pub fn same_id(a: [u8; 4], b: [u8; 4]) -> bool
+    ensures { λ r. ⌜ r ≡ sameId a b ⌝ }
+{
+    (a[0] == b[0]) & (a[1] == b[1]) & (a[2] == b[2]) & (a[3] == b[3])
+}

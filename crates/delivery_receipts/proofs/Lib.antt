@@ -1,0 +1,4 @@
+mod Storing
+mod Taking
+pub mod Feeding
+pub mod Gathering

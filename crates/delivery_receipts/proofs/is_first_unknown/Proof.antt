@@ -1,0 +1,23 @@
+use mathlib.Core.Path.{_≡_, refl, _∙_, sym, ap}
+use Rattle.questions.proofs.Bools.{said-no, said-yes}
+use borrow.Author.Tests.{not-true, not-false}
+use Rattle.delivery_receipts.proofs.Gathering.{known-id, unknown-id}
+use borrow.Author.Needs.{needs}
+use Rattle.delivery_receipts.proofs.is_first_unknown.Statement.{statement}
+use Rattle.delivery_receipts.proofs.is_first_unknown.Tie as tie
+
+is-unknown-requires : tie.Need-is-unknown-requires
+is-unknown-requires c κs = search needs
+
+returns : tie.Need-returns
+returns c = known-id _ _ _ (not-false _ (sym (c .before .is-unknown .ensures) ∙ not-true _ (c .if1 .taken)))
+
+stands-first-requires : tie.Need-stands-first-requires
+stands-first-requires c κs = search needs
+
+returns-2 : tie.Need-returns-2
+returns-2 c = unknown-id _ _ _ (not-true _ (sym (c .before .before .is-unknown .ensures) ∙ not-false _ (c .before .if1 .left))) _ (c .stands-first .ensures)
+
+pub is-first-unknown-spec : {M : Type 1} → statement M
+is-first-unknown-spec =
+    tie.close (tie.spec is-unknown-requires returns stands-first-requires returns-2)

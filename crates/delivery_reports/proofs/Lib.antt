@@ -1,0 +1,3 @@
+mod Words
+pub mod Lengths
+pub mod Going

@@ -1,0 +1,18 @@
+use mathlib.Core.Path.{_≡_, refl, _∙_, sym, ap}
+use Rattle.delivery_reports.specs.Reports.{differenceText}
+use Rattle.contents.proofs.Building.{same}
+use borrow.Author.Needs.{needs}
+use Rattle.delivery_reports.proofs.key_line.Statement.{statement}
+use Rattle.delivery_reports.proofs.key_line.Tie as tie
+
+difference-at-requires : tie.Need-difference-at-requires
+difference-at-requires c κs = search needs
+
+difference-line-requires : tie.Need-difference-line-requires
+difference-line-requires c κs = search needs
+
+returns : tie.Need-returns
+returns c = same (differenceText (c .before .before .before .before .before .before .before .before .args .kind) (c .before .before .before .before .before .before .before .before .args .id) (c .before .before .before .before .before .before .before .before .args .key)) (c .difference-line .ensures) (c .before .difference-at .ensures)
+
+pub key-line-spec : {M : Type 1} → statement M
+key-line-spec = tie.close (tie.spec difference-at-requires difference-line-requires returns)

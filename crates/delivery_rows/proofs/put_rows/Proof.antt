@@ -1,0 +1,69 @@
+use mathlib.Core.Path.{_≡_, refl}
+use Prim.Native.Nat.{_+_, _-_, _≤_}
+use native.Mathlib.Omega.{arith}
+use lib.ListN.{length}
+use Rattle.delivery_rows.proofs.Writing.{Putting, begins, fits, goes, ends}
+use Rattle.delivery_rows.proofs.put_rows.Statement.{statement}
+use Rattle.delivery_rows.proofs.put_rows.Tie as tie
+
+abbrev Inv-loop : tie.InvT-loop
+Inv-loop out₀ at id kind n maturities next₀ i₀ out next i = (n ≤ 15) × (at + 1024 ≤ length out₀) × (length id ≡ 4) × (i ≤ n) × Putting id kind maturities at out₀ next i out
+
+abbrev μ-loop : tie.MeasureT-loop
+μ-loop out₀ at id kind n maturities next₀ i₀ out next i = n - i
+
+loop-holds : tie.Need-loop-holds Inv-loop μ-loop
+loop-holds c = (c .before .pre .0, c .before .pre .1, c .before .good .1 .1 .0 .1 .0 .1, omega arith, begins _ _ _ _ _)
+
+mul-m : tie.Need-mul-m Inv-loop μ-loop
+mul-m c = omega arith
+
+array-copy-out-m : tie.Need-array-copy-out-m Inv-loop μ-loop
+array-copy-out-m c = omega arith
+
+row-line-requires : tie.Need-row-line-requires Inv-loop μ-loop
+row-line-requires c κs = tt
+
+append-requires : tie.Need-append-requires Inv-loop μ-loop
+append-requires c κs =
+    let at-loop-test = c .before .before .before in
+    let v = at-loop-test .before .loop .inv in
+    fits _ _ _ _ _ _ _ _ (v .4) (omega (arith, v .0, at-loop-test .loop-test .taken)) (v .1) (v .2) _ (c .row-line .ensures)
+
+add-i : tie.Need-add-i Inv-loop μ-loop
+add-i c = omega arith
+
+loop-less : tie.Need-loop-less Inv-loop μ-loop
+loop-less c = omega arith
+
+loop-again : tie.Need-loop-again Inv-loop μ-loop
+loop-again c =
+    let at-append = c .before .before in
+    let at-loop-test = at-append .before .before .before .before in
+    let v = at-loop-test .before .loop .inv in
+    (v .0, v .1, v .2, omega arith, goes _ _ _ _ _ _ _ _ (v .4) (omega (arith, v .0, at-loop-test .loop-test .taken)) (v .1) (v .2) _ (at-append .before .row-line .ensures) _ _ _ (at-append .append .ensures .0) (at-append .append .ensures .1) refl)
+
+same-length : tie.Need-same-length Inv-loop μ-loop
+same-length c = c .before .loop .inv .4 .long
+
+returns : tie.Need-returns Inv-loop μ-loop
+returns c =
+    let v = c .before .loop .inv in
+    ends _ _ _ _ _ _ _ _ _ (v .4) (omega (arith, v .3, c .loop-test .left))
+
+pub put-rows-spec : {M : Type 1} → statement M
+put-rows-spec =
+    tie.close
+    (tie.spec
+    Inv-loop
+    μ-loop
+    loop-holds
+    mul-m
+    array-copy-out-m
+    row-line-requires
+    append-requires
+    add-i
+    loop-less
+    loop-again
+    same-length
+    returns)

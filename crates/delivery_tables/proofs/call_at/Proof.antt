@@ -1,0 +1,54 @@
+use mathlib.Core.Path.{_∙_, refl}
+use borrow.Author.Needs.{needs}
+use Rattle.delivery_tables.proofs.call_at.Statement.{statement}
+use Rattle.delivery_tables.proofs.call_at.Tie as tie
+
+mul-at : tie.Need-mul-at
+mul-at c = search needs
+
+add-number-at : tie.Need-add-number-at
+add-number-at c = search needs
+
+number-at-requires : tie.Need-number-at-requires
+number-at-requires c κs = tt
+
+add-number-at-2 : tie.Need-add-number-at-2
+add-number-at-2 c = search needs
+
+number-at-requires-2 : tie.Need-number-at-requires-2
+number-at-requires-2 c κs = tt
+
+add-number-at-3 : tie.Need-add-number-at-3
+add-number-at-3 c = search needs
+
+number-at-requires-3 : tie.Need-number-at-requires-3
+number-at-requires-3 c κs = tt
+
+add-number-at-4 : tie.Need-add-number-at-4
+add-number-at-4 c = search needs
+
+number-at-requires-4 : tie.Need-number-at-requires-4
+number-at-requires-4 c κs = tt
+
+call-requires : tie.Need-call-requires
+call-requires c κs = tt
+
+returns : tie.Need-returns
+returns c =
+    c .call .ensures ∙ rw (c .before .before .before .before .number-at .ensures, c .before .before .before .number-at2 .ensures, c .before .before .number-at3 .ensures, c .before .number-at4 .ensures) refl
+
+pub call-at-spec : {M : Type 1} → statement M
+call-at-spec =
+    tie.close
+    (tie.spec
+    mul-at
+    add-number-at
+    number-at-requires
+    add-number-at-2
+    number-at-requires-2
+    add-number-at-3
+    number-at-requires-3
+    add-number-at-4
+    number-at-requires-4
+    call-requires
+    returns)
