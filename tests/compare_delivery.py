@@ -130,7 +130,7 @@ def compare_case(folder_of_programs, case, folder, limit=compare.SECONDS, progra
 
 
 # Compares all cases of a seed: 0 if all are equal, else 1.
-def compare_all(folder_of_programs, seed, count, programs):
+def compare_all(folder_of_programs, seed, count, programs=PROGRAMS):
     seen, lines = set(), 0
     for number, case in enumerate(mornings.cases(seed, count)):
         folder = tempfile.mkdtemp(prefix=f'delivery-{seed}-{number}-')
@@ -147,7 +147,8 @@ def compare_all(folder_of_programs, seed, count, programs):
     if WANTED - seen and count >= mornings.COUNT:
         print(f'deliver: no case of seed {seed} has {sorted(WANTED - seen)}')
         return 1
-    print(f'deliver: {count} cases of {", ".join(programs)}, {lines:,} lines equal, seed {seed}')
+    names = ' and '.join(filter(None, (', '.join(programs[:-1]), programs[-1])))
+    print(f'deliver: {count} cases of {names}, {lines:,} lines equal, seed {seed}')
     return 0
 
 
