@@ -45,13 +45,13 @@ datedRest rest date =
       left = 0;
     }
 
--- a rest and its maps after a call on the table: an accepted call's outcome is theirs, and a refused one leaves the table as it was
+-- a rest and its maps after a call on the table: an accepted call's outcome is theirs, and a refused one leaves the table as it was; the counts of a refused one are not read
 pub record Moves (t : Table) (o : Outcome) (m : Moved) (closed exchange : List ℕ) : Type 0 where
   pub refusal : m .refusal ≡ o .refusal
   pub accepted : o .refusal ≡ 0 → record { refusal = 0; table = tableWith (m .rest) closed exchange; entered = m .entered; left = m .left } ≡ o
   pub refused : (o .refusal ≡ 0 → ⊥) → tableWith (m .rest) closed exchange ≡ t
 
--- what is printed of an accepted call: the maps take no part in it
+-- an accepted call as printing gets it: printing reads no calendar, so zeros stand there
 unfoldable pub shownOf : Moved → Outcome
 shownOf m =
     record {

@@ -79,13 +79,15 @@ pub record LastAnswer (opening : List ℕ → ℕ → Outcome) (h : Kept) (l : L
 abbrev pub counted : ℕ → ℕ → ℕ
 counted n more = (n + more) % 2 ^ 64
 
--- at a write, the bytes that stand in the lent buffer are what comes next of the session's text: the answers to the lines that end in the part between two places; or, where the input has ended, the answer to its last line
+-- at a write, the bytes that stand in the lent buffer are what comes next of the session's text from the state s: the answers to the lines that end in the part between the places of s and r; or the answer to the line of s as the last one
+-- that s is the state which the session has reached, and that `last` is used where the input has ended, is seen where it is used, not said here
 pub data ComesNext (opening : List ℕ → ℕ → Outcome) (part : List ℕ) (s r : Progress) (bytes : List ℕ) : Type 0 where
   answers : ((rest : List ℕ) → restText opening (s .kept) (s .line) (drop (s .at) part ++ rest) ≡ bytes ++ restText opening (r .kept) (r .line) (drop (r .at) part ++ rest))
       → ComesNext opening part s r bytes
   last : restText opening (s .kept) (s .line) [] ≡ bytes → ComesNext opening part s r bytes
 
--- a part of the input is used up but for what is left of it: a text was written, for every rest of the input it is what comes next, and the count of the bytes that were written grew by its length
+-- a part of the input is used up but for what is left of it: there is a text which for every rest of the input is what comes next, and the count that the writing function gave back grew by its length
+-- that these bytes went out is said at each write (`ComesNext`), not here
 pub record Handed (opening : List ℕ → ℕ → Outcome) (h : Kept) (l : Line) (part : List ℕ) (n : ℕ) (h′ : Kept) (l′ : Line) (left : List ℕ) (n′ : ℕ) : Type 0 where
   pub text : List ℕ
   pub is : (rest : List ℕ) → restText opening h l (part ++ rest) ≡ text ++ restText opening h′ l′ (left ++ rest)
@@ -105,7 +107,7 @@ pub data Run (opening : List ℕ → ℕ → Outcome) : Kept → Line → ℕ �
       → Run opening h′ l′ m parts text n′
       → Run opening h l n (part ∷ parts) (d .text ++ text) n′
 
--- a run from the first command on that has written so many bytes
+-- there are parts of an input whose whole run, from the first command on, writes so many bytes, modulo 2^64; that they are the parts that were read is not said
 pub record Ran (opening : List ℕ → ℕ → Outcome) (n : ℕ) : Type 0 where
   pub parts : List (List ℕ)
   pub text : List ℕ
