@@ -26,19 +26,23 @@ pub data Asked : Type 0 where
   nothing bad : Asked
   asks : List ℕ → Question → Asked
 
--- the words `last`, `due`, `tick`, `cash` and `size`
+-- the word `last`, as in 'AXA last 2008-06'
 abbrev pub lastWord : List ℕ
 lastWord = 108 ∷ 97 ∷ 115 ∷ 116 ∷ []
 
+-- the word `due`, as in 'AXA due 2008-03-22'
 abbrev pub dueWord : List ℕ
 dueWord = 100 ∷ 117 ∷ 101 ∷ []
 
+-- the word `tick`, as in 'AXA tick 12.3400'
 abbrev pub tickWord : List ℕ
 tickWord = 116 ∷ 105 ∷ 99 ∷ 107 ∷ []
 
+-- the word `cash`, as in 'AXA cash 3 12.3400 12.5000'
 abbrev pub cashWord : List ℕ
 cashWord = 99 ∷ 97 ∷ 115 ∷ 104 ∷ []
 
+-- the word `size`, as in 'AXA size'
 abbrev pub sizeWord : List ℕ
 sizeWord = 115 ∷ 105 ∷ 122 ∷ 101 ∷ []
 

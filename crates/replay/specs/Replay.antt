@@ -17,7 +17,7 @@ use Rattle.replay.specs.declared.Replay.{Replay}
 abbrev pub shortIn : ℕ → ℕ
 shortIn number = cond (leb number 65535) number 65535
 
--- a call of the lent list by its kind, 0 to 3, and three numbers: 0 a roll to a date, 1 a close of a day, 2 a reopening of a day, 3 a measure of p for q with a price; a list with any other kind number does not fit (`kindsFit`), and what stands here for it is never made
+-- a call of the lent list by its kind, 0 to 3, and three numbers: 0 a roll to a date, 1 a close of a day, 2 a reopening of a day, 3 a measure of p for q with a price; a list with any other kind number does not fit (`kindsFit`), and no call of it is run; by itself such a number stands for a close here
 abbrev pub callOf : ℕ → ℕ → ℕ → ℕ → Call
 callOf kind first second third =
     cond (eqb kind 0) (roll (shortIn first))
