@@ -4,6 +4,7 @@ mod output;
 
 use delivery_notices::Taken;
 use delivery_parts::PlacePart;
+use years::FileCalendar;
 
 // Tells the refused calls of a place.
 fn tell_place(part: PlacePart, opened: u32, calls: &[u32], refusals: &[u8], count: u32) {
@@ -31,6 +32,7 @@ fn tell_unknown(file: &[u8], calls: &[u32], ids: &[u8], count: u32) {
 // The rows and the refused calls of every place, in the file's order. A write that fails ends the run.
 fn print_places(
     file: &[u8],
+    judged: FileCalendar,
     t: Taken,
     calls: &[u32],
     ids: &[u8],
@@ -42,6 +44,7 @@ fn print_places(
     while p < places {
         let part = delivery_parts::deliver_place(
             file,
+            judged,
             p,
             t.date,
             calls,
@@ -62,6 +65,7 @@ fn print_places(
 // What a file that is accepted and a text of notices give.
 fn run(
     file: &[u8],
+    judged: FileCalendar,
     text: &[u8],
     calls: &mut [u32],
     ids: &mut [u8],
@@ -76,7 +80,7 @@ fn run(
     if !output::write_line(delivery_rows::heading_line()) {
         return;
     }
-    if print_places(file, t, calls, ids, refusals, out) {
+    if print_places(file, judged, t, calls, ids, refusals, out) {
         tell_unknown(file, calls, ids, t.count);
     }
 }
@@ -100,7 +104,7 @@ fn judged(
         return;
     }
     let n = read.length;
-    run(file, &text[..n], calls, ids, refusals, out);
+    run(file, judged, &text[..n], calls, ids, refusals, out);
 }
 
 fn main() {

@@ -13,7 +13,7 @@ use Rattle.delivery_lines.specs.NoticeLines.{held}
 use Rattle.delivery_notices.specs.declared.Taken.{Taken}
 use Rattle.delivery_notices.specs.Notices.{Notice, Told, textTold}
 
--- notice i of two lists: the number of its line and its call, five numbers, and the four bytes of its id
+-- notice i of two lists: the number of its line and its call, five numbers, and the four bytes of its id; a kind number other than 0 to 3, which no text gives, is a call that every table refuses (`callOf`)
 abbrev pub noticeAt : List ℕ → List ℕ → ℕ → Notice
 noticeAt calls ids i =
     record {

@@ -8,59 +8,69 @@ use native.Mathlib.Omega.{arith}
 use lib.Dec.{eqb, leb}
 use lib.ListN.{length, take, length-take}
 use borrow.Author.Tests.{eq-eqb, ne-eqb, le-leb, leb-true}
+use Rattle.questions.specs.Questions.{Answer}
 use Rattle.questions.proofs.Bools.{both, clash}
+use Rattle.calendar.specs.declared.Calendar.{Calendar}
 use Rattle.ids.specs.Ids.{isRecord, idAt}
+use Rattle.master.specs.Load.{judgeCall}
 use Rattle.table.specs.declared.Table.{Table}
-use Rattle.table.specs.Table.{openCall}
+use Rattle.table.specs.declared.Outcome.{Outcome}
+use Rattle.table.specs.Table.{openIn}
+use Rattle.table.proofs.Opens.{open-is}
+use Rattle.history.specs.History.{tableRun}
 use Rattle.delivery_notices.specs.Notices.{Notice, Told}
 use Rattle.delivery_notices.specs.Lists.{noticesTo, noticeHeld}
 use Rattle.delivery_tables.specs.declared.Delivered.{Delivered}
-use Rattle.delivery_tables.specs.Tables.{refusalsFor, tableAfter, NoticesMade, Delivers}
+use Rattle.delivery_tables.specs.Tables.{callsFor, refusalsFor, NoticesMade, Delivers}
 use Rattle.delivery_tables.proofs.Held.{run-same, refusals-same}
 use Rattle.delivery_rows.specs.Delivery.{rowsText, tableRows, opensAt, placeRows}
 use Rattle.delivery_rows.specs.Printed.{RowsIn, hasRoom, rowsOrNone}
 use Rattle.delivery_refusals.specs.Refusals.{refusedText, refusalText, refusalsText, productRefusals, placeRefusals, refusalLines}
 use Rattle.delivery_parts.specs.declared.PlacePart.{PlacePart}
-use Rattle.delivery_parts.specs.Parts.{partFits, noPart, PlaceIn}
+use Rattle.delivery_parts.specs.Parts.{partFits, noPart, rowsBy, refusalsBy, PlaceIn}
 use Rattle.delivery_parts.proofs.Wholes.{notices-length, notices-told, opening-told}
 
 no-row : rowsText [] ≡ []
 unfolding rowsText
 no-row = refl
 
-rows-closed : (f : List ℕ) (date : ℕ) (ns : List Notice) (p : ℕ) → opensAt f date p ≡ false → [] ≡ rowsText (placeRows f date ns p)
-unfolding placeRows
-rows-closed f date ns p e = rw e (sym no-row)
+-- by the file's own verdict a place gives what the file opens
+pub rows-own : (verdict : Answer Calendar) (f : List ℕ) (t : Told) (p : ℕ) → verdict ≡ judgeCall f → rowsBy (openIn verdict f) f t p ≡ placeRows f (t .date) (t .notices) p
+unfolding rowsBy placeRows opensAt
+rows-own verdict f t p e = rw (e, open-is f (idAt f p) (t .date)) refl
 
-rows-open : (f : List ℕ) (date : ℕ) (ns : List Notice) (p : ℕ) → opensAt f date p ≡ true → rowsText (tableRows (idAt f p) (tableAfter f (idAt f p) date ns)) ≡ rowsText (placeRows f date ns p)
-unfolding placeRows
-rows-open f date ns p e = rw e refl
+pub refusals-own : (verdict : Answer Calendar) (f : List ℕ) (t : Told) (p : ℕ) → verdict ≡ judgeCall f → refusalsBy (openIn verdict f) f t p ≡ placeRefusals f t p
+unfolding refusalsBy placeRefusals productRefusals
+refusals-own verdict f t p e = rw (e, open-is f (idAt f p) (t .date)) refl
 
-closed-empty : (f : List ℕ) (date p : ℕ) → isRecord f p ≡ false → opensAt f date p ≡ false
-unfolding opensAt
-closed-empty f date p e = rw e refl
+module _ (opening : List ℕ → ℕ → Outcome) (f : List ℕ) (t : Told) (p : ℕ) where
+  rows-empty : isRecord f p ≡ false → [] ≡ rowsText (rowsBy opening f t p)
+  unfolding rowsBy
+  rows-empty e = rw e (sym no-row)
 
-closed-refused : (f : List ℕ) (date p : ℕ) → isRecord f p ≡ true → (openCall f (idAt f p) date .refusal ≡ 0 → ⊥) → opensAt f date p ≡ false
-unfolding opensAt
-closed-refused f date p h n = rw (h, ne-eqb (openCall f (idAt f p) date .refusal) 0 n) refl
+  told-empty : isRecord f p ≡ false → [] ≡ refusalsBy opening f t p
+  unfolding refusalsBy
+  told-empty e = rw e refl
 
-opens : (f : List ℕ) (date p : ℕ) → isRecord f p ≡ true → openCall f (idAt f p) date .refusal ≡ 0 → opensAt f date p ≡ true
-unfolding opensAt
-opens f date p h z = rw (h, eq-eqb (openCall f (idAt f p) date .refusal) 0 z) refl
+  module _ (h : isRecord f p ≡ true) where
+    rows-refused : (opening (idAt f p) (t .date) .refusal ≡ 0 → ⊥) → [] ≡ rowsText (rowsBy opening f t p)
+    unfolding rowsBy
+    rows-refused n = rw (h, ne-eqb (opening (idAt f p) (t .date) .refusal) 0 n) (sym no-row)
 
-told-empty : (f : List ℕ) (t : Told) (p : ℕ) → isRecord f p ≡ false → [] ≡ placeRefusals f t p
-unfolding placeRefusals
-told-empty f t p e = rw e refl
+    rows-open : opening (idAt f p) (t .date) .refusal ≡ 0
+        → rowsText (tableRows (idAt f p) (tableRun (opening (idAt f p) (t .date) .table) (callsFor (idAt f p) (t .notices)))) ≡ rowsText (rowsBy opening f t p)
+    unfolding rowsBy
+    rows-open z = rw (h, eq-eqb (opening (idAt f p) (t .date) .refusal) 0 z) refl
 
-told-refused : (f : List ℕ) (t : Told) (p : ℕ) → isRecord f p ≡ true → (openCall f (idAt f p) (t .date) .refusal ≡ 0 → ⊥)
-    → refusalText (t .opened) (openCall f (idAt f p) (t .date) .refusal) (idAt f p) ≡ placeRefusals f t p
-unfolding placeRefusals productRefusals refusalText
-told-refused f t p h n = rw (h, ne-eqb (openCall f (idAt f p) (t .date) .refusal) 0 n) refl
+    told-refused : (opening (idAt f p) (t .date) .refusal ≡ 0 → ⊥)
+        → refusalText (t .opened) (opening (idAt f p) (t .date) .refusal) (idAt f p) ≡ refusalsBy opening f t p
+    unfolding refusalsBy refusalText
+    told-refused n = rw (h, ne-eqb (opening (idAt f p) (t .date) .refusal) 0 n) refl
 
-told-open : (f : List ℕ) (t : Told) (p : ℕ) → isRecord f p ≡ true → openCall f (idAt f p) (t .date) .refusal ≡ 0
-    → refusalsText (idAt f p) (t .notices) (refusalsFor (idAt f p) (openCall f (idAt f p) (t .date) .table) (t .notices)) ≡ placeRefusals f t p
-unfolding placeRefusals productRefusals
-told-open f t p h z = rw (h, eq-eqb (openCall f (idAt f p) (t .date) .refusal) 0 z) refl
+    told-open : opening (idAt f p) (t .date) .refusal ≡ 0
+        → refusalsText (idAt f p) (t .notices) (refusalsFor (idAt f p) (opening (idAt f p) (t .date) .table) (t .notices)) ≡ refusalsBy opening f t p
+    unfolding refusalsBy
+    told-open z = rw (h, eq-eqb (opening (idAt f p) (t .date) .refusal) 0 z) refl
 
 room-here : (out : List ℕ) → 1024 ≤ length out → hasRoom out 0 ≡ true
 unfolding hasRoom
@@ -70,9 +80,9 @@ rows-printed : (out : List ℕ) (id : List ℕ) (t : Table) → 1024 ≤ length 
 unfolding rowsOrNone
 rows-printed out id t h = rw (room-here out h) refl
 
-module _ (f : List ℕ) (p date count : ℕ) (calls ids refusals out : List ℕ) where
+module _ (opening : List ℕ → ℕ → Outcome) (f : List ℕ) (p date count : ℕ) (calls ids refusals out : List ℕ) where
   pub place-idle : (b : Bool) → b ≡ partFits count (length refusals) (length out) → b ≡ false → (r : PlacePart) → r ≡ noPart false
-      → PlaceIn f p date count calls ids refusals refusals out out r
+      → PlaceIn opening f p date count calls ids refusals refusals out out r
   place-idle b q n r e =
       record {
         fits = rw e (sym n ∙ q);
@@ -84,12 +94,12 @@ module _ (f : List ℕ) (p date count : ℕ) (calls ids refusals out : List ℕ)
       }
 
   module _ (b : Bool) (q : b ≡ partFits count (length refusals) (length out)) (y : b ≡ true) where
-    pub place-empty : isRecord f p ≡ false → (r : PlacePart) → r ≡ noPart true → PlaceIn f p date count calls ids refusals refusals out out r
+    pub place-empty : isRecord f p ≡ false → (r : PlacePart) → r ≡ noPart true → PlaceIn opening f p date count calls ids refusals refusals out out r
     place-empty h r e =
         record {
           fits = rw e (sym y ∙ q);
-          rows = λ z t d n. rw e (rows-closed f (t .date) (t .notices) p (closed-empty f (t .date) p h));
-          told = λ z t d n. rw e (told-empty f t p h);
+          rows = λ z t d n. rw e (rows-empty opening f t p h);
+          told = λ z t d n. rw e (told-empty opening f t p h);
           within = rw e (omega arith);
           out-long = refl;
           refusals-long = refl;
@@ -101,28 +111,28 @@ module _ (f : List ℕ) (p date count : ℕ) (calls ids refusals out : List ℕ)
     wide : 1024 ≤ length out
     wide = leb-true 1024 (length out) (both (leb count (length refusals)) (leb 1024 (length out)) (sym q ∙ y) .1)
 
-    module _ (h : isRecord f p ≡ true) (id : List ℕ) (i : id ≡ idAt f p) (refusals′ : List ℕ) (d : Delivered) (m : Delivers f id date (noticesTo calls ids count) refusals refusals′ d) where
-      pub place-refused : (d .refusal ≡ 0 → ⊥) → PlaceIn f p date count calls ids refusals refusals′ out out (record { fits = true; holds = true; id = id; refusal = d .refusal; length = 0 })
+    module _ (h : isRecord f p ≡ true) (id : List ℕ) (i : id ≡ idAt f p) (refusals′ : List ℕ) (d : Delivered) (m : Delivers opening id date (noticesTo calls ids count) refusals refusals′ d) where
+      pub place-refused : (d .refusal ≡ 0 → ⊥) → PlaceIn opening f p date count calls ids refusals refusals′ out out (record { fits = true; holds = true; id = id; refusal = d .refusal; length = 0 })
       place-refused n =
           record {
             fits = sym y ∙ q;
-            rows = λ z t e s. rows-closed f (t .date) (t .notices) p (closed-refused f (t .date) p h (closed t e));
+            rows = λ z t e s. rows-refused opening f t p h (closed t e);
             told = λ z t e s.
                 opening-told id (t .opened) (d .refusal) calls refusals′ count (ne-eqb (d .refusal) 0 n)
-                ∙ rw (number t e, i) (told-refused f t p h (closed t e));
+                ∙ rw (number t e, i) (told-refused opening f t p h (closed t e));
             within = omega arith;
             out-long = refl;
             refusals-long = m .long;
           }
         where
-          number : (t : Told) → date ≡ t .date → d .refusal ≡ openCall f (idAt f p) (t .date) .refusal
+          number : (t : Told) → date ≡ t .date → d .refusal ≡ opening (idAt f p) (t .date) .refusal
           number t e = m .refusal ∙ rw (i, e) refl
 
-          closed : (t : Told) → date ≡ t .date → openCall f (idAt f p) (t .date) .refusal ≡ 0 → ⊥
+          closed : (t : Told) → date ≡ t .date → opening (idAt f p) (t .date) .refusal ≡ 0 → ⊥
           closed t e z = n (number t e ∙ z)
 
       pub place-rows : d .refusal ≡ 0 → (out′ : List ℕ) (n : ℕ) → RowsIn out out′ 0 n (rowsOrNone out 0 id (d .table))
-          → PlaceIn f p date count calls ids refusals refusals′ out out′ (record { fits = true; holds = true; id = id; refusal = 0; length = n })
+          → PlaceIn opening f p date count calls ids refusals refusals′ out out′ (record { fits = true; holds = true; id = id; refusal = 0; length = n })
       place-rows z out′ n w =
           record {
             fits = sym y ∙ q;
@@ -133,23 +143,23 @@ module _ (f : List ℕ) (p date count : ℕ) (calls ids refusals out : List ℕ)
             refusals-long = m .long;
           }
         where
-          made : NoticesMade (openCall f id date .table) id (noticesTo calls ids count) refusals refusals′ (d .table)
+          made : NoticesMade (opening id date .table) id (noticesTo calls ids count) refusals refusals′ (d .table)
           made = m .made (m .fits ∙ rw (notices-length calls ids count) (le-leb count (length refusals) few))
 
-          opened : (t : Told) → date ≡ t .date → openCall f (idAt f p) (t .date) .refusal ≡ 0
+          opened : (t : Told) → date ≡ t .date → opening (idAt f p) (t .date) .refusal ≡ 0
           opened t g = sym (m .refusal ∙ rw (i, g) refl) ∙ z
 
-          table-is : (t : Told) → date ≡ t .date → noticesTo calls ids count ≡ map noticeHeld (t .notices) → d .table ≡ tableAfter f (idAt f p) (t .date) (t .notices)
-          table-is t g s = made .table ∙ rw (s, i, g) (run-same (idAt f p) (openCall f (idAt f p) (t .date) .table) (t .notices))
+          table-is : (t : Told) → date ≡ t .date → noticesTo calls ids count ≡ map noticeHeld (t .notices) → d .table ≡ tableRun (opening (idAt f p) (t .date) .table) (callsFor (idAt f p) (t .notices))
+          table-is t g s = made .table ∙ rw (s, i, g) (run-same (idAt f p) (opening (idAt f p) (t .date) .table) (t .notices))
 
-          rows-are : (t : Told) → date ≡ t .date → noticesTo calls ids count ≡ map noticeHeld (t .notices) → rowsText (tableRows id (d .table)) ≡ rowsText (placeRows f (t .date) (t .notices) p)
-          rows-are t g s = rw (table-is t g s, i) (rows-open f (t .date) (t .notices) p (opens f (t .date) p h (opened t g)))
+          rows-are : (t : Told) → date ≡ t .date → noticesTo calls ids count ≡ map noticeHeld (t .notices) → rowsText (tableRows id (d .table)) ≡ rowsText (rowsBy opening f t p)
+          rows-are t g s = rw (table-is t g s, i) (rows-open opening f t p h (opened t g))
 
-          told-are : (t : Told) → date ≡ t .date → noticesTo calls ids count ≡ map noticeHeld (t .notices) → refusalLines id (t .opened) 0 calls refusals′ (count + 1) ≡ placeRefusals f t p
+          told-are : (t : Told) → date ≡ t .date → noticesTo calls ids count ≡ map noticeHeld (t .notices) → refusalLines id (t .opened) 0 calls refusals′ (count + 1) ≡ refusalsBy opening f t p
           told-are t g s =
-              notices-told id (t .opened) calls ids refusals′ count (t .notices) (refusalsFor id (openCall f id date .table) (t .notices)) (omega (arith, few, m .long)) s
-              (made .refusals ∙ rw s (refusals-same id (openCall f id date .table) (t .notices)))
-              ∙ rw (i, g) (told-open f t p h (opened t g))
+              notices-told id (t .opened) calls ids refusals′ count (t .notices) (refusalsFor id (opening id date .table) (t .notices)) (omega (arith, few, m .long)) s
+              (made .refusals ∙ rw s (refusals-same id (opening id date .table) (t .notices)))
+              ∙ rw (i, g) (told-open opening f t p h (opened t g))
 
           fits-in : n ≤ length out′
           fits-in = omega (arith, length-take n out′, ap length (w .is), w .to)

@@ -7,12 +7,15 @@ use mathlib.Core.List.{List, [], _++_, map}
 use lib.Dec.{eqb, leb}
 use lib.ListN.{length, take, replicate}
 use Rattle.questions.specs.Questions.{firstNo}
-use Rattle.ids.specs.Ids.{placeCount}
+use Rattle.ids.specs.Ids.{placeCount, isRecord, idAt}
 use Rattle.master.specs.Load.{loadAsks}
+use Rattle.table.specs.declared.Outcome.{Outcome}
+use Rattle.history.specs.History.{tableRun}
 use Rattle.delivery_notices.specs.Notices.{Told, textTold}
 use Rattle.delivery_notices.specs.Lists.{noticesTo, noticeHeld}
-use Rattle.delivery_rows.specs.Delivery.{headingText, rowsText, placeRows, delivery}
-use Rattle.delivery_refusals.specs.Refusals.{masterText, badText, placeRefusals, refusalsTo, refusalLines, unknownText}
+use Rattle.delivery_tables.specs.Tables.{callsFor, refusalsFor}
+use Rattle.delivery_rows.specs.Delivery.{Row, headingText, rowsText, tableRows, placeRows, delivery}
+use Rattle.delivery_refusals.specs.Refusals.{masterText, badText, refusedText, refusalsText, placeRefusals, refusalsTo, refusalLines, unknownText}
 use Rattle.delivery_parts.specs.declared.PlacePart.{PlacePart}
 
 -- standard output: 'under a heading that is always there', the rows; of a file that is refused and of notices with a bad line 'nothing else is printed, no heading either'
@@ -42,13 +45,27 @@ partFits count refusals out = leb count refusals && leb 1024 out
 abbrev pub noPart : Bool → PlacePart
 noPart fits = record { fits = fits; holds = false; id = replicate 4 0; refusal = 0; length = 0 }
 
+-- the rows of the product at a place, by what an id and a date open; by what the file opens they are `placeRows`
+unfoldable pub rowsBy : (List ℕ → ℕ → Outcome) → List ℕ → Told → ℕ → List Row
+rowsBy opening f t p =
+    cond (isRecord f p && eqb (opening (idAt f p) (t .date) .refusal) 0)
+    (tableRows (idAt f p) (tableRun (opening (idAt f p) (t .date) .table) (callsFor (idAt f p) (t .notices)))) []
+
+-- the lines of its refused calls likewise; by what the file opens they are `placeRefusals`
+unfoldable pub refusalsBy : (List ℕ → ℕ → Outcome) → List ℕ → Told → ℕ → List ℕ
+refusalsBy opening f t p =
+    cond (isRecord f p)
+    (cond (eqb (opening (idAt f p) (t .date) .refusal) 0)
+    (refusalsText (idAt f p) (t .notices) (refusalsFor (idAt f p) (opening (idAt f p) (t .date) .table) (t .notices)))
+    (refusedText (t .opened) (opening (idAt f p) (t .date) .refusal) (idAt f p))) []
+
 -- of a place: where the buffers have room and the lists hold the notices of a text, the rows stand at the start of the one, and the lines of the refused calls, of which there are none where the place holds no record, are those of the other
-pub record PlaceIn (f : List ℕ) (p date count : ℕ) (calls ids refusals refusals′ out out′ : List ℕ) (r : PlacePart) : Type 0 where
+pub record PlaceIn (opening : List ℕ → ℕ → Outcome) (f : List ℕ) (p date count : ℕ) (calls ids refusals refusals′ out out′ : List ℕ) (r : PlacePart) : Type 0 where
   pub fits : r .fits ≡ partFits count (length refusals) (length out)
   pub rows : r .fits ≡ true → (t : Told) → date ≡ t .date → noticesTo calls ids count ≡ map noticeHeld (t .notices)
-      → take (r .length) out′ ≡ rowsText (placeRows f (t .date) (t .notices) p)
+      → take (r .length) out′ ≡ rowsText (rowsBy opening f t p)
   pub told : r .fits ≡ true → (t : Told) → date ≡ t .date → noticesTo calls ids count ≡ map noticeHeld (t .notices)
-      → cond (r .holds) (refusalLines (r .id) (t .opened) (r .refusal) calls refusals′ (count + 1)) [] ≡ placeRefusals f t p
+      → cond (r .holds) (refusalLines (r .id) (t .opened) (r .refusal) calls refusals′ (count + 1)) [] ≡ refusalsBy opening f t p
   pub within : r .length ≤ length out′
   pub out-long : length out′ ≡ length out
   pub refusals-long : length refusals′ ≡ length refusals

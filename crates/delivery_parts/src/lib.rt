@@ -1,5 +1,8 @@
 // A delivery place by place.
+use years::FileCalendar;
 ghost use mathlib.Core.Path.{_≡_};
+ghost use Rattle.years.specs.Calendars.{calendarAnswer};
+ghost use Rattle.table.specs.Table.{openIn};
 ghost use Rattle.delivery_parts.specs.Parts.{partFits, noPart, PlaceIn};
 
 // What a place gives: whether the buffers have room, whether it holds a record, its product's id, open's refusal, and how many bytes of rows stand in the buffer.
@@ -31,9 +34,10 @@ fn no_part(fits: bool) -> PlacePart
     }
 }
 
-// The rows of the product at a place at the start of a lent buffer of 1,024 bytes or more, and the refusals of the first notices of two lists in another, one byte each. Without room nothing is done.
+// The rows of the product at a place at the start of a lent buffer of 1,024 bytes or more, and the refusals of the first notices of two lists in another, one byte each. The file's verdict by `judge` is at hand. Without room nothing is done.
 pub fn deliver_place(
     file: &[u8],
+    judged: FileCalendar,
     place: usize,
     date: u16,
     calls: &[u32],
@@ -42,7 +46,7 @@ pub fn deliver_place(
     refusals: &mut [u8],
     out: &mut [u8],
 ) -> PlacePart
-    ensures { λ r. ⌜ PlaceIn (now (file .entry)) place date count (now (calls .entry)) (now (ids .entry)) (now (refusals .entry)) (now (refusals .exit)) (now (out .entry)) (now (out .exit)) r ⌝ }
+    ensures { λ r. ⌜ PlaceIn (openIn (calendarAnswer judged) (now (file .entry))) (now (file .entry)) place date count (now (calls .entry)) (now (ids .entry)) (now (refusals .entry)) (now (refusals .exit)) (now (out .entry)) (now (out .exit)) r ⌝ }
 {
     if !part_fits(count as usize, refusals.len(), out.len()) {
         return no_part(false);
@@ -51,7 +55,7 @@ pub fn deliver_place(
         return no_part(true);
     }
     let id = ids::id_at(file, place);
-    let d = delivery_tables::deliver(file, id, date, calls, ids, count, refusals);
+    let d = delivery_tables::deliver(file, judged, id, date, calls, ids, count, refusals);
     let refusal = d.refusal;
     if refusal != 0 {
         return PlacePart {

@@ -29,13 +29,15 @@ use Rattle.delivery_tables.specs.Tables.{isMeasure, concerns, callsFor, 
 
 -- a call is a measure exactly where its kind is 3
 pub measure-is : (kind first second third : ℕ) → isMeasure (callOf kind first second third) ≡ eqb kind 3
-measure-is kind first second third = go (eqb kind 0) refl (eqb kind 2) refl (eqb kind 3) refl
+measure-is kind first second third = go (eqb kind 0) refl (eqb kind 2) refl (eqb kind 3) refl (eqb kind 1) refl
   where
-    go : (a : Bool) → eqb kind 0 ≡ a → (b : Bool) → eqb kind 2 ≡ b → (c : Bool) → eqb kind 3 ≡ c → isMeasure (callOf kind first second third) ≡ eqb kind 3
-    go true p b q c r = let z : kind ≡ 0 = eqb-true kind 0 p in rw z
-    go false p true q c r = let z : kind ≡ 2 = eqb-true kind 2 q in rw z
-    go false p false q true r = rw (p, q, r)
-    go false p false q false r = rw (p, q, r)
+    go : (a : Bool) → eqb kind 0 ≡ a → (b : Bool) → eqb kind 2 ≡ b → (c : Bool) → eqb kind 3 ≡ c → (d : Bool) → eqb kind 1 ≡ d
+        → isMeasure (callOf kind first second third) ≡ eqb kind 3
+    go true p b q c r d s = let z : kind ≡ 0 = eqb-true kind 0 p in rw z
+    go false p true q c r d s = let z : kind ≡ 2 = eqb-true kind 2 q in rw z
+    go false p false q true r d s = rw (p, q, r)
+    go false p false q false r true s = rw (p, q, r, s)
+    go false p false q false r false s = rw (p, q, r, s)
 
 pub concerns-is : (calls ids id : List ℕ) (i kind : ℕ) (of : List ℕ) (b : Bool) → kind ≡ getD calls (5 * i + 1) 0
     → of ≡ getD ids (4 * i) 0 ∷ getD ids (4 * i + 1) 0 ∷ getD ids (4 * i + 2) 0 ∷ getD ids (4 * i + 3) 0 ∷ [] → b ≡ (not (eqb kind 3) || sameId of id)
@@ -177,9 +179,9 @@ module _ (id calls ids before : List ℕ) (start : Table) where
         long = s .long;
       }
 
-module _ (f id calls ids : List ℕ) (date count : ℕ) (before : List ℕ) (o : Outcome) (is : o ≡ openCall f id date) where
+module _ (opening : List ℕ → ℕ → Outcome) (id calls ids : List ℕ) (date count : ℕ) (before : List ℕ) (o : Outcome) (is : o ≡ opening id date) where
   -- no room: no notice is taken
-  pub not-made : length before < count → Delivers f id date (noticesTo calls ids count) before before (record { fits = false; refusal = o .refusal; table = o .table })
+  pub not-made : length before < count → Delivers opening id date (noticesTo calls ids count) before before (record { fits = false; refusal = o .refusal; table = o .table })
   not-made h =
       record {
         fits = rw (notices-length calls ids count) (sym (lt-leb count (length before) h));
@@ -190,7 +192,7 @@ module _ (f id calls ids : List ℕ) (date count : ℕ) (before : List ℕ) (o :
       }
 
   pub all-made : (after : List ℕ) (t : Table) → count ≤ length before → NoticesMade (o .table) id (noticesTo calls ids count) before after t
-      → Delivers f id date (noticesTo calls ids count) before after (record { fits = true; refusal = o .refusal; table = t })
+      → Delivers opening id date (noticesTo calls ids count) before after (record { fits = true; refusal = o .refusal; table = t })
   all-made after t h m =
       record {
         fits = rw (notices-length calls ids count) (sym (le-leb count (length before) h));

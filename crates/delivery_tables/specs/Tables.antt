@@ -8,6 +8,7 @@ use lib.Dec.{leb}
 use lib.ListN.{length, take, drop}
 use Rattle.master.specs.Products.{sameId}
 use Rattle.table.specs.declared.Table.{Table}
+use Rattle.table.specs.declared.Outcome.{Outcome}
 use Rattle.table.specs.Table.{openCall}
 use Rattle.history.specs.declared.Called.{Called}
 use Rattle.history.specs.Book.{Call, roll, close, reopen, measure, Reply}
@@ -72,10 +73,10 @@ pub record NoticesMade (t : Table) (id : List ℕ) (ns : List Notice) (before af
   pub unchanged : drop (length ns) after ≡ drop (length ns) before
   pub long : length after ≡ length before
 
--- of a product's table after the notices: with room for the refusals every notice is taken; without it none is, and nothing is written
-pub record Delivers (f id : List ℕ) (date : ℕ) (ns : List Notice) (before after : List ℕ) (r : Delivered) : Type 0 where
+-- of a product's table after the notices, by what an id and a date open: with room for the refusals every notice is taken; without it none is, and nothing is written
+pub record Delivers (opening : List ℕ → ℕ → Outcome) (id : List ℕ) (date : ℕ) (ns : List Notice) (before after : List ℕ) (r : Delivered) : Type 0 where
   pub fits : r .fits ≡ leb (length ns) (length before)
-  pub refusal : r .refusal ≡ openCall f id date .refusal
-  pub made : r .fits ≡ true → NoticesMade (openCall f id date .table) id ns before after (r .table)
-  pub idle : r .fits ≡ false → (r .table ≡ openCall f id date .table) × (after ≡ before)
+  pub refusal : r .refusal ≡ opening id date .refusal
+  pub made : r .fits ≡ true → NoticesMade (opening id date .table) id ns before after (r .table)
+  pub idle : r .fits ≡ false → (r .table ≡ opening id date .table) × (after ≡ before)
   pub long : length after ≡ length before

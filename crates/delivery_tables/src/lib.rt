@@ -1,14 +1,15 @@
 // The table of a product after the notices of two lent lists.
 use history::Called;
-use table::Outcome;
 use table::Table;
+use years::FileCalendar;
 ghost use mathlib.Core.Path.{_≡_};
 ghost use mathlib.Core.Bool.{not, _||_};
 ghost use mathlib.Core.List.{[], _∷_};
 ghost use Prim.Native.Nat.{_+_, _*_, _≤_, _<_};
 ghost use lib.Dec.{eqb};
 ghost use lib.ListN.{length, getD};
-ghost use Rattle.table.specs.Table.{openCall};
+ghost use Rattle.years.specs.Calendars.{calendarAnswer};
+ghost use Rattle.table.specs.Table.{openIn};
 ghost use Rattle.history.specs.History.{tableCall};
 ghost use Rattle.replay.specs.Replay.{callOf};
 ghost use Rattle.master.specs.Products.{sameId};
@@ -116,16 +117,10 @@ fn take_notices(
     t
 }
 
-// A table opened from a file.
-fn open_table(file: &[u8], id: [u8; 4], date: u16) -> Outcome
-    ensures { λ r. ⌜ r ≡ openCall (now (file .entry)) id date ⌝ }
-{
-    table::zero_table().open(file, id, date)
-}
-
-// The table of the product with an id, opened on a date, after the first notices of two lists. The number of each notice's refusal, 0 where it is accepted or is no call of the product, goes to a lent buffer; where that has no room for them no notice is taken.
+// The table of the product with an id, opened on a date, after the first notices of two lists. The file's verdict by `judge` is at hand, so questions 1 to 8 are not asked again. The number of each notice's refusal, 0 where it is accepted or is no call of the product, goes to a lent buffer; where that has no room for them no notice is taken.
 pub fn deliver(
     file: &[u8],
+    judged: FileCalendar,
     id: [u8; 4],
     date: u16,
     calls: &[u32],
@@ -133,9 +128,9 @@ pub fn deliver(
     count: u32,
     refusals: &mut [u8],
 ) -> Delivered
-    ensures { λ r. ⌜ Delivers (now (file .entry)) id date (noticesTo (now (calls .entry)) (now (ids .entry)) count) (now (refusals .entry)) (now (refusals .exit)) r ⌝ }
+    ensures { λ r. ⌜ Delivers (openIn (calendarAnswer judged) (now (file .entry))) id date (noticesTo (now (calls .entry)) (now (ids .entry)) count) (now (refusals .entry)) (now (refusals .exit)) r ⌝ }
 {
-    let opened = open_table(file, id, date);
+    let opened = table::open_in(file, judged, id, date);
     let refusal = opened.refusal;
     let table = opened.table;
     if refusals.len() < count as usize {

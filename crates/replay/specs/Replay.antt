@@ -17,12 +17,13 @@ use Rattle.replay.specs.declared.Replay.{Replay}
 abbrev pub shortIn : ℕ → ℕ
 shortIn number = cond (leb number 65535) number 65535
 
--- a call of the lent list by its kind, 0 to 3, and three numbers: 0 a roll to a date, 1 a close of a day, 2 a reopening of a day, 3 a measure of p for q with a price; a list with any other kind number does not fit (`kindsFit`), and no call of it is run; by itself such a number stands for a close here
+-- a call of the lent list by its kind, 0 to 3, and three numbers: 0 a roll to a date, 1 a close of a day, 2 a reopening of a day, 3 a measure of p for q with a price; any other number is a roll to 65,535, which is no day: every table refuses it. A list with such a number does not fit (`kindsFit`), and no call of it is run
 abbrev pub callOf : ℕ → ℕ → ℕ → ℕ → Call
 callOf kind first second third =
     cond (eqb kind 0) (roll (shortIn first))
     (cond (eqb kind 2) (reopen (shortIn first))
-    (cond (eqb kind 3) (measure (shortIn first) (shortIn second) third) (close (shortIn first))))
+    (cond (eqb kind 3) (measure (shortIn first) (shortIn second) third)
+    (cond (eqb kind 1) (close (shortIn first)) (roll 65535))))
 
 -- the calls of a lent list, four numbers each: the kind and three more, of which only a measure reads the last two
 unfoldable pub callsOf : List ℕ → List Call

@@ -55,7 +55,7 @@ fn without_counts(m: Measured) -> Called
     }
 }
 
-// One call of a list whose kinds fit: 0 rolls to a date, 2 reopens a day, 3 is a measure of p for q with a price, and 1, the only other kind, closes a day. Whether a kind is one of these is asked before.
+// One call by its kind: 0 rolls to a date, 1 closes a day, 2 reopens a day, 3 is a measure of p for q with a price. Any other number is a roll to 65,535, which is no day: every table refuses it.
 pub fn call(t: Table, kind: u32, first: u32, second: u32, third: u32) -> Called
     ensures { λ r. ⌜ r ≡ tableCall t (callOf kind first second third) ⌝ }
 {
@@ -69,7 +69,10 @@ pub fn call(t: Table, kind: u32, first: u32, second: u32, third: u32) -> Called
     if kind == 3 {
         return without_counts(measures::measure(t, number, short_in(second), third));
     }
-    without_price(t.close(number))
+    if kind == 1 {
+        return without_price(t.close(number));
+    }
+    without_price(t.roll(65535))
 }
 
 // A call's number, its two counts and its price go to the four places of call i.

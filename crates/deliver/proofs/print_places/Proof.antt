@@ -6,10 +6,10 @@ use Rattle.deliver.proofs.print_places.Statement.{statement}
 use Rattle.deliver.proofs.print_places.Tie as tie
 
 abbrev Inv-loop : tie.InvT-loop
-Inv-loop file t calls ids refusals₀ out₀ places p₀ refusals out p = (length refusals ≡ length refusals₀) × (length out ≡ length out₀)
+Inv-loop file judged t calls ids refusals₀ out₀ places p₀ refusals out p = (length refusals ≡ length refusals₀) × (length out ≡ length out₀)
 
 abbrev μ-loop : tie.MeasureT-loop
-μ-loop file t calls ids refusals₀ out₀ places p₀ refusals out p = places - p
+μ-loop file judged t calls ids refusals₀ out₀ places p₀ refusals out p = places - p
 
 mul-places : tie.Need-mul-places Inv-loop μ-loop
 mul-places c = omega arith

@@ -11,7 +11,7 @@ no-part-requires : tie.Need-no-part-requires
 no-part-requires c κs = tt
 
 returns : tie.Need-returns
-returns c = place-idle _ _ _ _ _ _ _ _ _ (c .before .before .part-fits .ensures) (not-true _ (c .before .if1 .taken)) _ (c .no-part .ensures)
+returns c = place-idle _ _ _ _ _ _ _ _ _ _ (c .before .before .part-fits .ensures) (not-true _ (c .before .if1 .taken)) _ (c .no-part .ensures)
 
 is-record-requires : tie.Need-is-record-requires
 is-record-requires c κs = tt
@@ -21,7 +21,7 @@ no-part-requires-2 c κs = tt
 
 returns-2 : tie.Need-returns-2
 returns-2 c =
-    place-empty _ _ _ _ _ _ _ _ _ (c .before .before .before .before .part-fits .ensures) (not-false _ (c .before .before .before .if1 .left)) (said-no (c .before .before .is-record .ensures) (c .before .if2 .taken)) _ (c .no-part2 .ensures)
+    place-empty _ _ _ _ _ _ _ _ _ _ (c .before .before .before .before .part-fits .ensures) (not-false _ (c .before .before .before .if1 .left)) (said-no (c .before .before .is-record .ensures) (c .before .if2 .taken)) _ (c .no-part2 .ensures)
 
 id-at-requires : tie.Need-id-at-requires
 id-at-requires c κs = tt
@@ -34,7 +34,7 @@ same-length c = c .before .before .before .deliver .ensures .long
 
 returns-3 : tie.Need-returns-3
 returns-3 c =
-    place-refused _ _ _ _ _ _ _ _ _ (c .before .before .before .before .before .before .before .before .before .part-fits .ensures) (not-false _ (c .before .before .before .before .before .before .before .before .if1 .left)) (said-yes (c .before .before .before .before .before .before .before .is-record .ensures) (c .before .before .before .before .before .before .if2 .left)) _ (c .before .before .before .before .before .id-at .ensures) _ _ (c .before .before .before .deliver .ensures) (c .if3 .taken)
+    place-refused _ _ _ _ _ _ _ _ _ _ (c .before .before .before .before .before .before .before .before .before .part-fits .ensures) (not-false _ (c .before .before .before .before .before .before .before .before .if1 .left)) (said-yes (c .before .before .before .before .before .before .before .is-record .ensures) (c .before .before .before .before .before .before .if2 .left)) _ (c .before .before .before .before .before .id-at .ensures) _ _ (c .before .before .before .deliver .ensures) (c .if3 .taken)
 
 print-rows-requires : tie.Need-print-rows-requires
 print-rows-requires c κs = tt
@@ -47,7 +47,7 @@ same-length-3 c = c .before .before .print-rows .ensures .long
 
 returns-4 : tie.Need-returns-4
 returns-4 c =
-    place-rows _ _ _ _ _ _ _ _ _ (c .before .before .before .before .before .before .before .before .before .before .before .before .before .before .part-fits .ensures) (not-false _ (c .before .before .before .before .before .before .before .before .before .before .before .before .before .if1 .left)) (said-yes (c .before .before .before .before .before .before .before .before .before .before .before .before .is-record .ensures) (c .before .before .before .before .before .before .before .before .before .before .before .if2 .left)) _ (c .before .before .before .before .before .before .before .before .before .before .id-at .ensures) _ _ (c .before .before .before .before .before .before .before .before .deliver .ensures) (c .before .before .before .before .before .if3 .left) _ _ (c .before .before .print-rows .ensures)
+    place-rows _ _ _ _ _ _ _ _ _ _ (c .before .before .before .before .before .before .before .before .before .before .before .before .before .before .part-fits .ensures) (not-false _ (c .before .before .before .before .before .before .before .before .before .before .before .before .before .if1 .left)) (said-yes (c .before .before .before .before .before .before .before .before .before .before .before .before .is-record .ensures) (c .before .before .before .before .before .before .before .before .before .before .before .if2 .left)) _ (c .before .before .before .before .before .before .before .before .before .before .id-at .ensures) _ _ (c .before .before .before .before .before .before .before .before .deliver .ensures) (c .before .before .before .before .before .if3 .left) _ _ (c .before .before .print-rows .ensures)
 
 pub deliver-place-spec : {M : Type 1} → statement M
 deliver-place-spec =

@@ -2,11 +2,11 @@ use Rattle.delivery_tables.proofs.Taking.{not-made, all-made}
 use Rattle.delivery_tables.proofs.deliver.Statement.{statement}
 use Rattle.delivery_tables.proofs.deliver.Tie as tie
 
-open-table-requires : tie.Need-open-table-requires
-open-table-requires c κs = tt
+open-in-requires : tie.Need-open-in-requires
+open-in-requires c κs = tt
 
 returns : tie.Need-returns
-returns c = not-made _ _ _ _ _ _ _ _ (c .before .before .open-table .ensures) (c .if1 .taken)
+returns c = not-made _ _ _ _ _ _ _ _ (c .before .before .open-in .ensures) (c .if1 .taken)
 
 take-notices-requires : tie.Need-take-notices-requires
 take-notices-requires c κs = c .before .if1 .left
@@ -16,8 +16,8 @@ same-length c = c .before .before .take-notices .ensures .long
 
 returns-2 : tie.Need-returns-2
 returns-2 c =
-    all-made _ _ _ _ _ _ _ _ (c .before .before .before .before .before .before .open-table .ensures) _ _ (c .before .before .before .before .if1 .left) (c .before .before .take-notices .ensures)
+    all-made _ _ _ _ _ _ _ _ (c .before .before .before .before .before .before .open-in .ensures) _ _ (c .before .before .before .before .if1 .left) (c .before .before .take-notices .ensures)
 
 pub deliver-spec : {M : Type 1} → statement M
 deliver-spec =
-    tie.close (tie.spec open-table-requires returns take-notices-requires same-length returns-2)
+    tie.close (tie.spec open-in-requires returns take-notices-requires same-length returns-2)

@@ -1,4 +1,4 @@
-use Rattle.replay.proofs.Answers.{rolls, reopens, measures, closes}
+use Rattle.replay.proofs.Answers.{rolls, reopens, measures, closes, others}
 use Rattle.replay.proofs.call.Statement.{statement}
 use Rattle.replay.proofs.call.Tie as tie
 
@@ -57,12 +57,29 @@ without-price-requires-3 c κs = tt
 
 returns-4 : tie.Need-returns-4
 returns-4 c =
-    let at-if3 = c .before .before in
+    let at-if4 = c .before .before in
+    let at-if3 = at-if4 .before in
     let at-if2 = at-if3 .before in
     let at-if1 = at-if2 .before in
     let given = at-if1 .before .before .args in
-    closes _ _ (given .first) (given .second) (given .third) _ _ (at-if1 .before .short-in .ensures) (at-if1 .if1 .left) (at-if2 .if2 .left) _
-    (at-if3 .if3 .left) (c .before .close .ensures) (c .without-price3 .ensures)
+    closes _ _ (given .first) (given .second) (given .third) _ _ (at-if1 .before .short-in .ensures) (at-if1 .if1 .left) (at-if2 .if2 .left)
+    (at-if3 .if3 .left) _ (at-if4 .if4 .taken) (c .before .close .ensures) (c .without-price3 .ensures)
+
+roll-requires-2 : tie.Need-roll-requires-2
+roll-requires-2 c κs = tt
+
+without-price-requires-4 : tie.Need-without-price-requires-4
+without-price-requires-4 c κs = tt
+
+returns-5 : tie.Need-returns-5
+returns-5 c =
+    let at-if4 = c .before .before in
+    let at-if3 = at-if4 .before in
+    let at-if2 = at-if3 .before in
+    let at-if1 = at-if2 .before in
+    let given = at-if1 .before .before .args in
+    others _ _ (given .first) (given .second) (given .third) _ _ (at-if1 .before .short-in .ensures) (at-if1 .if1 .left) (at-if2 .if2 .left)
+    (at-if3 .if3 .left) _ (at-if4 .if4 .left) (c .before .roll2 .ensures) (c .without-price4 .ensures)
 
 pub call-spec : {M : Type 1} → statement M
 call-spec =
@@ -81,4 +98,7 @@ call-spec =
     returns-3
     close-requires
     without-price-requires-3
-    returns-4)
+    returns-4
+    roll-requires-2
+    without-price-requires-4
+    returns-5)
