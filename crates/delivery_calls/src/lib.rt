@@ -1,0 +1,125 @@
+// A call of a lent list on a table apart from the two maps of its calendar, which are lent.
+use apart::Rest;
+use lines::Command;
+use years::FileCalendar;
+ghost use mathlib.Core.Path.{_≡_};
+ghost use Prim.Native.Nat.{_≤_};
+ghost use Rattle.table.specs.Table.{sound};
+ghost use Rattle.history.specs.Book.{roll, close};
+ghost use Rattle.replay.specs.Replay.{callOf};
+ghost use Rattle.apart.specs.Apart.{tableWith};
+ghost use Rattle.delivery_calls.specs.Calls.{CallMade};
+
+// What a call on a table apart gives back: the number of its refusal, and the rest of the table after it.
+pub struct Made {
+    pub refusal: u8,
+    pub rest: Rest,
+}
+
+// A roll to a date.
+fn roll_apart(
+    file: &[u8],
+    judged: FileCalendar,
+    rest: Rest,
+    ten: bool,
+    closed: &mut [u8; 736],
+    exchange: &mut [u8; 736],
+    date: u16,
+) -> Made
+    ensures { λ r. ⌜ (ten ≡ sound (tableWith rest (now (closed .entry)) (now (exchange .entry))) → CallMade (tableWith rest (now (closed .entry)) (now (exchange .entry))) (roll date) r (now (closed .exit)) (now (exchange .exit))) ⌝ }
+{
+    let c = Command {
+        letter: b'R',
+        id: [0, 0, 0, 0],
+        day: date,
+    };
+    let m = apart::move_apart(file, judged, rest, ten, closed, exchange, c);
+    let after = m.rest;
+    Made {
+        refusal: m.refusal,
+        rest: after,
+    }
+}
+
+// A close of a day.
+fn close_apart(
+    file: &[u8],
+    judged: FileCalendar,
+    rest: Rest,
+    ten: bool,
+    closed: &mut [u8; 736],
+    exchange: &mut [u8; 736],
+    day: u16,
+) -> Made
+    ensures { λ r. ⌜ (ten ≡ sound (tableWith rest (now (closed .entry)) (now (exchange .entry))) → CallMade (tableWith rest (now (closed .entry)) (now (exchange .entry))) (close day) r (now (closed .exit)) (now (exchange .exit))) ⌝ }
+{
+    let c = Command {
+        letter: b'C',
+        id: [0, 0, 0, 0],
+        day,
+    };
+    let m = apart::move_apart(file, judged, rest, ten, closed, exchange, c);
+    let after = m.rest;
+    Made {
+        refusal: m.refusal,
+        rest: after,
+    }
+}
+
+// Any call, on the table that is put together, and its maps afterwards.
+fn call_whole(
+    rest: Rest,
+    closed: &mut [u8; 736],
+    exchange: &mut [u8; 736],
+    kind: u32,
+    first: u32,
+    second: u32,
+    third: u32,
+) -> Made
+    ensures { λ r. ⌜ CallMade (tableWith rest (now (closed .entry)) (now (exchange .entry))) (callOf kind first second third) r (now (closed .exit)) (now (exchange .exit)) ⌝ }
+{
+    let first_map = *closed;
+    let second_map = *exchange;
+    let t = apart::table_of(rest, first_map, second_map);
+    let o = replay::call(t, kind, first, second, third);
+    let refusal = o.refusal;
+    let after = o.table;
+    let cal = after.calendar;
+    let closed_after = cal.closed;
+    let exchange_after = cal.exchange;
+    *closed = closed_after;
+    *exchange = exchange_after;
+    let next = apart::rest_of(after);
+    Made {
+        refusal,
+        rest: next,
+    }
+}
+
+// One call by its kind, where the answer to question 10 of the table is at hand; a roll and a close that leave the listing as it is copy no map. The file and its verdict take no part in it.
+pub fn call_apart(
+    file: &[u8],
+    judged: FileCalendar,
+    rest: Rest,
+    ten: bool,
+    closed: &mut [u8; 736],
+    exchange: &mut [u8; 736],
+    kind: u32,
+    first: u32,
+    second: u32,
+    third: u32,
+) -> Made
+    ensures { λ r. ⌜ (ten ≡ sound (tableWith rest (now (closed .entry)) (now (exchange .entry))) → CallMade (tableWith rest (now (closed .entry)) (now (exchange .entry))) (callOf kind first second third) r (now (closed .exit)) (now (exchange .exit))) ⌝ }
+{
+    if 65535 < first {
+        return call_whole(rest, closed, exchange, kind, first, second, third);
+    }
+    let day = first as u16;
+    if kind == 0 {
+        return roll_apart(file, judged, rest, ten, closed, exchange, day);
+    }
+    if kind == 1 {
+        return close_apart(file, judged, rest, ten, closed, exchange, day);
+    }
+    call_whole(rest, closed, exchange, kind, first, second, third)
+}
