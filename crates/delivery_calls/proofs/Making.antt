@@ -25,7 +25,7 @@ use Rattle.delivery_calls.proofs.Refused.{refused-same}
 
 -- what a table apart is after a move, by the outcome of its call
 by-moves : (t : Table) (o : Outcome) (m : Moved) (closed exchange : List ℕ) (c : Call) → tableCall t c ≡ unpriced o → Moves t o m closed exchange
-    → CallMade t c (record { refusal = m .refusal; rest = m .rest }) closed exchange
+    → CallMade (tableCall t c) (record { refusal = m .refusal; rest = m .rest }) closed exchange
 by-moves t o m closed exchange c e v =
     record { refusal = v .refusal ∙ sym (ap (λ (x : Called). x .refusal) e); table = go (eqb (o .refusal) 0) refl }
   where
@@ -36,11 +36,11 @@ by-moves t o m closed exchange c e v =
         ∙ sym (refused-same t c (λ z. eqb-false (o .refusal) 0 q (sym (ap (λ (x : Called). x .refusal) e) ∙ z)))
 
 module _ (opening : List ℕ → ℕ → Outcome) (t : Table) (c : Command) (m : Moved) (closed exchange : List ℕ) (v : Moves t (outcomeOf opening t c) m closed exchange) where
-  pub roll-made : c .letter ≡ 82 → CallMade t (roll (c .day)) (record { refusal = m .refusal; rest = m .rest }) closed exchange
+  pub roll-made : c .letter ≡ 82 → CallMade (tableCall t (roll (c .day))) (record { refusal = m .refusal; rest = m .rest }) closed exchange
   roll-made l =
       by-moves t (outcomeOf opening t c) m closed exchange (roll (c .day)) (ap unpriced (rolls opening t c (λ q. omega (arith, q, l)) l)) v
 
-  pub close-made : c .letter ≡ 67 → CallMade t (close (c .day)) (record { refusal = m .refusal; rest = m .rest }) closed exchange
+  pub close-made : c .letter ≡ 67 → CallMade (tableCall t (close (c .day))) (record { refusal = m .refusal; rest = m .rest }) closed exchange
   close-made l =
       by-moves t (outcomeOf opening t c) m closed exchange (close (c .day)) (ap unpriced (closes opening t c (λ q. omega (arith, q, l)) (λ q. omega (arith, q, l)))) v
 
@@ -53,6 +53,5 @@ module _ (first second third : ℕ) (small : first ≤ 65535) where
   kind-1 kind e = rw (e, le-leb first 65535 small) refl
 
 -- a call of the whole table, taken apart again
-pub whole-made : (t : Table) (o : Called) (c : Call) → o ≡ tableCall t c
-    → CallMade t c (record { refusal = o .refusal; rest = restOf (o .table) }) (o .table .calendar .closed) (o .table .calendar .exchange)
-whole-made t o c e = record { refusal = ap (λ (x : Called). x .refusal) e; table = ap (λ (x : Called). x .table) e }
+pub whole-made : (o p : Called) → o ≡ p → CallMade p (record { refusal = o .refusal; rest = restOf (o .table) }) (o .table .calendar .closed) (o .table .calendar .exchange)
+whole-made o p e = record { refusal = ap (λ (x : Called). x .refusal) e; table = ap (λ (x : Called). x .table) e }

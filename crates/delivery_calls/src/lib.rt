@@ -3,9 +3,9 @@ use apart::Rest;
 use lines::Command;
 use years::FileCalendar;
 ghost use mathlib.Core.Path.{_≡_};
-ghost use Prim.Native.Nat.{_≤_};
 ghost use Rattle.table.specs.Table.{sound};
 ghost use Rattle.history.specs.Book.{roll, close};
+ghost use Rattle.history.specs.History.{tableCall};
 ghost use Rattle.replay.specs.Replay.{callOf};
 ghost use Rattle.apart.specs.Apart.{tableWith};
 ghost use Rattle.delivery_calls.specs.Calls.{CallMade};
@@ -26,7 +26,7 @@ fn roll_apart(
     exchange: &mut [u8; 736],
     date: u16,
 ) -> Made
-    ensures { λ r. ⌜ (ten ≡ sound (tableWith rest (now (closed .entry)) (now (exchange .entry))) → CallMade (tableWith rest (now (closed .entry)) (now (exchange .entry))) (roll date) r (now (closed .exit)) (now (exchange .exit))) ⌝ }
+    ensures { λ r. ⌜ (ten ≡ sound (tableWith rest (now (closed .entry)) (now (exchange .entry))) → CallMade (tableCall (tableWith rest (now (closed .entry)) (now (exchange .entry))) (roll date)) r (now (closed .exit)) (now (exchange .exit))) ⌝ }
 {
     let c = Command {
         letter: b'R',
@@ -51,7 +51,7 @@ fn close_apart(
     exchange: &mut [u8; 736],
     day: u16,
 ) -> Made
-    ensures { λ r. ⌜ (ten ≡ sound (tableWith rest (now (closed .entry)) (now (exchange .entry))) → CallMade (tableWith rest (now (closed .entry)) (now (exchange .entry))) (close day) r (now (closed .exit)) (now (exchange .exit))) ⌝ }
+    ensures { λ r. ⌜ (ten ≡ sound (tableWith rest (now (closed .entry)) (now (exchange .entry))) → CallMade (tableCall (tableWith rest (now (closed .entry)) (now (exchange .entry))) (close day)) r (now (closed .exit)) (now (exchange .exit))) ⌝ }
 {
     let c = Command {
         letter: b'C',
@@ -76,7 +76,7 @@ fn call_whole(
     second: u32,
     third: u32,
 ) -> Made
-    ensures { λ r. ⌜ CallMade (tableWith rest (now (closed .entry)) (now (exchange .entry))) (callOf kind first second third) r (now (closed .exit)) (now (exchange .exit)) ⌝ }
+    ensures { λ r. ⌜ CallMade (tableCall (tableWith rest (now (closed .entry)) (now (exchange .entry))) (callOf kind first second third)) r (now (closed .exit)) (now (exchange .exit)) ⌝ }
 {
     let first_map = *closed;
     let second_map = *exchange;
@@ -109,7 +109,7 @@ pub fn call_apart(
     second: u32,
     third: u32,
 ) -> Made
-    ensures { λ r. ⌜ (ten ≡ sound (tableWith rest (now (closed .entry)) (now (exchange .entry))) → CallMade (tableWith rest (now (closed .entry)) (now (exchange .entry))) (callOf kind first second third) r (now (closed .exit)) (now (exchange .exit))) ⌝ }
+    ensures { λ r. ⌜ (ten ≡ sound (tableWith rest (now (closed .entry)) (now (exchange .entry))) → CallMade (tableCall (tableWith rest (now (closed .entry)) (now (exchange .entry))) (callOf kind first second third)) r (now (closed .exit)) (now (exchange .exit))) ⌝ }
 {
     if 65535 < first {
         return call_whole(rest, closed, exchange, kind, first, second, third);

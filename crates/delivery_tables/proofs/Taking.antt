@@ -14,12 +14,17 @@ use Rattle.questions.proofs.Bools.{clash}
 use Rattle.master.specs.Products.{sameId}
 use Rattle.table.specs.declared.Table.{Table}
 use Rattle.table.specs.declared.Outcome.{Outcome}
-use Rattle.table.specs.Table.{openCall}
+use Rattle.table.specs.Table.{sound, openCall}
 use Rattle.history.specs.declared.Called.{Called}
 use Rattle.history.specs.Book.{Call, Reply}
 use Rattle.history.specs.History.{tableCall, tableRun, tableReplies, replyOf}
 use Rattle.history.proofs.FromFile.{from-file}
 use Rattle.replay.specs.Replay.{shortIn, callOf}
+use Rattle.apart.specs.declared.Rest.{Rest}
+use Rattle.apart.specs.Apart.{tableWith}
+use Rattle.delivery_calls.specs.declared.Made.{Made}
+use Rattle.delivery_calls.specs.Calls.{CallMade}
+use Rattle.delivery_calls.proofs.Refused.{tenth-same}
 use Rattle.delivery_notices.specs.Notices.{Notice}
 use Rattle.delivery_notices.specs.Lists.{noticeAt, noticesTo}
 use Rattle.delivery_tables.specs.declared.Delivered.{Delivered}
@@ -51,9 +56,23 @@ pub noticed-not : (id : List ℕ) (t : Table) (n : Notice) → concerns id n ≡
 unfolding noticed
 noticed-not id t n e = rw e
 
-pub noticed-call : (id : List ℕ) (t : Table) (n : Notice) (o : Called) → concerns id n ≡ true → o ≡ tableCall t (n .call) → o ≡ noticed id t n
+pub noticed-call : (id : List ℕ) (t : Table) (n : Notice) → concerns id n ≡ true → tableCall t (n .call) ≡ noticed id t n
 unfolding noticed
-noticed-call id t n o e q = q ∙ rw e
+noticed-call id t n e = rw e refl
+
+-- the same apart from the maps: a notice that is no call of the product leaves the rest and the maps
+pub made-not : (id : List ℕ) (rest : Rest) (closed exchange : List ℕ) (n : Notice) → concerns id n ≡ false
+    → CallMade (noticed id (tableWith rest closed exchange) n) (record { refusal = 0; rest = rest }) closed exchange
+made-not id rest closed exchange n e = rw (← noticed-not id (tableWith rest closed exchange) n e) (record { refusal = refl; table = refl })
+
+-- question 10 after a notice
+noticed-tenth : (id : List ℕ) (t : Table) (n : Notice) → sound (noticed id t n .table) ≡ sound t
+unfolding noticed
+noticed-tenth id t n = go (concerns id n) refl
+  where
+    go : (b : Bool) → concerns id n ≡ b → sound (cond (concerns id n) (tableCall t (n .call)) (noCall t) .table) ≡ sound t
+    go true e = rw e (tenth-same t (n .call))
+    go false e = rw e refl
 
 -- ---- lists of notices
 
@@ -135,6 +154,11 @@ nothing-to calls ids = refl
 drop-one : (l : List ℕ) (k : ℕ) → drop (suc k) l ≡ drop 1 (drop k l)
 drop-one l k = sym (drop-drop 1 k l ∙ rw (add-one k) refl)
 
+-- question 10 stays as it was
+pub tenth-turns : (id : List ℕ) (t : Table) (n : Notice) (o : Made) (closed exchange : List ℕ) (ten : Bool) → ten ≡ sound t → CallMade (noticed id t n) o closed exchange
+    → ten ≡ sound (tableWith (o .rest) closed exchange)
+tenth-turns id t n o closed exchange ten w e = w ∙ sym (noticed-tenth id t n) ∙ sym (ap sound (e .table))
+
 -- after the first i notices
 pub record Taking (id calls ids before : List ℕ) (start : Table) (buffer : List ℕ) (t : Table) (i : ℕ) : Type 0 where
   pub table : t ≡ tableRun start (callsFor id (noticesTo calls ids i))
@@ -152,16 +176,16 @@ module _ (id calls ids before : List ℕ) (start : Table) where
         long = refl;
       }
 
-  pub turns : (buffer after : List ℕ) (t : Table) (i : ℕ) (o : Called) → Taking id calls ids before start buffer t i → i < length before
-      → o ≡ noticed id t (noticeAt calls ids i) → after ≡ set buffer i (o .refusal)
-      → Taking id calls ids before start after (o .table) (i + 1)
-  turns buffer after t i o s h e q =
-      let r : o ≡ noticed id (tableRun start (callsFor id (noticesTo calls ids i))) (noticeAt calls ids i) = rw (s .table) at e in
+  pub turns : (buffer after : List ℕ) (t : Table) (i : ℕ) (o : Made) (closed exchange : List ℕ) → Taking id calls ids before start buffer t i → i < length before
+      → CallMade (noticed id t (noticeAt calls ids i)) o closed exchange → after ≡ set buffer i (o .refusal)
+      → Taking id calls ids before start after (tableWith (o .rest) closed exchange) (i + 1)
+  turns buffer after t i o closed exchange s h e q =
       record {
-        table = rw (notices-more calls ids i, run-more id start (noticesTo calls ids i) (noticeAt calls ids i)) (ap (λ (x : Called). x .table) r);
+        table =
+            rw (notices-more calls ids i, run-more id start (noticesTo calls ids i) (noticeAt calls ids i), ← s .table) (e .table);
         refusals =
-            rw (notices-more calls ids i, refusals-more id start (noticesTo calls ids i) (noticeAt calls ids i), add-one i, q, take-suc-set buffer i (o .refusal) (omega (arith, s .long)), s .refusals)
-            (ap (λ (x : Called). refusalsFor id start (noticesTo calls ids i) ++ (x .refusal ∷ [])) r);
+            rw (notices-more calls ids i, refusals-more id start (noticesTo calls ids i) (noticeAt calls ids i), add-one i, q, take-suc-set buffer i (o .refusal) (omega (arith, s .long)), s .refusals, ← s .table)
+            (ap (λ (x : ℕ). refusalsFor id start (noticesTo calls ids i) ++ (x ∷ [])) (e .refusal));
         unchanged = rw (q, add-one i, drop-set-lt (suc i) buffer i (o .refusal) (omega arith)) (later buffer before i (s .unchanged));
         long = ap length q ∙ simp length-set (s .long);
       }

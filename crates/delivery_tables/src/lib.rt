@@ -1,5 +1,6 @@
 // The table of a product after the notices of two lent lists.
-use history::Called;
+use apart::Rest;
+use delivery_calls::Made;
 use table::Table;
 use years::FileCalendar;
 ghost use mathlib.Core.Path.{_≡_};
@@ -9,12 +10,14 @@ ghost use Prim.Native.Nat.{_+_, _*_, _≤_, _<_};
 ghost use lib.Dec.{eqb};
 ghost use lib.ListN.{length, getD};
 ghost use Rattle.years.specs.Calendars.{calendarAnswer};
-ghost use Rattle.table.specs.Table.{openIn};
+ghost use Rattle.table.specs.Table.{openIn, sound};
 ghost use Rattle.history.specs.History.{tableCall};
 ghost use Rattle.replay.specs.Replay.{callOf};
 ghost use Rattle.master.specs.Products.{sameId};
+ghost use Rattle.apart.specs.Apart.{tableWith};
+ghost use Rattle.delivery_calls.specs.Calls.{CallMade};
 ghost use Rattle.delivery_notices.specs.Lists.{noticeAt, noticesTo};
-ghost use Rattle.delivery_tables.specs.Tables.{noCall, noticed, NoticesMade, Delivers};
+ghost use Rattle.delivery_tables.specs.Tables.{noticed, NoticesMade, Delivers};
 
 // What a product's notices end with: whether the buffer has room for the refusals, open's refusal, and the table.
 pub struct Delivered {
@@ -46,19 +49,6 @@ pub fn id_in(ids: &[u8], i: u32) -> records::FourBytes
     ]
 }
 
-// No call: the same table, and zeros.
-fn no_call(t: Table) -> Called
-    ensures { λ r. ⌜ r ≡ noCall t ⌝ }
-{
-    Called {
-        refusal: 0,
-        table: t,
-        entered: 0,
-        left: 0,
-        price: 0,
-    }
-}
-
 // Whether a notice of a kind with an id is a call of a product: a measure, 3, only of the one with its id.
 fn concerns(kind: u32, of: [u8; 4], id: [u8; 4]) -> bool
     ensures { λ r. ⌜ r ≡ (not (eqb kind 3) || sameId of id) ⌝ }
@@ -69,13 +59,27 @@ fn concerns(kind: u32, of: [u8; 4], id: [u8; 4]) -> bool
     delivery_products::same_id(of, id)
 }
 
-// Call i of a list.
-fn call_at(t: Table, calls: &[u32], i: u32) -> Called
-    ensures { λ r. ⌜ r ≡ tableCall t (callOf (getD (now (calls .entry)) (5 * i + 1) 0) (getD (now (calls .entry)) (5 * i + 2) 0) (getD (now (calls .entry)) (5 * i + 3) 0) (getD (now (calls .entry)) (5 * i + 4) 0)) ⌝ }
+// Call i of a list, on a table apart from its maps, where the answer to question 10 is at hand.
+fn call_at(
+    file: &[u8],
+    judged: FileCalendar,
+    rest: Rest,
+    ten: bool,
+    closed: &mut [u8; 736],
+    exchange: &mut [u8; 736],
+    calls: &[u32],
+    i: u32,
+) -> Made
+    ensures { λ r. ⌜ (ten ≡ sound (tableWith rest (now (closed .entry)) (now (exchange .entry))) → CallMade (tableCall (tableWith rest (now (closed .entry)) (now (exchange .entry))) (callOf (getD (now (calls .entry)) (5 * i + 1) 0) (getD (now (calls .entry)) (5 * i + 2) 0) (getD (now (calls .entry)) (5 * i + 3) 0) (getD (now (calls .entry)) (5 * i + 4) 0))) r (now (closed .exit)) (now (exchange .exit))) ⌝ }
 {
     let at = 5 * (i as usize);
-    replay::call(
-        t,
+    delivery_calls::call_apart(
+        file,
+        judged,
+        rest,
+        ten,
+        closed,
+        exchange,
         number_at(calls, at + 1),
         number_at(calls, at + 2),
         number_at(calls, at + 3),
@@ -83,19 +87,60 @@ fn call_at(t: Table, calls: &[u32], i: u32) -> Called
     )
 }
 
-// Notice i on a product's table; one that is no call of the product changes nothing.
-fn notice_at(t: Table, id: [u8; 4], calls: &[u32], ids: &[u8], i: u32) -> Called
-    ensures { λ r. ⌜ r ≡ noticed id t (noticeAt (now (calls .entry)) (now (ids .entry)) i) ⌝ }
+// Notice i on a product's table, apart from its maps; one that is no call of the product changes nothing.
+fn notice_at(
+    file: &[u8],
+    judged: FileCalendar,
+    rest: Rest,
+    ten: bool,
+    id: [u8; 4],
+    closed: &mut [u8; 736],
+    exchange: &mut [u8; 736],
+    calls: &[u32],
+    ids: &[u8],
+    i: u32,
+) -> Made
+    ensures { λ r. ⌜ (ten ≡ sound (tableWith rest (now (closed .entry)) (now (exchange .entry))) → CallMade (noticed id (tableWith rest (now (closed .entry)) (now (exchange .entry))) (noticeAt (now (calls .entry)) (now (ids .entry)) i)) r (now (closed .exit)) (now (exchange .exit))) ⌝ }
 {
     let kind = number_at(calls, 5 * (i as usize) + 1);
     if !concerns(kind, id_in(ids, i), id) {
-        return no_call(t);
+        return Made { refusal: 0, rest };
     }
-    call_at(t, calls, i)
+    call_at(file, judged, rest, ten, closed, exchange, calls, i)
 }
 
-// The first notices of two lists on a product's table, one after the other, with the number of each one's refusal in a lent buffer.
+// The first notices of two lists on a product's table, one after the other, with the number of each one's refusal in a lent buffer. The maps are apart, so that most notices copy neither; the answer to question 10 stays as it is.
+fn run_notices(
+    file: &[u8],
+    judged: FileCalendar,
+    start: Rest,
+    ten: bool,
+    id: [u8; 4],
+    closed: &mut [u8; 736],
+    exchange: &mut [u8; 736],
+    calls: &[u32],
+    ids: &[u8],
+    count: u32,
+    refusals: &mut [u8],
+) -> Rest
+    requires { ⌜ (count ≤ length (now refusals)) × (ten ≡ sound (tableWith start (now closed) (now exchange))) ⌝ }
+    ensures { λ r. ⌜ NoticesMade (tableWith start (now (closed .entry)) (now (exchange .entry))) id (noticesTo (now (calls .entry)) (now (ids .entry)) count) (now (refusals .entry)) (now (refusals .exit)) (tableWith r (now (closed .exit)) (now (exchange .exit))) ⌝ }
+{
+    let mut rest = start;
+    let mut i: u32 = 0;
+    while i < count {
+        let o = notice_at(file, judged, rest, ten, id, closed, exchange, calls, ids, i);
+        refusals[i as usize] = o.refusal;
+        rest = o.rest;
+        i += 1;
+    }
+    rest
+}
+
+// The same of a whole table: question 10 is asked once.
 fn take_notices(
+    file: &[u8],
+    judged: FileCalendar,
     table: Table,
     id: [u8; 4],
     calls: &[u32],
@@ -106,15 +151,25 @@ fn take_notices(
     requires { ⌜ count ≤ length (now refusals) ⌝ }
     ensures { λ r. ⌜ NoticesMade table id (noticesTo (now (calls .entry)) (now (ids .entry)) count) (now (refusals .entry)) (now (refusals .exit)) r ⌝ }
 {
-    let mut t = table;
-    let mut i: u32 = 0;
-    while i < count {
-        let o = notice_at(t, id, calls, ids, i);
-        refusals[i as usize] = o.refusal;
-        t = o.table;
-        i += 1;
-    }
-    t
+    let ten = table::is_sound(table);
+    let cal = table.calendar;
+    let mut closed = cal.closed;
+    let mut exchange = cal.exchange;
+    let start = apart::rest_of(table);
+    let rest = run_notices(
+        file,
+        judged,
+        start,
+        ten,
+        id,
+        &mut closed,
+        &mut exchange,
+        calls,
+        ids,
+        count,
+        refusals,
+    );
+    apart::table_of(rest, closed, exchange)
 }
 
 // The table of the product with an id, opened on a date, after the first notices of two lists. The file's verdict by `judge` is at hand, so questions 1 to 8 are not asked again. The number of each notice's refusal, 0 where it is accepted or is no call of the product, goes to a lent buffer; where that has no room for them no notice is taken.
@@ -140,7 +195,7 @@ pub fn deliver(
             table,
         };
     }
-    let after = take_notices(table, id, calls, ids, count, refusals);
+    let after = take_notices(file, judged, table, id, calls, ids, count, refusals);
     Delivered {
         fits: true,
         refusal,

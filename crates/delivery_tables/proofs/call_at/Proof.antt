@@ -1,4 +1,4 @@
-use mathlib.Core.Path.{_∙_, refl}
+-- The four numbers of call i are those at 5 i + 1 and on, so what `call_apart` promises is the promise.
 use borrow.Author.Needs.{needs}
 use Rattle.delivery_tables.proofs.call_at.Statement.{statement}
 use Rattle.delivery_tables.proofs.call_at.Tie as tie
@@ -9,33 +9,22 @@ mul-at c = search needs
 add-number-at : tie.Need-add-number-at
 add-number-at c = search needs
 
-number-at-requires : tie.Need-number-at-requires
-number-at-requires c κs = tt
-
 add-number-at-2 : tie.Need-add-number-at-2
 add-number-at-2 c = search needs
-
-number-at-requires-2 : tie.Need-number-at-requires-2
-number-at-requires-2 c κs = tt
 
 add-number-at-3 : tie.Need-add-number-at-3
 add-number-at-3 c = search needs
 
-number-at-requires-3 : tie.Need-number-at-requires-3
-number-at-requires-3 c κs = tt
-
 add-number-at-4 : tie.Need-add-number-at-4
 add-number-at-4 c = search needs
 
-number-at-requires-4 : tie.Need-number-at-requires-4
-number-at-requires-4 c κs = tt
-
-call-requires : tie.Need-call-requires
-call-requires c κs = tt
-
 returns : tie.Need-returns
-returns c =
-    c .call .ensures ∙ rw (c .before .before .before .before .number-at .ensures, c .before .before .before .number-at2 .ensures, c .before .before .number-at3 .ensures, c .before .number-at4 .ensures) refl
+returns c = λ k.
+    let fourth = c .before in
+    let third = fourth .before in
+    let second = third .before in
+    let first = second .before in
+    rw (← first .number-at .ensures, ← second .number-at2 .ensures, ← third .number-at3 .ensures, ← fourth .number-at4 .ensures) (c .call-apart .ensures k)
 
 pub call-at-spec : {M : Type 1} → statement M
 call-at-spec =
@@ -43,12 +32,12 @@ call-at-spec =
     (tie.spec
     mul-at
     add-number-at
-    number-at-requires
+    (λ c κs. tt)
     add-number-at-2
-    number-at-requires-2
+    (λ c κs. tt)
     add-number-at-3
-    number-at-requires-3
+    (λ c κs. tt)
     add-number-at-4
-    number-at-requires-4
-    call-requires
+    (λ c κs. tt)
+    (λ c κs. tt)
     returns)

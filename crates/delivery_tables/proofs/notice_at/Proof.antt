@@ -1,7 +1,7 @@
-use mathlib.Core.Path.{_∙_}
+-- Whether the notice is a call of the product is what `concerns` says: where it is none all stays, else the call is made.
 use borrow.Author.Needs.{needs}
 use Rattle.questions.proofs.Bools.{said-no, said-yes}
-use Rattle.delivery_tables.proofs.Taking.{concerns-is, noticed-not, noticed-call}
+use Rattle.delivery_tables.proofs.Taking.{concerns-is, made-not, noticed-call}
 use Rattle.delivery_tables.proofs.notice_at.Statement.{statement}
 use Rattle.delivery_tables.proofs.notice_at.Tie as tie
 
@@ -11,28 +11,28 @@ mul-number-at c = search needs
 add-number-at : tie.Need-add-number-at
 add-number-at c = search needs
 
-number-at-requires : tie.Need-number-at-requires
-number-at-requires c κs = tt
-
-id-in-requires : tie.Need-id-in-requires
-id-in-requires c κs = tt
-
-concerns-requires : tie.Need-concerns-requires
-concerns-requires c κs = tt
-
-no-call-requires : tie.Need-no-call-requires
-no-call-requires c κs = tt
-
 returns : tie.Need-returns
-returns c =
-    c .no-call .ensures ∙ noticed-not _ _ _ (said-no (concerns-is (c .before .before .before .before .before .before .before .args .calls .now) (c .before .before .before .before .before .before .before .args .ids .now) (c .before .before .before .before .before .before .before .args .id) (c .before .before .before .before .before .before .before .args .i) _ _ _ (c .before .before .before .before .number-at .ensures) (c .before .before .before .id-in .ensures) (c .before .before .concerns .ensures)) (c .before .if1 .taken))
-
-call-at-requires : tie.Need-call-at-requires
-call-at-requires c κs = tt
+returns c = λ k.
+    let at-concerns = c .before in
+    let at-number = at-concerns .before .before in
+    let args = at-number .before .before .before .before .args in
+    made-not _ _ _ _ _
+    (said-no
+    (concerns-is (args .calls .now) (args .ids .now) (args .id) (args .i) _ _ _ (at-number .number-at .ensures) (at-concerns .before .id-in .ensures) (at-concerns .concerns .ensures))
+    (c .if1 .taken))
 
 returns-2 : tie.Need-returns-2
-returns-2 c =
-    noticed-call _ _ _ _ (said-yes (concerns-is (c .before .before .before .before .before .before .before .args .calls .now) (c .before .before .before .before .before .before .before .args .ids .now) (c .before .before .before .before .before .before .before .args .id) (c .before .before .before .before .before .before .before .args .i) _ _ _ (c .before .before .before .before .number-at .ensures) (c .before .before .before .id-in .ensures) (c .before .before .concerns .ensures)) (c .before .if1 .left)) (c .call-at .ensures)
+returns-2 c = λ k.
+    let at-if1 = c .before .before .before in
+    let at-concerns = at-if1 .before in
+    let at-number = at-concerns .before .before in
+    let args = at-number .before .before .before .before .args in
+    rw
+    (← noticed-call _ _ _
+    (said-yes
+    (concerns-is (args .calls .now) (args .ids .now) (args .id) (args .i) _ _ _ (at-number .number-at .ensures) (at-concerns .before .id-in .ensures) (at-concerns .concerns .ensures))
+    (at-if1 .if1 .left)))
+    (c .call-at .ensures k)
 
 pub notice-at-spec : {M : Type 1} → statement M
 notice-at-spec =
@@ -40,10 +40,9 @@ notice-at-spec =
     (tie.spec
     mul-number-at
     add-number-at
-    number-at-requires
-    id-in-requires
-    concerns-requires
-    no-call-requires
+    (λ c κs. tt)
+    (λ c κs. tt)
+    (λ c κs. tt)
     returns
-    call-at-requires
+    (λ c κs. tt)
     returns-2)
