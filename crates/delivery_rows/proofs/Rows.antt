@@ -12,6 +12,7 @@ use lib.Seq.{getD-append-add}
 use borrow.Author.Tests.{eqb-true}
 use Rattle.questions.proofs.Bools.{both, lt-or-ge}
 use Rattle.product.specs.declared.Kind.{Kind}
+use Rattle.product.specs.declared.Product.{Product}
 use Rattle.listing.specs.declared.Maturity.{Maturity}
 use Rattle.listing.specs.Rules.{unused}
 use Rattle.ids.specs.Ids.{placeCount, isRecord, idAt}
@@ -19,6 +20,8 @@ use Rattle.master.specs.Load.{productOf}
 use Rattle.table.specs.declared.Table.{Table}
 use Rattle.table.specs.Table.{listedIn, openCall}
 use Rattle.table.proofs.Opens.{accepted-from}
+use Rattle.history.specs.Book.{Call}
+use Rattle.history.specs.History.{tableRun}
 use Rattle.history.proofs.FromFile.{from-file}
 use Rattle.delivery_products.proofs.Places.{place-product}
 use Rattle.delivery_notices.specs.Notices.{Notice}
@@ -30,6 +33,12 @@ row-at : (id : List ℕ) (kind : Kind) (none : Row) (ms : List Maturity) (i : �
 row-at id kind none [] i h = absurd (omega arith)
 row-at id kind none (m ∷ ms) zero h = refl
 row-at id kind none (m ∷ ms) (suc i) h = row-at id kind none ms i (omega arith)
+
+-- calls on an opened table leave the product's kind
+kind-kept : (f id : List ℕ) (date : ℕ) (cs : List Call) → openCall f id date .refusal ≡ 0 → tableRun (openCall f id date .table) cs .product .kind ≡ productOf f id .kind
+kind-kept f id date cs z =
+    let h = from-file f id date z cs [] in
+    ap (λ (t : Table). tableRun t cs .product .kind) (h .opened) ∙ ap (λ (p : Product). p .kind) (h .demand .product)
 
 module _ (f : List ℕ) (date : ℕ) (ns : List Notice) where
   -- a place with a product that opens
@@ -53,6 +62,7 @@ module _ (f : List ℕ) (date : ℕ) (ns : List Notice) where
         holds = q .0;
         id = refl;
         product = place-product f p (a .loaded) (q .0);
+        kind = kind-kept f (idAt f p) date (callsFor (idAt f p) ns) (q .1);
         at = i;
         below = l;
         maturity = refl;

@@ -81,6 +81,8 @@ pub record OfTable (f : List ℕ) (date : ℕ) (ns : List Notice) (r : Row) : Ty
   pub id : r .id ≡ idAt f place
   -- the product that the id finds is the one at the place
   pub product : productOf f (r .id) ≡ productAt f (place / 15) (place % 15)
+  -- the kind, which says whether a month or a Friday is printed, is that product's
+  pub kind : r .kind ≡ productOf f (r .id) .kind
   -- the maturity is one of those that the table lists
   pub at : ℕ
   pub below : at < length (listedIn (tableAfter f (r .id) date ns))
