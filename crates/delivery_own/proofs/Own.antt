@@ -1,0 +1,122 @@
+-- A delivery finds nothing against itself: its rows are read back as they were printed, in any order, and the rows of each product are its listing's.
+-- Assumes nothing.
+use mathlib.Core.Path.{_≡_, refl, ap}
+use mathlib.Core.List.{List, [], _∷_}
+use mathlib.Core.Bool.{true, false}
+use Prim.Native.Nat.{ℕ, zero, suc, _-_, _≤_}
+use native.Mathlib.Omega.{arith}
+use lib.ListN.{length}
+use borrow.Author.Tests.{eq-eqb}
+use Rattle.questions.specs.Questions.{firstNo}
+use Rattle.product.specs.declared.Kind.{Kind}
+use Rattle.listing.specs.declared.Maturity.{Maturity}
+use Rattle.ids.specs.Ids.{placeCount, isRecord, idAt}
+use Rattle.master.specs.Load.{loadAsks}
+use Rattle.table.specs.Table.{listedIn}
+use Rattle.delivery_notices.specs.Notices.{textTold}
+use Rattle.delivery_rows.specs.Delivery.{Row, opensAt}
+use Rattle.delivery_rows.proofs.Rows.{opens-parts}
+use Rattle.delivery_parts.specs.Parts.{deliverText}
+use Rattle.delivery_differences.specs.declared.DeliveredRow.{DeliveredRow}
+use Rattle.delivery_differences.specs.Differences.{differsIn, differing, AnyOrder, NothingFound, OfNote12}
+use Rattle.delivery_differences.proofs.Note12.{of-note-12}
+use Rattle.delivery_differences.proofs.Own.{own-table}
+use Rattle.delivery_receipts.specs.Receipts.{receivedOf, receiptOf}
+use Rattle.delivery_reports.specs.Reports.{keysText, linesFrom}
+use Rattle.delivery_own.specs.Own.{itemBack, received, EachBack, underHeading, printedRows, opensIn, tableIn, rowsIn, foundIn, OwnRows, OwnDelivery}
+use Rattle.delivery_own.proofs.Orders.{order-same, order-length, order-map, order-each, order-for}
+use Rattle.delivery_own.proofs.Places.{open-table, each-to, rows-few, own-at, own-among, own-opens, own-closed}
+use Rattle.delivery_own.proofs.Receipts.{all-received}
+use Rattle.delivery_own.proofs.Inputs.{input-short}
+
+-- ---- where every key is the same there is no line
+
+module _ (listed : List Maturity) (rows : List DeliveredRow) (s : NothingFound listed rows) where
+  same-key : (k : ℕ) → differsIn listed rows k ≡ false
+  unfolding differsIn
+  same-key k = rw (s .same k) refl
+
+  none-differ : (n from : ℕ) → differing listed rows n from ≡ []
+  unfolding differing
+  none-differ zero from = refl
+  none-differ (suc n) from = rw (same-key from) (none-differ n (suc from))
+
+  no-lines : (kind : Kind) (id : List ℕ) (from : ℕ) → linesFrom kind id listed rows from ≡ []
+  unfolding linesFrom keysText
+  no-lines kind id from = ap (keysText kind id listed rows) (none-differ (65536 - from) from)
+
+-- ---- any order of the rows
+
+module _ (f notices : List ℕ) (a : firstNo (loadAsks f) ≡ 0) (rows : List Row) (o : AnyOrder (printedRows f notices) rows) where
+  abbrev date : ℕ
+  date = textTold notices .date
+
+  each-row : EachBack f rows
+  each-row = order-each f o (each-to f (textTold notices .date) (textTold notices .notices) (placeCount f))
+
+  few-rows : length rows ≤ 65536
+  few-rows = rw (← order-length o) (rows-few f (textTold notices .date) (textTold notices .notices) a)
+
+  abbrev text : List ℕ
+  text = underHeading rows
+
+  all-rows : receiptOf f (underHeading rows) .rows ≡ received rows
+  all-rows = all-received f rows few-rows each-row .0
+
+  module _ (p : ℕ) (h : isRecord f p ≡ true) where
+    -- the rows of a product, in any order
+    of-product : AnyOrder (own-at f (textTold notices .date) (textTold notices .notices) p a h) (rowsIn f (underHeading rows) p)
+    of-product =
+        rw (all-rows, ← own-among f (textTold notices .date) (textTold notices .notices) p a h)
+        (order-for (idAt f p) (order-map (λ (r : Row). receivedOf (itemBack r)) o))
+
+  nothing-of : (p : ℕ) → opensIn f notices p → foundIn f notices (underHeading rows) p ≡ []
+  nothing-of p q =
+      let h : isRecord f p ≡ true = opens-parts f (textTold notices .date) (textTold notices .notices) p q .0 in
+      let t = open-table f (textTold notices .date) (textTold notices .notices) p q in
+      let s = of-product p h in
+      no-lines (listedIn (tableIn f notices p)) (rowsIn f (underHeading rows) p)
+      (own-table (tableIn f notices p) (t .is-sound) (t .long) true (rowsIn f (underHeading rows) p)
+      (rw (own-opens f (textTold notices .date) (textTold notices .notices) p a h q) at s))
+      (tableIn f notices p .product .kind) (idAt f p) 0
+
+  no-others : (p : ℕ) → isRecord f p ≡ true → opensAt f (textTold notices .date) p ≡ false → rowsIn f (underHeading rows) p ≡ []
+  no-others p h q =
+      empty-order (rowsIn f (underHeading rows) p) (rw (own-closed f (textTold notices .date) (textTold notices .notices) p a h q) at (of-product p h))
+    where
+      empty-order : (xs : List DeliveredRow) → AnyOrder [] xs → xs ≡ []
+      empty-order [] u = refl
+      empty-order (x ∷ xs) u = absurd (omega (arith, order-length u))
+
+  own-rows : OwnRows f notices rows (underHeading rows)
+  own-rows =
+      record {
+        each = each-row;
+        all = all-rows;
+        bads = all-received f rows few-rows each-row .1;
+        over = all-received f rows few-rows each-row .2;
+        nothing = nothing-of;
+        others = no-others;
+      }
+
+-- ---- what is printed
+
+printed-is : (f notices : List ℕ) → firstNo (loadAsks f) ≡ 0 → textTold notices .bad ≡ 0 → deliverText f notices ≡ underHeading (printedRows f notices)
+unfolding deliverText
+printed-is f notices a b = rw (eq-eqb (firstNo (loadAsks f)) 0 a, eq-eqb (textTold notices .bad) 0 b) refl
+
+-- ---- any input
+
+judged-12 : (f notices input : List ℕ) (p : ℕ) → opensIn f notices p → OfNote12 (tableIn f notices p) (rowsIn f input p)
+judged-12 f notices input p q =
+    let t = open-table f (textTold notices .date) (textTold notices .notices) p q in
+    of-note-12 (tableIn f notices p) (rowsIn f input p) (t .is-sound) (t .long) (input-short f input (idAt f p))
+
+-- of every file and every text of notices
+pub own-delivery : (f notices : List ℕ) → OwnDelivery f notices
+own-delivery f notices =
+    record {
+      any = λ a rows o. own-rows f notices a rows o;
+      own = λ a b. rw (printed-is f notices a b) (own-rows f notices a (printedRows f notices) (order-same (printedRows f notices)));
+      only = judged-12 f notices;
+    }
