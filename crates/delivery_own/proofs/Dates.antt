@@ -31,7 +31,8 @@ dayRead d = record { letter = 82; id = replicate 4 0; day = d }
 
 module _ (a b c e f g h i day : ℕ) (da : digit a ≡ true) (db : digit b ≡ true) (dc : digit c ≡ true) (de : digit e ≡ true)
     (df : digit f ≡ true) (dg : digit g ≡ true) (dh : digit h ≡ true) (di : digit i ≡ true)
-    (call : dayCall (100 * (10 * digitValue a + digitValue b) + (10 * digitValue c + digitValue e)) (10 * digitValue f + digitValue g) (10 * digitValue h + digitValue i)
+    (call : dayCall (100 * (10 * digitValue a + digitValue b) + (10 * digitValue c + digitValue e))
+    (10 * digitValue f + digitValue g) (10 * digitValue h + digitValue i)
     ≡ record { refusal = 0; value = day }) where
   ten-read : dateIn (a ∷ b ∷ c ∷ e ∷ 45 ∷ f ∷ g ∷ 45 ∷ h ∷ i ∷ []) ≡ dayRead day
   unfolding dateIn commandOf commandAt moveCommand moveForm dateAt dateForm
@@ -65,7 +66,8 @@ unfolding dayText dateOf
 day-back d h =
     let k : Holds d (monthOf d) = month-holds d h in
     rw (date-accepted d h)
-    (date-read (dateOf d) d (omega (arith, k .within)) (omega arith) (omega (arith, k .from, k .until, first-suc (monthOf d), length-bounds (monthOf d))) (day-of-date d h))
+    (date-read (dateOf d) d (omega (arith, k .within)) (omega arith) (omega (arith, k .from, k .until, first-suc (monthOf d), length-bounds (monthOf d)))
+    (day-of-date d h))
 
 -- ---- a month, by its first day
 
@@ -98,7 +100,8 @@ pub day-plain : (d : ℕ) → allOf plain (dayText d) ≡ true
 unfolding dayText dateText
 day-plain d =
     let x : Date = dateCall d .value in
-    all-append plain (yearMonth (x .year) (x .month)) (45 ∷ inTwoDigits (x .day)) (year-plain (x .year) (x .month)) (all-more plain 45 (inTwoDigits (x .day)) dash-plain (two-plain (x .day)))
+    all-append plain (yearMonth (x .year) (x .month)) (45 ∷ inTwoDigits (x .day)) (year-plain (x .year) (x .month))
+    (all-more plain 45 (inTwoDigits (x .day)) dash-plain (two-plain (x .day)))
 
 day-long : (d : ℕ) → length (dayText d) ≡ 10
 unfolding dayText dateText yearMonth inFourDigits inTwoDigits

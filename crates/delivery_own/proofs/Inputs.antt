@@ -78,7 +78,19 @@ short-below : (id name last : List ℕ) → shortItem id name last .key < 65536
 unfolding shortItem
 short-below id name last = go (isId id && (not (eqb (maturityRead name .letter) 0) && not (eqb (dateIn last .letter) 0)))
   where
-    go : (b : Bool) → cond {A = ItemRead} b (record { there = true; id = idBytes id; weekly = not (eqb (length name) 7); key = keyRead name (maturityRead name .day); day = dateIn last .day; full = false; number = 0; back = 0 }) noItem .key < 65536
+    go : (b : Bool)
+        → cond {A = ItemRead} b
+        (record {
+          there = true;
+          id = idBytes id;
+          weekly = not (eqb (length name) 7);
+          key = keyRead name (maturityRead name .day);
+          day = dateIn last .day;
+          full = false;
+          number = 0;
+          back = 0;
+        })
+        noItem .key < 65536
     go true = key-below name
     go false = omega arith
 
@@ -86,7 +98,19 @@ full-below : (item : ItemRead) (number back : NumberRead) → item .key < 65536 
 unfolding fullItem
 full-below item number back h = go (item .there && (number .there && back .there))
   where
-    go : (b : Bool) → cond {A = ItemRead} b (record { there = true; id = item .id; weekly = item .weekly; key = item .key; day = item .day; full = true; number = number .value; back = back .value }) noItem .key < 65536
+    go : (b : Bool)
+        → cond {A = ItemRead} b
+        (record {
+          there = true;
+          id = item .id;
+          weekly = item .weekly;
+          key = item .key;
+          day = item .day;
+          full = true;
+          number = number .value;
+          back = back .value;
+        })
+        noItem .key < 65536
     go true = h
     go false = omega arith
 

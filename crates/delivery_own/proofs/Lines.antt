@@ -76,8 +76,10 @@ short-is : (id name last four : List ℕ) (w : Bool) (k d : ℕ) → isId id ≡
 unfolding shortItem
 short-is id name last four w k d i f t q r l = rw (i, f, t, q, r, l) refl
 
-full-is : (item : ItemRead) (n b : ℕ) (number back : NumberRead) → item .there ≡ true → number ≡ record { there = true; value = n } → back ≡ record { there = true; value = b }
-    → fullItem item number back ≡ record { there = true; id = item .id; weekly = item .weekly; key = item .key; day = item .day; full = true; number = n; back = b }
+full-is : (item : ItemRead) (n b : ℕ) (number back : NumberRead) → item .there ≡ true
+    → number ≡ record { there = true; value = n } → back ≡ record { there = true; value = b }
+    → fullItem item number back
+    ≡ record { there = true; id = item .id; weekly = item .weekly; key = item .key; day = item .day; full = true; number = n; back = b }
 unfolding fullItem
 full-is item n b number back t p q = rw (t, p, q) refl
 
@@ -165,7 +167,8 @@ module _ (r : Row) (p : Printable r) where
   item-of =
       item-is a b c d e pa pb pc pd pe
       ∙ ap (λ (i : ItemRead). fullItem i (numberOf b 65535) (numberOf e 65535))
-      (short-is a c d (r .id) (isWeekly (r .kind)) (m .key) (m .day) (p .id .right) (p .id .bytes) (p .name .there) (p .name .weekly) (p .name .key) (day-back (m .day) (p .day)))
+      (short-is a c d (r .id) (isWeekly (r .kind)) (m .key) (m .day) (p .id .right) (p .id .bytes) (p .name .there) (p .name .weekly) (p .name .key)
+      (day-back (m .day) (p .day)))
       ∙ full-is _ (m .number) (m .back) (numberOf b 65535) (numberOf e 65535) refl (number-back (m .number) (p .number)) (number-back (m .back) (p .back))
 
   no-heading : headed (rowLine r) ≡ false

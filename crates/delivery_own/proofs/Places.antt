@@ -44,7 +44,7 @@ use Rattle.delivery_own.proofs.Orders.{each-append}
 
 places-long : (xs : List Maturity) → length xs ≤ 15 → length (places15 xs) ≡ 15
 unfolding places15
-places-long xs l = length-append xs (replicate (15 - length xs) unused) ∙ ap (λ (k : ℕ). length xs + k) (length-replicate (15 - length xs) unused) ∙ omega arith
+places-long xs l = omega (arith, length-append xs (replicate (15 - length xs) unused), length-replicate (15 - length xs) unused)
 
 -- what is known of the table of a place that opens
 pub record OpenTable (f : List ℕ) (p : ℕ) (t : Table) : Type 0 where
@@ -65,7 +65,8 @@ module _ (f : List ℕ) (date : ℕ) (ns : List Notice) where
       let s : sound (after p) ≡ true = rw (h .opened) (h .demand .stays-sound) in
       let n : length (listedIn (after p)) ≤ 15 = omega (arith, listed-length (after p) s, places-most (after p .product .kind)) in
       let ms : listedIn (after p) ≡ book (productOf f (idAt f p)) (calendarOf f) date cs .maturities = rw (h .opened) (h .demand .book-listed) in
-      let all : after p .maturities ≡ places15 (book (productOf f (idAt f p)) (calendarOf f) date cs .maturities) = rw (h .opened) (h .demand .book-maturities) in
+      let all : after p .maturities ≡ places15 (book (productOf f (idAt f p)) (calendarOf f) date cs .maturities) =
+      rw (h .opened) (h .demand .book-maturities) in
       record {
         is-sound = s;
         kind = ap (λ (x : Table). tableRun x cs .product .kind) (h .opened) ∙ ap (λ (x : Product). x .kind) (h .demand .product);
@@ -75,7 +76,8 @@ module _ (f : List ℕ) (date : ℕ) (ns : List Notice) where
 
   -- ---- each row
 
-  each-of : (id : List ℕ) (kind : Kind) (ms : List Maturity) → ((i : ℕ) → i < length ms → ReadBack f (rowOf id kind (getD ms i unused))) → EachBack f (map (rowOf id kind) ms)
+  each-of : (id : List ℕ) (kind : Kind) (ms : List Maturity)
+      → ((i : ℕ) → i < length ms → ReadBack f (rowOf id kind (getD ms i unused))) → EachBack f (map (rowOf id kind) ms)
   each-of id kind [] h = none
   each-of id kind (m ∷ ms) h = more (h 0 (omega arith)) (each-of id kind ms (λ i l. h (suc i) (omega arith)))
 
@@ -129,7 +131,8 @@ unfolding rowsFor
 for-append id [] y = refl
 for-append id (r ∷ x) y = go (sameId (r .id) id) (for-append id x y)
   where
-    go : (b : Bool) → rowsFor id (x ++ y) ≡ rowsFor id x ++ rowsFor id y → cond b (r .row ∷ rowsFor id (x ++ y)) (rowsFor id (x ++ y)) ≡ cond b (r .row ∷ rowsFor id x) (rowsFor id x) ++ rowsFor id y
+    go : (b : Bool) → rowsFor id (x ++ y) ≡ rowsFor id x ++ rowsFor id y
+        → cond b (r .row ∷ rowsFor id (x ++ y)) (rowsFor id (x ++ y)) ≡ cond b (r .row ∷ rowsFor id x) (rowsFor id x) ++ rowsFor id y
     go true e = ap (λ (rs : List DeliveredRow). r .row ∷ rs) e
     go false e = e
 
@@ -163,7 +166,8 @@ module _ (f : List ℕ) (date : ℕ) (ns : List Notice) (p : ℕ) (a : firstNo (
       t : Table
       t = tableAfter f (idAt f p) date ns
 
-      go : (b : Bool) → rowsFor (idAt f p) (received (cond b (map (rowOf (idAt f p) (t .product .kind)) (listedIn t)) [])) ≡ cond b (map (ownRow true) (listedIn t)) []
+      go : (b : Bool)
+          → rowsFor (idAt f p) (received (cond b (map (rowOf (idAt f p) (t .product .kind)) (listedIn t)) [])) ≡ cond b (map (ownRow true) (listedIn t)) []
       go true = of-own (idAt f p) (t .product .kind) (listedIn t)
       go false = no-rows (idAt f p)
 

@@ -80,7 +80,8 @@ module _ (f : List ℕ) where
   unfolding linesReceived
   lines-none s = refl
 
-  lines-more : (s : Receipt) (line : List ℕ) (lines : List (List ℕ)) → linesReceived 65536 f s (line ∷ lines) ≡ linesReceived 65536 f (lineReceived 65536 f s (lineRead line)) lines
+  lines-more : (s : Receipt) (line : List ℕ) (lines : List (List ℕ))
+      → linesReceived 65536 f s (line ∷ lines) ≡ linesReceived 65536 f (lineReceived 65536 f s (lineRead line)) lines
   unfolding linesReceived
   lines-more s line lines = refl
 

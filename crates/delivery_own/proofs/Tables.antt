@@ -48,7 +48,8 @@ first-of-seven false b c d e f g q = q
 product-id : (p : Product) → productRight p ≡ true → idRight (p .id) ≡ true
 unfolding productRight fieldsRight
 product-id p e =
-    first-of-seven (idRight (p .id)) (groupRight (p .group) (kindNumber (p .kind))) (marketRight (p .market)) (kindRight (kindNumber (p .kind))) (sizeRight (p .size)) (tickRight (p .tick))
+    first-of-seven (idRight (p .id)) (groupRight (p .group) (kindNumber (p .kind))) (marketRight (p .market))
+    (kindRight (kindNumber (p .kind))) (sizeRight (p .size)) (tickRight (p .tick))
     (currencyRight (p .currency)) e
 
 module _ (f : List ℕ) (p : ℕ) (a : firstNo (loadAsks f) ≡ 0) (h : isRecord f p ≡ true) where
@@ -121,7 +122,8 @@ module _ (t : Table) (e : sound t ≡ true) (i : ℕ) (h : i < placesOfKind (t .
       let o = sound-opened t e in
       let k = key-at r w (t .calendar) (t .date) i (omega (arith, as-many)) in
       let b = rule-begins (t .calendar .cover) (t .product .kind) (t .product .group) (t .calendar) (t .date) (o .covered) in
-      let d = rule-deep (t .calendar .cover) (t .product .kind) (t .product .group) (o .valid) (t .date) (o .covered) (o .week) key (omega (arith, k .from, b)) (k .below) in
+      let d = rule-deep (t .calendar .cover) (t .product .kind) (t .product .group) (o .valid) (t .date) (o .covered) (o .week) key
+      (omega (arith, k .from, b)) (k .below) in
       omega (arith, day-is, day-anchor r w (t .calendar) key, d .1, cover-end-most (t .calendar .cover))
 
   number-below : m .number ≤ 65535

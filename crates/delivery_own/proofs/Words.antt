@@ -63,7 +63,11 @@ ends v n e = rw e refl
 
 module _ (n : ℕ) (h : n ≤ 65535) where
   back-1 : n < 10 → Back n (lastDigit n ∷ [])
-  back-1 l = (one-step 65535 0 n [] (omega arith) ∙ ends (10 * 0 + n % 10) n (omega arith), all-more plain (lastDigit n) [] (digit-plain n) (all-none plain), omega arith)
+  back-1 l = (
+    one-step 65535 0 n [] (omega arith) ∙ ends (10 * 0 + n % 10) n (omega arith),
+    all-more plain (lastDigit n) [] (digit-plain n) (all-none plain),
+    omega arith,
+  )
 
   back-2 : n < 100 → Back n (inTwoDigits n)
   unfolding inTwoDigits
@@ -230,7 +234,10 @@ module _ (a b c d : ℕ) where
       record {
         right = rw t e;
         bytes = rw t refl;
-        fields = rw t (all-more plain a (b ∷ c ∷ d ∷ []) (p .0) (all-more plain b (c ∷ d ∷ []) (q .0) (all-more plain c (d ∷ []) (r .0) (all-more plain d [] (u .0) (all-none plain)))));
+        fields =
+            rw t
+            (all-more plain a (b ∷ c ∷ d ∷ []) (p .0)
+            (all-more plain b (c ∷ d ∷ []) (q .0) (all-more plain c (d ∷ []) (r .0) (all-more plain d [] (u .0) (all-none plain)))));
       }
 
   -- an id of a file is read back
