@@ -3,7 +3,7 @@ mod Words
 mod Dates
 mod Lines
 mod Tables
-mod Orders
+pub mod Orders
 mod Places
 mod Receipts
 mod Inputs

@@ -41,7 +41,7 @@ module _ (listed : List Maturity) (rows : List DeliveredRow) (s : NothingFound l
   none-differ zero from = refl
   none-differ (suc n) from = rw (same-key from) (none-differ n (suc from))
 
-  no-lines : (kind : Kind) (id : List ℕ) (from : ℕ) → linesFrom kind id listed rows from ≡ []
+  pub no-lines : (kind : Kind) (id : List ℕ) (from : ℕ) → linesFrom kind id listed rows from ≡ []
   unfolding linesFrom keysText
   no-lines kind id from = ap (keysText kind id listed rows) (none-differ (65536 - from) from)
 
@@ -70,15 +70,18 @@ module _ (f notices : List ℕ) (a : firstNo (loadAsks f) ≡ 0) (rows : List Ro
         rw (all-rows, ← own-among f (textTold notices .date) (textTold notices .notices) p a h)
         (order-for (idAt f p) (order-map (λ (r : Row). receivedOf (itemBack r)) o))
 
-  nothing-of : (p : ℕ) → opensIn f notices p → foundIn f notices (underHeading rows) p ≡ []
-  nothing-of p q =
+  -- the rows of a product that opens are its listing's
+  pub nothing-found : (p : ℕ) → opensIn f notices p → NothingFound (listedIn (tableIn f notices p)) (rowsIn f (underHeading rows) p)
+  nothing-found p q =
       let h : isRecord f p ≡ true = opens-parts f (textTold notices .date) (textTold notices .notices) p q .0 in
       let t = open-table f (textTold notices .date) (textTold notices .notices) p q in
       let s = of-product p h in
-      no-lines (listedIn (tableIn f notices p)) (rowsIn f (underHeading rows) p)
-      (own-table (tableIn f notices p) (t .is-sound) (t .long) true (rowsIn f (underHeading rows) p)
-      (rw (own-opens f (textTold notices .date) (textTold notices .notices) p a h q) at s))
-      (tableIn f notices p .product .kind) (idAt f p) 0
+      own-table (tableIn f notices p) (t .is-sound) (t .long) true (rowsIn f (underHeading rows) p)
+      (rw (own-opens f (textTold notices .date) (textTold notices .notices) p a h q) at s)
+
+  nothing-of : (p : ℕ) → opensIn f notices p → foundIn f notices (underHeading rows) p ≡ []
+  nothing-of p q =
+      no-lines (listedIn (tableIn f notices p)) (rowsIn f (underHeading rows) p) (nothing-found p q) (tableIn f notices p .product .kind) (idAt f p) 0
 
   no-others : (p : ℕ) → isRecord f p ≡ true → opensAt f (textTold notices .date) p ≡ false → rowsIn f (underHeading rows) p ≡ []
   no-others p h q =
@@ -88,8 +91,8 @@ module _ (f notices : List ℕ) (a : firstNo (loadAsks f) ≡ 0) (rows : List Ro
       empty-order [] u = refl
       empty-order (x ∷ xs) u = absurd (omega (arith, order-length u))
 
-  own-rows : OwnRows f notices rows (underHeading rows)
-  own-rows =
+  pub any-rows : OwnRows f notices rows (underHeading rows)
+  any-rows =
       record {
         each = each-row;
         all = all-rows;
@@ -101,7 +104,7 @@ module _ (f notices : List ℕ) (a : firstNo (loadAsks f) ≡ 0) (rows : List Ro
 
 -- ---- what is printed
 
-printed-is : (f notices : List ℕ) → firstNo (loadAsks f) ≡ 0 → textTold notices .bad ≡ 0 → deliverText f notices ≡ underHeading (printedRows f notices)
+pub printed-is : (f notices : List ℕ) → firstNo (loadAsks f) ≡ 0 → textTold notices .bad ≡ 0 → deliverText f notices ≡ underHeading (printedRows f notices)
 unfolding deliverText
 printed-is f notices a b = rw (eq-eqb (firstNo (loadAsks f)) 0 a, eq-eqb (textTold notices .bad) 0 b) refl
 
@@ -116,7 +119,7 @@ judged-12 f notices input p q =
 pub own-delivery : (f notices : List ℕ) → OwnDelivery f notices
 own-delivery f notices =
     record {
-      any = λ a rows o. own-rows f notices a rows o;
-      own = λ a b. rw (printed-is f notices a b) (own-rows f notices a (printedRows f notices) (order-same (printedRows f notices)));
+      any = λ a rows o. any-rows f notices a rows o;
+      own = λ a b. rw (printed-is f notices a b) (any-rows f notices a (printedRows f notices) (order-same (printedRows f notices)));
       only = judged-12 f notices;
     }
