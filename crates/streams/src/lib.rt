@@ -1,0 +1,17 @@
+// Reading from and writing to descriptors for every program: a call that a signal interrupts is made again, and what fails is told on standard error.
+mod calls;
+mod input;
+mod output;
+
+pub use calls::Transfer;
+pub use calls::read_some;
+pub use input::read_all;
+pub use input::read_file;
+pub use input::read_file_or_tell;
+pub use input::read_input;
+pub use input::read_input_part;
+pub use output::Sent;
+pub use output::is_open;
+pub use output::nothing_sent;
+pub use output::tell;
+pub use output::write_next;
