@@ -1,4 +1,5 @@
 pub mod Taking
+pub mod NextMonths
 pub mod Front
 pub mod Fresh
 pub mod Walks

@@ -1,7 +1,8 @@
 -- Listings by rule, whatever the maturities are (01, Last trading day; Listed months; The table; Questions, 16; 02, notes 1 to 3 and 9). A maturity is named by a key: a month's number, or the day number of a weekly maturity's Friday (02, note 3).
 -- Assumes nothing.
-use Prim.Native.Nat.{ℕ, zero, suc, _+_, _-_}
-use mathlib.Core.Bool.{Bool, true, _&&_, cond}
+use Prim.Native.Nat.{ℕ, zero, suc, _+_, _-_, _<_}
+use mathlib.Core.Path.{_≡_}
+use mathlib.Core.Bool.{Bool, true, false, _&&_, cond}
 use mathlib.Core.List.{List, [], _∷_, _++_}
 use lib.Dec.{leb, ltb, eqb}
 use lib.ListN.{length, replicate}
@@ -59,6 +60,11 @@ frontStays r cal reopened date = eqb (front r cal date) (front r reopened date)
 -- the first key of a set from k on; the first key beyond the cover where the cover has none
 abbrev pub nextOf : ℕ → (ℕ → Bool) → ℕ → ℕ
 nextOf beyond set k = firstFrom set beyond (beyond - k) k
+
+-- only the code needs it: the first key of a set from k on is the n-th after k
+pub record NextAfter (set : ℕ → Bool) (k n : ℕ) : Type 0 where
+  pub none : (i : ℕ) → i < n → set (k + i) ≡ false
+  pub there : set (k + n) ≡ true
 
 -- 'Step one takes the front month and those after it; each later step takes the next months of its set that follow the last month taken. Listing stops .. as soon as a month lies beyond the cover'
 unfoldable pub taken : ℕ → List (ℕ → Bool) → ℕ → List ℕ

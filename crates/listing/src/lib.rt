@@ -9,7 +9,7 @@ ghost use lib.ListN.{getD, replicate};
 ghost use Prim.Native.Nat.{_-_, _≤_, _<_};
 ghost use Rattle.product.specs.Fields.{kindNumber};
 ghost use Rattle.calendar.specs.Trading.{coverStart, calendarWith};
-ghost use Rattle.listing.specs.Rules.{front, countFrom, nextOf, unused};
+ghost use Rattle.listing.specs.Rules.{front, countFrom, nextOf, NextAfter, unused};
 ghost use Rattle.expiry.specs.LastDays.{weeklyFriday, keyOf, lastTradingDay};
 ghost use Rattle.listing.specs.Months.{monthSets, names2005, inSet, setAt, placesOfKind, countedFor, ruleOf, listingOf, weekIntoCover};
 
@@ -77,11 +77,42 @@ fn in_set(row: usize, step: usize, key: u16) -> bool
     expiry::is_weekly_friday(key)
 }
 
+// How many months after a month the next one of a step's set of kinds 0 to 3 comes; 0 where it is in the set itself.
+fn months_to_set(step: usize, month: u16) -> u16
+    requires { ⌜ step < 4 ⌝ }
+    ensures { λ r. ⌜ NextAfter (getD monthSets step (λ m. false)) month r ⌝ }
+{
+    match step {
+        0 => 0,
+        1 => 2 - month % 3,
+        2 => 5 - month % 6,
+        _ => 11 - month % 12,
+    }
+}
+
+// The next month of a step's set of kinds 0 to 3; the first month beyond the cover where the cover has none.
+fn next_month(step: usize, from: u16, end: u16) -> u16
+    requires { ⌜ step < 4 ⌝ }
+    ensures { λ r. ⌜ r ≡ nextOf end (getD monthSets step (λ m. false)) from ⌝ }
+{
+    if end <= from {
+        return end;
+    }
+    let months = months_to_set(step, from);
+    if end - from <= months {
+        return end;
+    }
+    from + months
+}
+
 // The next key of a step's set; the first key beyond the cover where the cover has none.
 fn next_in_set(row: usize, step: usize, from: u16, end: u16) -> u16
     requires { ⌜ (row < 6) × (step < 4) ⌝ }
     ensures { λ r. ⌜ r ≡ nextOf end (setAt row step) from ⌝ }
 {
+    if row < 4 {
+        return next_month(step, from, end);
+    }
     let mut key = from;
     while key < end {
         if in_set(row, step, key) {
