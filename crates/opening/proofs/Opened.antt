@@ -6,12 +6,14 @@ use mathlib.Core.List.{List, [], _∷_, _++_}
 use Prim.Native.Nat.{ℕ, zero, suc, _*_, _/_, _%_}
 use native.Mathlib.Omega.{arith}
 use lib.Dec.{ltb, eqb·suc-zero}
+use lib.ListN.{replicate}
 use borrow.Author.Tests.{ltb-true}
 use Rattle.questions.specs.Questions.{Ask, ask, firstNo, Answer, answer}
 use Rattle.questions.proofs.Bools.{and-fst, and-snd}
 use Rattle.questions.proofs.Asks.{none-no, no-asks, first-yes, accepted}
 use Rattle.calendar.specs.declared.Calendar.{Calendar}
 use Rattle.calendar.specs.Trading.{inCover}
+use Rattle.listing.specs.Rules.{unused}
 use Rattle.listing.specs.Months.{listingOf, allInCover, weekIntoCover}
 use Rattle.years.specs.Calendars.{calendarOf}
 use Rattle.master.specs.Products.{productAt}
@@ -22,7 +24,9 @@ use Rattle.master.specs.declared.Found.the-variants.{At, Nothing}
 use Rattle.master.specs.declared.Place.{Place}
 use Rattle.master.proofs.Answers.{judge-accepted}
 use Rattle.master.proofs.Halving.{halves-found, halves-product}
-use Rattle.opening.specs.Opening.{openingAsks, openAsks, refusedOpening, openingOf, asksIn, openingIn}
+use Rattle.opening.specs.declared.Opening.{Opening}
+use Rattle.opening.specs.declared.Listed.{Listed}
+use Rattle.opening.specs.Opening.{zeroProduct, openingAsks, openAsks, refusedOpening, openingOf, asksIn, openingIn, listingIn}
 
 -- of two lists of questions, one after the other
 append-no : (qs rs : List Ask) (n : ℕ) → firstNo qs ≡ suc n → firstNo (qs ++ rs) ≡ suc n
@@ -120,6 +124,37 @@ module _ (verdict : Answer Calendar) (f id : List ℕ) (date : ℕ) where
               → openingIn verdict f id date ≡ record { refusal = 0; product = productByHalves f id; calendar = verdict .value; fresh = listingOf (verdict .value) (productByHalves f id .kind) (productByHalves f id .group) date .maturities }
           unfolding openingIn listingOf firstNo
           in-yes d = let z : firstNo (asksIn verdict f id date) ≡ 0 = rest-in ∙ rw (b, c, w, d) in rw z
+
+  -- what is listed is the opening but for its calendar
+  pub listed-no : (number : ℕ) → refusedOpening number ≡ openingIn verdict f id date → record { refusal = number; product = zeroProduct; fresh = replicate 15 unused } ≡ listingIn verdict f id date
+  unfolding listingIn
+  listed-no number e = ap (λ (o : Opening). record { refusal = o .refusal; product = o .product; fresh = o .fresh }) e
+
+  pub listed-yes : {o : Opening} → o ≡ openingIn verdict f id date → record { refusal = o .refusal; product = o .product; fresh = o .fresh } ≡ listingIn verdict f id date
+  unfolding listingIn
+  listed-yes e = ap (λ (o : Opening). record { refusal = o .refusal; product = o .product; fresh = o .fresh }) e
+
+  -- and with the verdict's calendar it is the opening
+  module _ (l : Listed) (is : l ≡ listingIn verdict f id date) where
+    pub refused-listed : (l .refusal ≡ 0 → ⊥) → refusedOpening (l .refusal) ≡ openingIn verdict f id date
+    unfolding listingIn openingIn
+    refused-listed h = go (firstNo (asksIn verdict f id date)) refl
+      where
+        go : (n : ℕ) → firstNo (asksIn verdict f id date) ≡ n → refusedOpening (l .refusal) ≡ openingIn verdict f id date
+        go zero q = absurd (h (ap (λ (x : Listed). x .refusal) is ∙ rw q))
+        go (suc n) q =
+            let r : l .refusal ≡ suc n = ap (λ (x : Listed). x .refusal) is ∙ rw (q, eqb·suc-zero n) in
+            rw r (sym (in-no n q))
+
+    pub accepted-listed : l .refusal ≡ 0 → record { refusal = 0; product = l .product; calendar = verdict .value; fresh = l .fresh } ≡ openingIn verdict f id date
+    unfolding listingIn openingIn
+    accepted-listed h = go (firstNo (asksIn verdict f id date)) refl
+      where
+        go : (n : ℕ) → firstNo (asksIn verdict f id date) ≡ n → record { refusal = 0; product = l .product; calendar = verdict .value; fresh = l .fresh } ≡ openingIn verdict f id date
+        go zero q = rw (is, q) refl
+        go (suc n) q =
+            let r : l .refusal ≡ suc n = ap (λ (x : Listed). x .refusal) is ∙ rw (q, eqb·suc-zero n) in
+            absurd (omega (arith, h))
 
 -- the questions after load's
 module _ (f id : List ℕ) (date : ℕ) where

@@ -17,6 +17,7 @@ use Rattle.years.specs.Calendars.{calendarOf}
 use Rattle.master.specs.Load.{loadAsks, found, productOf}
 use Rattle.master.specs.Halves.{foundByHalves, productByHalves}
 use Rattle.opening.specs.declared.Opening.{Opening}
+use Rattle.opening.specs.declared.Listed.{Listed}
 
 -- a product of zeros; kind 0 is a future
 unfoldable pub zeroProduct : Product
@@ -81,3 +82,9 @@ openingIn verdict f id date =
       fresh = places15 (freshOf (verdict .value) (productByHalves f id .kind) (productByHalves f id .group) date);
     })
     (refusedOpening (firstNo (asksIn verdict f id date)))
+
+-- the same but for the calendar, which the verdict has: a caller to which it is lent need not copy it
+unfoldable pub listingIn : Answer Calendar → List ℕ → List ℕ → ℕ → Listed
+listingIn verdict f id date =
+    let o = openingIn verdict f id date in
+    record { refusal = o .refusal; product = o .product; fresh = o .fresh }

@@ -7,14 +7,23 @@ use product::Product;
 use product::Text;
 use years::FileCalendar;
 ghost use mathlib.Core.Path.{_≡_};
+ghost use lib.ListN.{replicate};
+ghost use Rattle.listing.specs.Rules.{unused};
 ghost use Rattle.years.specs.Calendars.{calendarAnswer};
-ghost use Rattle.opening.specs.Opening.{zeroProduct, refusedOpening, openingOf, openingIn};
+ghost use Rattle.opening.specs.Opening.{zeroProduct, refusedOpening, openingOf, openingIn, listingIn};
 
 // The number of the refusal, 0 where there is none; the product, the file's calendar, and the fresh listing, not yet numbered.
 pub struct Opening {
     pub refusal: u8,
     pub product: Product,
     pub calendar: Calendar,
+    pub fresh: [Maturity; 15],
+}
+
+// The same but for the calendar.
+pub struct Listed {
+    pub refusal: u8,
+    pub product: Product,
     pub fresh: [Maturity; 15],
 }
 
@@ -48,32 +57,64 @@ fn refused_opening(number: u8) -> Opening
     }
 }
 
-// The product with an id, the calendar of a verdict, and the fresh listing on a date. The file's verdict by `judge` is at hand, so questions 1 to 8 are not asked again.
-pub fn opening_in(file: &[u8], judged: FileCalendar, id: [u8; 4], date: u16) -> Opening
-    ensures { λ r. ⌜ r ≡ openingIn (calendarAnswer judged) (now (file .entry)) id date ⌝ }
+// The number of a refusal, and zeros, but for the calendar.
+fn none_listed(number: u8) -> Listed
+    ensures { λ r. ⌜ r ≡ record { refusal = number; product = zeroProduct; fresh = replicate 15 unused } ⌝ }
+{
+    let product = zero_product();
+    let fresh = listing::unused_places();
+    Listed {
+        refusal: number,
+        product,
+        fresh,
+    }
+}
+
+// The product with an id, and the fresh listing on a date under the calendar of a verdict, of which no map is copied. The file's verdict by `judge` is at hand, so questions 1 to 8 are not asked again.
+pub fn listed_in(file: &[u8], judged: FileCalendar, id: [u8; 4], date: u16) -> Listed
+    ensures { λ r. ⌜ r ≡ listingIn (calendarAnswer judged) (now (file .entry)) id date ⌝ }
 {
     let refusal = judged.refusal;
     if refusal != 0 {
-        return refused_opening(refusal);
+        return none_listed(refusal);
     }
     let Found::At(block, record) = master::find_rising(file, id) else {
-        return refused_opening(9);
+        return none_listed(9);
     };
-    let calendar = judged.calendar;
-    if !calendar::in_cover(calendar.cover, date) {
-        return refused_opening(11);
+    let cover = judged.calendar.cover;
+    if !calendar::in_cover(cover, date) {
+        return none_listed(11);
     }
     let product = master::product_at(file, block, record);
     let kind = product.kind;
     let group = product.group;
-    if !listing::is_week_into_cover(kind, calendar.cover, date) {
-        return refused_opening(24);
+    if !listing::is_week_into_cover(kind, cover, date) {
+        return none_listed(24);
     }
-    let l = listing::list(calendar, kind, group, date);
+    let l = listing::list_in(cover, &judged.calendar.closed, kind, group, date);
     if !l.complete {
-        return refused_opening(16);
+        return none_listed(16);
     }
     let fresh = l.maturities;
+    Listed {
+        refusal: 0,
+        product,
+        fresh,
+    }
+}
+
+// The same with the calendar of the verdict.
+pub fn opening_in(file: &[u8], judged: FileCalendar, id: [u8; 4], date: u16) -> Opening
+    ensures { λ r. ⌜ r ≡ openingIn (calendarAnswer judged) (now (file .entry)) id date ⌝ }
+{
+    let l = listed_in(file, judged, id, date);
+    let refusal = l.refusal;
+    if refusal != 0 {
+        return refused_opening(refusal);
+    }
+    let product = l.product;
+    let calendar = judged.calendar;
+    let fresh = l.fresh;
     Opening {
         refusal: 0,
         product,
