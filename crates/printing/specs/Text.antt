@@ -74,11 +74,13 @@ unfoldable pub headingText : ℕ → ℕ → ℕ → ℕ → ℕ → List ℕ
 headingText letter date entered left given =
     (letter ∷ (32 ∷ [])) ++ (dayText date ++ (spaced entered ++ (spaced left ++ (spaced given ++ (10 ∷ [])))))
 
+-- what is printed of a kind's table after a call: the first line, and a line for each place that the kind uses
+abbrev pub callText : ℕ → Kind → ℕ → ℕ → ℕ → ℕ → List Maturity → List ℕ
+callText letter kind date entered left given ms = headingText letter date entered left given ++ maturitiesText kind (placesOfKind kind) ms
+
 -- what is printed for an accepted call
 unfoldable pub outcomeText : ℕ → Outcome → List ℕ
-outcomeText letter o =
-    headingText letter (o .table .date) (o .entered) (o .left) (o .table .given)
-    ++ maturitiesText (o .table .product .kind) (placesOfKind (o .table .product .kind)) (o .table .maturities)
+outcomeText letter o = callText letter (o .table .product .kind) (o .table .date) (o .entered) (o .left) (o .table .given) (o .table .maturities)
 
 -- '`NO` and the number'
 unfoldable pub refusalText : ℕ → List ℕ

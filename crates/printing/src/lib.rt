@@ -9,7 +9,7 @@ ghost use mathlib.Core.List.{[], _∷_};
 ghost use Prim.Native.Nat.{_+_, _≤_, _<_};
 ghost use lib.ListN.{length};
 ghost use Rattle.days.specs.Dates.{dateCall};
-ghost use Rattle.printing.specs.Text.{lastDigit, inTwoDigits, inFourDigits, decimal, yearMonth, monthText, dayText, spaced, nameText, maturityText, maturitiesText, nameWidth, linesWidth, headingText, outcomeText, refusalText, badText};
+ghost use Rattle.printing.specs.Text.{lastDigit, inTwoDigits, inFourDigits, decimal, yearMonth, monthText, dayText, spaced, nameText, maturityText, maturitiesText, nameWidth, linesWidth, headingText, callText, outcomeText, refusalText, badText};
 ghost use Rattle.printing.specs.Buffer.{Written, Printed, roomy};
 
 // One byte.
@@ -205,17 +205,23 @@ fn put_heading(
     put(out, end, b'\n')
 }
 
-// The answer to an accepted call.
-fn put_outcome(out: &mut [u8], at: usize, letter: u8, o: Outcome) -> usize
+// The answer to an accepted call, of what it leaves of a table and of its counts.
+fn put_call(
+    out: &mut [u8],
+    at: usize,
+    letter: u8,
+    kind: Kind,
+    date: u16,
+    entered: u16,
+    left: u16,
+    given: u16,
+    maturities: [Maturity; 15],
+) -> usize
     requires { ⌜ at + 496 ≤ length (now out) ⌝ }
-    ensures { λ r. ⌜ Written (now (out .entry)) (now (out .exit)) at r (outcomeText letter o) × (r ≤ at + 496) ⌝ }
+    ensures { λ r. ⌜ Written (now (out .entry)) (now (out .exit)) at r (callText letter kind date entered left given maturities) × (r ≤ at + 496) ⌝ }
 {
-    let t = o.table;
-    let p = t.product;
-    let kind = p.kind;
-    let maturities = t.maturities;
     let n = listing::places_of_kind(kind);
-    let next = put_heading(out, at, letter, t.date, o.entered, o.left, t.given);
+    let next = put_heading(out, at, letter, date, entered, left, given);
     put_maturities(out, next, kind, maturities, n as usize)
 }
 
@@ -251,14 +257,55 @@ fn has_room(out: &[u8], at: usize) -> bool
     at <= out.len() - 512
 }
 
-// The answer to an accepted call. Without room nothing is written.
-pub fn print_outcome(out: &mut [u8], at: usize, letter: u8, o: Outcome) -> usize
-    ensures { λ r. ⌜ Printed (now (out .entry)) (now (out .exit)) at r (outcomeText letter o) ⌝ }
+// The answer to an accepted call, of what it leaves of a table and of its counts: no calendar is read. Without room nothing is written.
+pub fn print_call(
+    out: &mut [u8],
+    at: usize,
+    letter: u8,
+    kind: Kind,
+    date: u16,
+    entered: u16,
+    left: u16,
+    given: u16,
+    maturities: [Maturity; 15],
+) -> usize
+    ensures { λ r. ⌜ Printed (now (out .entry)) (now (out .exit)) at r (callText letter kind date entered left given maturities) ⌝ }
 {
     if !has_room(out, at) {
         return at;
     }
-    put_outcome(out, at, letter, o)
+    put_call(
+        out,
+        at,
+        letter,
+        kind,
+        date,
+        entered,
+        left,
+        given,
+        maturities,
+    )
+}
+
+// The answer to an accepted call. Without room nothing is written.
+pub fn print_outcome(out: &mut [u8], at: usize, letter: u8, o: Outcome) -> usize
+    ensures { λ r. ⌜ Printed (now (out .entry)) (now (out .exit)) at r (outcomeText letter o) ⌝ }
+{
+    let t = o.table;
+    let p = t.product;
+    let kind = p.kind;
+    let maturities = t.maturities;
+    print_call(
+        out,
+        at,
+        letter,
+        kind,
+        t.date,
+        o.entered,
+        o.left,
+        t.given,
+        maturities,
+    )
 }
 
 // The answer to a refused call. Without room nothing is written.

@@ -1,11 +1,11 @@
+-- The first line, then the lines of the places that the kind uses, which fit into 465 bytes.
 use mathlib.Core.Path.{_∙_}
 use Rattle.printing.proofs.Writing.{then}
-use Rattle.printing.specs.Text.{outcomeText}
 use Rattle.printing.proofs.Texts.{lines-most}
 use native.Mathlib.Omega.{arith}
 use borrow.Author.Needs.{needs}
-use Rattle.printing.proofs.put_outcome.Statement.{statement}
-use Rattle.printing.proofs.put_outcome.Tie as tie
+use Rattle.printing.proofs.put_call.Statement.{statement}
+use Rattle.printing.proofs.put_call.Tie as tie
 
 places-of-kind-requires : tie.Need-places-of-kind-requires
 places-of-kind-requires c κs = tt
@@ -21,7 +21,7 @@ put-maturities-requires c κs =
     let at-put-heading = c .before .before .before in
     let at-places-of-kind = at-put-heading .before .before in
     let h = at-put-heading .put-heading .ensures in
-    let kind = at-places-of-kind .before .before .before .before .before .args .o .table .product .kind in
+    let kind = at-places-of-kind .before .before .args .kind in
     (at-places-of-kind .places-of-kind .ensures .1, rw (at-places-of-kind .places-of-kind .ensures .0) (lines-most kind), omega (arith, h .1, h .0 .long))
 
 same-length : tie.Need-same-length
@@ -30,7 +30,6 @@ same-length c =
     c .before .before .put-maturities .ensures .0 .long ∙ at-put-heading .put-heading .ensures .0 .long
 
 returns : tie.Need-returns
-unfolding outcomeText
 returns c =
     let at-put-heading = c .before .before .before .before .before .before in
     let at-places-of-kind = at-put-heading .before .before in
@@ -38,6 +37,6 @@ returns c =
     let m = c .before .before .put-maturities .ensures in
     (rw (← at-places-of-kind .places-of-kind .ensures .0) (then (h .0) (m .0)), omega (arith, h .1, m .1))
 
-pub put-outcome-spec : {M : Type 1} → statement M
-put-outcome-spec =
+pub put-call-spec : {M : Type 1} → statement M
+put-call-spec =
     tie.close (tie.spec places-of-kind-requires put-heading-requires cast-put-maturities put-maturities-requires same-length returns)
