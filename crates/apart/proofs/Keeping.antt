@@ -7,24 +7,28 @@ use Prim.Native.Nat.{ℕ, _*_, _-_, _/_, _%_, _^_, _<_}
 use native.Mathlib.Omega.{arith}
 use lib.Dec.{leb, ltb, eqb}
 use lib.Bits.{bitOr}
-use lib.ListN.{length, getD, set}
+use lib.ListN.{length, getD, set, take}
 use Rattle.calendar.specs.Trading.{calendarWith, inCover, slotOf, tradingDay, everyWeek, closeDay}
 use Rattle.calendar.specs.declared.Cover.{Cover}
 use Rattle.calendar.proofs.Closing.{close-cover, close-store}
 use Rattle.calendar.proofs.Second.{trading-second}
 use Rattle.expiry.proofs.Fridays.{last-but}
 use Rattle.listing.specs.Rules.{front, unused}
-use Rattle.listing.specs.Months.{ruleOf}
+use Rattle.listing.specs.Months.{ruleOf, placesOfKind}
 use Rattle.listing.proofs.Second.{front-second}
 use Rattle.questions.specs.Questions.{Answer}
 use Rattle.calendar.specs.declared.Calendar.{Calendar}
 use Rattle.product.specs.Fields.{productRight}
-use Rattle.printing.specs.Text.{outcomeText, refusalText}
+use Rattle.printing.specs.Text.{callText, outcomeText, refusalText}
 use Rattle.lines.specs.declared.Command.{Command}
 use Rattle.table.specs.declared.Table.{Table}
 use Rattle.table.specs.declared.Outcome.{Outcome}
-use Rattle.table.specs.Table.{sound, calendarSound, keptIn, rollCall, closeCall, openIn, tradesAround, noneEndsOn}
+use Rattle.opening.specs.declared.Listed.{Listed}
+use Rattle.opening.specs.Opening.{refusedOpening, listingIn}
+use Rattle.opening.proofs.Opened.{refused-listed, accepted-listed}
+use Rattle.table.specs.Table.{sound, calendarSound, keptIn, rollCall, closeCall, openedWith, openIn, tradesAround, noneEndsOn}
 use Rattle.table.proofs.Calls.{roll-16, close-16, sound-parts}
+use Rattle.table.proofs.Opens.{in-refused, in-accepted}
 use Rattle.table.proofs.Staying.{stays}
 use Rattle.table.proofs.Around.{around-of, trades-second}
 use Rattle.table.proofs.Unmoved.{unmoved, none-of}
@@ -33,7 +37,7 @@ use Rattle.command.specs.Sessions.{bad, outcomeOf, answerText, keptAfter}
 use Rattle.command.proofs.Answers.{rolls, closes, opens-by, no-kept, no-text, yes-kept, yes-text, leaves-sound}
 use Rattle.apart.specs.declared.Rest.{Rest}
 use Rattle.apart.specs.declared.Moved.{Moved}
-use Rattle.apart.specs.Apart.{tableWith, restOf, keptWith, datedRest, Moves, shownOf}
+use Rattle.apart.specs.Apart.{tableWith, restOf, keptWith, datedRest, Moves}
 
 module _ (rest : Rest) (closed : List ℕ) (len : length (rest .maturities) ≡ 15) where
   pub rolls-kept : (date : ℕ) → inCover (rest .cover) date ≡ true → leb (rest .date) date ≡ true
@@ -64,6 +68,7 @@ moves-kept t o rest date closed exchange e =
       refusal = sym (ap (λ (x : Outcome). x .refusal) e);
       accepted = λ z. sym e;
       refused = λ n. absurd (n (ap (λ (x : Outcome). x .refusal) e));
+      counts = λ n. absurd (n (ap (λ (x : Outcome). x .refusal) e));
     }
 
 module _ (opening : List ℕ → ℕ → Outcome) (rest : Rest) (closed exchange : List ℕ) (c : Command) where
@@ -102,6 +107,7 @@ module _ (t : Table) (o : Outcome) (closed exchange : List ℕ) where
         refusal = e;
         accepted = λ z. absurd (n (e ∙ z));
         refused = λ x. sym i;
+        counts = λ x. (refl, refl);
       }
 
 pub whole-accepted : (t : Table) (o p : Outcome) → p ≡ o → p .refusal ≡ 0
@@ -111,10 +117,26 @@ whole-accepted t o p e z =
       refusal = sym z ∙ ap (λ (x : Outcome). x .refusal) e;
       accepted = λ y. rw (sym z) (own p) ∙ e;
       refused = λ n. absurd (n (sym (ap (λ (x : Outcome). x .refusal) e) ∙ z));
+      counts = λ n. absurd (n (sym (ap (λ (x : Outcome). x .refusal) e) ∙ z));
     }
   where
     own : (p : Outcome) → record { refusal = p .refusal; table = tableWith (restOf (p .table)) (p .table .calendar .closed) (p .table .calendar .exchange); entered = p .entered; left = p .left } ≡ p
     own p = refl
+
+-- ---- an open without a whole table: what is listed, and the verdict's calendar
+
+module _ (verdict : Answer Calendar) (f id : List ℕ) (date : ℕ) (l : Listed) (is : l ≡ listingIn verdict f id date) where
+  pub open-refused : (l .refusal ≡ 0 → ⊥) → l .refusal ≡ openIn verdict f id date .refusal
+  open-refused n =
+      ap (λ (x : Outcome). x .refusal)
+      (in-refused verdict f id date (refusedOpening (l .refusal)) (refused-listed verdict f id date l is n) n)
+
+  pub open-accepted : l .refusal ≡ 0 → openedWith (l .product) (verdict .value) date (take (placesOfKind (l .product .kind)) (l .fresh)) ≡ openIn verdict f id date
+  open-accepted z =
+      in-accepted verdict f id date
+      (record { refusal = 0; product = l .product; calendar = verdict .value; fresh = l .fresh })
+      (accepted-listed verdict f id date l is z)
+      refl
 
 -- an open, whatever the table was
 pub opened-apart : (opening : List ℕ → ℕ → Outcome) (t : Table) (c : Command) (m : Moved) (closed exchange : List ℕ) → c .letter ≡ 79
@@ -122,11 +144,6 @@ pub opened-apart : (opening : List ℕ → ℕ → Outcome) (t : Table) (c : Com
 opened-apart opening t c m closed exchange e v = rw (opens-by opening t c e) at v
 
 -- ---- the answer to a line
-
--- the maps take no part in what is printed
-shown-text : (letter : ℕ) (m : Moved) (closed exchange : List ℕ) → outcomeText letter (shownOf m) ≡ outcomeText letter (record { refusal = 0; table = tableWith (m .rest) closed exchange; entered = m .entered; left = m .left })
-unfolding outcomeText shownOf
-shown-text letter m closed exchange = refl
 
 module _ (verdict : Answer Calendar) (f : List ℕ) (opened : Bool) (rest : Rest) (first second : List ℕ) (c : Command) (m : Moved) (closed exchange : List ℕ) where
   abbrev opening : List ℕ → ℕ → Outcome
@@ -156,10 +173,12 @@ module _ (verdict : Answer Calendar) (f : List ℕ) (opened : Bool) (rest : Rest
     pub yes-kept-apart : m .refusal ≡ 0 → keptWith true (m .rest) closed exchange ≡ keptAfter opening h c
     yes-kept-apart z = yes-kept opening h c b (record { refusal = 0; table = tableWith (m .rest) closed exchange; entered = m .entered; left = m .left }) (is-out z) refl
 
-    pub yes-text-apart : m .refusal ≡ 0 → outcomeText (c .letter) (shownOf m) ≡ answerText opening h c
+    -- the maps take no part in what is printed
+    pub yes-text-apart : m .refusal ≡ 0
+        → callText (c .letter) (m .rest .product .kind) (m .rest .date) (m .entered) (m .left) (m .rest .given) (m .rest .maturities) ≡ answerText opening h c
+    unfolding outcomeText
     yes-text-apart z =
-        shown-text (c .letter) m closed exchange
-        ∙ yes-text opening h c b (record { refusal = 0; table = tableWith (m .rest) closed exchange; entered = m .entered; left = m .left }) (is-out z) refl
+        yes-text opening h c b (record { refusal = 0; table = tableWith (m .rest) closed exchange; entered = m .entered; left = m .left }) (is-out z) refl
 
     pub yes-sound-apart : m .refusal ≡ 0 → sound (tableWith (m .rest) closed exchange) ≡ cond (eqb (c .letter) 79) (calendarSound (verdict .value) && productRight (m .rest .product)) true
     yes-sound-apart z = leaves-sound verdict f before c (record { refusal = 0; table = tableWith (m .rest) closed exchange; entered = m .entered; left = m .left }) (is-out z) refl

@@ -4,7 +4,13 @@ use Prim.Native.Nat.{ℕ}
 use mathlib.Core.Path.{_≡_}
 use mathlib.Core.Bool.{Bool}
 use mathlib.Core.List.{List}
-use Rattle.calendar.specs.Trading.{calendarOfMaps, zeroCalendar}
+use lib.ListN.{length}
+use Rattle.calendar.specs.Trading.{calendarOfMaps}
+use Rattle.calendar.specs.declared.Cover.{Cover}
+use Rattle.product.specs.declared.Product.{Product}
+use Rattle.listing.specs.declared.Maturity.{Maturity}
+use Rattle.listing.specs.Rules.{places15}
+use Rattle.places.specs.Numbering.{numberedFresh}
 use Rattle.years.specs.declared.FileCalendar.{FileCalendar}
 use Rattle.table.specs.declared.Table.{Table}
 use Rattle.table.specs.declared.Outcome.{Outcome}
@@ -45,21 +51,22 @@ datedRest rest date =
       left = 0;
     }
 
--- a rest and its maps after a call on the table: an accepted call's outcome is theirs, and a refused one leaves the table as it was; the counts of a refused one are not read
+-- the rest that an open of a product gives under a cover on a date: a fresh listing numbered 1, 2, .., all of it entered
+abbrev pub openedRest : Product → Cover → ℕ → List Maturity → Moved
+openedRest product cover date fresh =
+    record {
+      refusal = 0;
+      rest = record { product = product; cover = cover; date = date; maturities = places15 (numberedFresh fresh); given = length fresh };
+      entered = length fresh;
+      left = 0;
+    }
+
+-- a rest and its maps after a call on the table: an accepted call's outcome is theirs, and a refused one leaves the table as it was, with counts 0 and 0
 pub record Moves (t : Table) (o : Outcome) (m : Moved) (closed exchange : List ℕ) : Type 0 where
   pub refusal : m .refusal ≡ o .refusal
   pub accepted : o .refusal ≡ 0 → record { refusal = 0; table = tableWith (m .rest) closed exchange; entered = m .entered; left = m .left } ≡ o
   pub refused : (o .refusal ≡ 0 → ⊥) → tableWith (m .rest) closed exchange ≡ t
-
--- an accepted call as printing gets it: printing reads no calendar, so zeros stand there
-unfoldable pub shownOf : Moved → Outcome
-shownOf m =
-    record {
-      refusal = 0;
-      table = record { product = m .rest .product; calendar = zeroCalendar; date = m .rest .date; maturities = m .rest .maturities; given = m .rest .given };
-      entered = m .entered;
-      left = m .left;
-    }
+  pub counts : (o .refusal ≡ 0 → ⊥) → (m .entered ≡ 0) × (m .left ≡ 0)
 
 -- the answer to a command from what is kept, in a buffer from a place on, and what is kept and known after it
 pub record Replies (opening : List ℕ → ℕ → Outcome) (judged : FileCalendar) (right : Bool) (h : Kept) (at : ℕ) (c : Command) (before after : List ℕ) (r : Replied) (closed exchange : List ℕ) : Type 0 where

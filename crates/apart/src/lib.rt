@@ -5,19 +5,20 @@ use lines::Command;
 use lines::Line;
 use listing::Maturity;
 use product::Product;
-use table::Outcome;
 use table::Table;
 use years::FileCalendar;
 ghost use mathlib.Core.Path.{_≡_};
 ghost use mathlib.Core.Bool.{true};
 ghost use mathlib.Core.List.{List};
 ghost use Prim.Native.Nat.{ℕ, _/_, _<_};
+ghost use lib.ListN.{take};
+ghost use Rattle.listing.specs.Months.{placesOfKind};
 ghost use Rattle.calendar.specs.Trading.{calendarWith, inCover, slotOf, closeDay};
 ghost use Rattle.years.specs.Calendars.{calendarAnswer};
 ghost use Rattle.table.specs.Table.{sound, keptIn, rollCall, closeCall, openIn};
 ghost use Rattle.lines.specs.Lines.{lineCommand};
 ghost use Rattle.command.specs.Sessions.{outcomeOf, Known};
-ghost use Rattle.apart.specs.Apart.{tableWith, restOf, keptWith, datedRest, Moves, shownOf, Replies};
+ghost use Rattle.apart.specs.Apart.{tableWith, restOf, keptWith, datedRest, openedRest, Moves, Replies};
 
 // A table but for the two maps of its calendar.
 pub struct Rest {
@@ -172,7 +173,29 @@ fn close_in(cover: Cover, closed: &mut [u8; 736], day: u16)
     closed[at] = byte | bit;
 }
 
-// The table that an open gives, apart, and its maps.
+// The rest that an open of a product gives, of its fresh listing, numbered 1, 2, ..
+fn opened_rest(product: Product, cover: Cover, date: u16, fresh: [Maturity; 15]) -> Moved
+    ensures { λ r. ⌜ r ≡ openedRest product cover date (take (placesOfKind (product .kind)) fresh) ⌝ }
+{
+    let kind = product.kind;
+    let n = listing::places_of_kind(kind);
+    let maturities = places::number_opened(fresh, kind);
+    let rest = Rest {
+        product,
+        cover,
+        date,
+        maturities,
+        given: n,
+    };
+    Moved {
+        refusal: 0,
+        rest,
+        entered: n,
+        left: 0,
+    }
+}
+
+// The table that an open gives, apart, and its maps, which are those of the verdict's calendar. No table is put together.
 fn open_apart(
     file: &[u8],
     judged: FileCalendar,
@@ -184,8 +207,8 @@ fn open_apart(
 ) -> Moved
     ensures { λ r. ⌜ Moves (tableWith rest (now (closed .entry)) (now (exchange .entry))) (openIn (calendarAnswer judged) (now (file .entry)) id date) r (now (closed .exit)) (now (exchange .exit)) ⌝ }
 {
-    let o = table::open_in(file, judged, id, date);
-    let refusal = o.refusal;
+    let l = opening::listed_in(file, judged, id, date);
+    let refusal = l.refusal;
     if refusal != 0 {
         return Moved {
             refusal,
@@ -194,19 +217,14 @@ fn open_apart(
             left: 0,
         };
     }
-    let after = o.table;
-    let cal = after.calendar;
+    let cal = judged.calendar;
     let first_map = cal.closed;
     let second_map = cal.exchange;
     *closed = first_map;
     *exchange = second_map;
-    let next = rest_of(after);
-    Moved {
-        refusal: 0,
-        rest: next,
-        entered: o.entered,
-        left: o.left,
-    }
+    let product = l.product;
+    let fresh = l.fresh;
+    opened_rest(product, cal.cover, date, fresh)
 }
 
 // The call of a command on a table that is put together, and its maps afterwards.
@@ -277,29 +295,6 @@ pub fn move_apart(
     move_whole(file, judged, rest, ten, closed, exchange, c)
 }
 
-// What is printed of an accepted call: the maps take no part in it.
-fn shown(m: Moved) -> Outcome
-    ensures { λ r. ⌜ r ≡ shownOf m ⌝ }
-{
-    let rest = m.rest;
-    let product = rest.product;
-    let maturities = rest.maturities;
-    let calendar = calendar::zero_calendar();
-    let table = Table {
-        product,
-        calendar,
-        date: rest.date,
-        maturities,
-        given: rest.given,
-    };
-    Outcome {
-        refusal: 0,
-        table,
-        entered: m.entered,
-        left: m.left,
-    }
-}
-
 // The answer to a line, in a lent buffer from a place on, and what is kept after it, the maps lent. Question 10 of the table and what it says of the verdict's calendar are at hand.
 pub fn reply(
     file: &[u8],
@@ -336,9 +331,21 @@ pub fn reply(
             at: next,
         };
     }
-    let o = shown(m);
-    let next = printing::print_outcome(out, k.at, c.letter, o);
-    let still = command::leaves_sound(c.letter, right, after.product);
+    let product = after.product;
+    let kind = product.kind;
+    let maturities = after.maturities;
+    let next = printing::print_call(
+        out,
+        k.at,
+        c.letter,
+        kind,
+        after.date,
+        m.entered,
+        m.left,
+        after.given,
+        maturities,
+    );
+    let still = command::leaves_sound(c.letter, right, product);
     Replied {
         opened: true,
         rest: after,

@@ -62,23 +62,19 @@ returns-2 c = λ w.
       known = record { calendar = w .calendar; tenth = w .tenth ∙ ap sound (sym (no-table-apart verdict f (h .opened) (h .rest) first second k m _ _ b v n)) };
     })
 
-shown-requires : tie.Need-shown-requires
-shown-requires c κs = tt
-
-print-outcome-requires : tie.Need-print-outcome-requires
-print-outcome-requires c κs = tt
+print-call-requires : tie.Need-print-call-requires
+print-call-requires c κs = tt
 
 leaves-sound-requires : tie.Need-leaves-sound-requires
 leaves-sound-requires c κs = tt
 
 same-length-3 : tie.Need-same-length-3
-same-length-3 c = c .before .before .before .print-outcome .ensures .long
+same-length-3 c = c .before .before .before .print-call .ensures .long
 
 returns-3 : tie.Need-returns-3
 returns-3 c = λ w.
-    let at-print-outcome = c .before .before .before in
-    let at-shown = at-print-outcome .before .before in
-    let at-if2 = at-shown .before in
+    let at-print-call = c .before .before .before in
+    let at-if2 = at-print-call .before .before .before .before in
     let at-move-apart = at-if2 .before .before in
     let at-if1 = at-move-apart .before .before .before in
     let at-is-bad = at-if1 .before in
@@ -97,7 +93,7 @@ returns-3 c = λ w.
     rw (← at-command-of .command-of .ensures)
     (record {
       kept = yes-kept-apart verdict f (h .opened) (h .rest) first second k m _ _ b v n;
-      text = rw (← yes-text-apart verdict f (h .opened) (h .rest) first second k m _ _ b v n) (rw (at-shown .shown .ensures) at (at-print-outcome .print-outcome .ensures));
+      text = rw (← yes-text-apart verdict f (h .opened) (h .rest) first second k m _ _ b v n) (at-print-call .print-call .ensures);
       known = record { calendar = w .calendar; tenth = (rw (w .calendar) at (c .leaves-sound .ensures)) ∙ sym (yes-sound-apart verdict f (h .opened) (h .rest) first second k m _ _ b v n) };
     })
 
@@ -114,8 +110,7 @@ reply-spec =
     print-refusal-requires
     same-length-2
     returns-2
-    shown-requires
-    print-outcome-requires
+    print-call-requires
     leaves-sound-requires
     same-length-3
     returns-3)

@@ -1,0 +1,20 @@
+-- As many maturities as the kind has places are numbered, entered and given.
+use lib.Seq.{length-take-le}
+use native.Mathlib.Omega.{arith}
+use Rattle.apart.proofs.opened_rest.Statement.{statement}
+use Rattle.apart.proofs.opened_rest.Tie as tie
+
+places-of-kind-requires : tie.Need-places-of-kind-requires
+places-of-kind-requires c κs = tt
+
+number-opened-requires : tie.Need-number-opened-requires
+number-opened-requires c κs = tt
+
+returns : tie.Need-returns
+returns c =
+    let e = c .before .places-of-kind .ensures in
+    let l = length-take-le (c .before .places-of-kind .result) (c .before .before .args .fresh) (omega (arith, c .before .before .good .1 .1 .1 .0 .1 .0 .1, e .1)) in
+    rw (c .number-opened .ensures, ← e .0, l)
+
+pub opened-rest-spec : {M : Type 1} → statement M
+opened-rest-spec = tie.close (tie.spec places-of-kind-requires number-opened-requires returns)
