@@ -1,16 +1,16 @@
 -- The text part by part: a line's end, its bytes, one line after the other.
 -- Assumes nothing.
 use mathlib.Core.Path.{_≡_, refl, sym, ap, _∙_}
-use mathlib.Core.Bool.{Bool, true, false, and-false}
+use mathlib.Core.Bool.{Bool, true, false, and-false, cond}
 use mathlib.Core.List.{List, [], _∷_, _++_, append-nil, append-assoc}
 use mathlib.Core.Logic.{_⊎_, inl, inr}
 use Prim.Native.Nat.{ℕ, _+_, _-_, _≤_, _<_}
 use native.Mathlib.Numerals.{add-one}
 use native.Mathlib.Omega.{arith}
 use lib.Dec.{leb, ltb}
-use lib.ListN.{length, getD, take, drop, length-append, length-drop, take-append-drop}
+use lib.ListN.{length, getD, take, drop, drop-of-length-le, length-append, length-drop, take-append-drop}
 use lib.Seq.{slice, slice-cons, slice-empty, length-slice, length-take-le, drop-append-le, drop-cons, drop-drop, take-at, drop-at, getD-take, getD-drop}
-use borrow.Author.Tests.{lt-ltb, le-ltb, ltb-true, le-leb, eq-eqb, ne-eqb}
+use borrow.Author.Tests.{lt-ltb, le-ltb, ltb-true, le-leb, lt-leb, eq-eqb, ne-eqb}
 use Rattle.questions.proofs.Bools.{clash, both, and-both, lt-or-ge}
 use Rattle.table.specs.declared.Outcome.{Outcome}
 use Rattle.lines.specs.declared.Line.{Line}
@@ -21,7 +21,7 @@ use Rattle.command.specs.declared.Kept.{Kept}
 use Rattle.command.specs.Sessions.{answerText, keptAfter, restText, restKept}
 use Rattle.command.proofs.Session.{passed-bytes, text-byte, kept-byte, text-line, kept-line, text-end}
 use Rattle.sessions.specs.declared.Progress.{Progress}
-use Rattle.sessions.specs.Parts.{LineEnd, another, Next, Answers, LastAnswer}
+use Rattle.sessions.specs.Parts.{LineEnd, another, Passed, passed, passedOn, progressOf, Next, Answers, LastAnswer}
 
 -- ---- a line's end
 
@@ -112,6 +112,40 @@ put before after at next text r p =
     sizes : length after ≡ next + length (drop (at + length text) before)
     sizes = ap length is ∙ length-append (take at before ++ text) (drop (at + length text) before) ∙ ap (λ (k : ℕ). k + length (drop (at + length text) before)) size
 
+-- ---- the bytes of a part, as long as 512 bytes are free
+
+module _ (opening : List ℕ → ℕ → Outcome) (size : ℕ) (h : Kept) where
+  passed-byte : (text : List ℕ) (l : Line) (byte : ℕ) (rest : List ℕ) → (byte ≡ 10 → ⊥) → passed opening size h l text (byte ∷ rest) ≡ passed opening size h (extended l byte) text rest
+  unfolding passed
+  passed-byte text l byte rest n = rw (ne-eqb byte 10 n) refl
+
+  passed-line : (text : List ℕ) (l : Line) (byte : ℕ) (rest : List ℕ) → byte ≡ 10
+      → passed opening size h l text (byte ∷ rest) ≡ passedOn opening size (keptAfter opening h (lineCommand l)) emptyLine (text ++ answerText opening h (lineCommand l)) rest
+  unfolding passed passedOn
+  passed-line text l byte rest e = rw (eq-eqb byte 10 e) refl
+
+  module _ (l : Line) (text : List ℕ) where
+    passed-none : passed opening size h l text [] ≡ record { kept = h; line = l; text = text; left = [] }
+    unfolding passed
+    passed-none = refl
+
+    -- with no bytes all stays, with room or without it
+    on-none : passedOn opening size h l text [] ≡ record { kept = h; line = l; text = text; left = [] }
+    unfolding passedOn
+    on-none = go (leb (length text + 512) size)
+      where
+        go : (b : Bool) → cond b (passed opening size h l text []) (record { kept = h; line = l; text = text; left = [] }) ≡ record { kept = h; line = l; text = text; left = [] }
+        go true = passed-none
+        go false = refl
+
+    on-room : (bytes : List ℕ) → length text + 512 ≤ size → passedOn opening size h l text bytes ≡ passed opening size h l text bytes
+    unfolding passedOn
+    on-room bytes r = rw (le-leb (length text + 512) size r) refl
+
+    on-full : (bytes : List ℕ) → size < length text + 512 → passedOn opening size h l text bytes ≡ record { kept = h; line = l; text = text; left = bytes }
+    unfolding passedOn
+    on-full bytes r = rw (lt-leb (length text + 512) size r) refl
+
 -- ---- one line
 
 -- up to a line's end the line grows
@@ -143,6 +177,14 @@ module _ (opening : List ℕ → ℕ → Outcome) (part before : List ℕ) (s : 
   kept-on : (rest : List ℕ) → restKept opening (s .kept) (s .line) (drop (s .at) part ++ rest) ≡ restKept opening (s .kept) l (drop end part ++ rest)
   kept-on rest = to-end part (s .at) end e (restKept opening (s .kept)) (kept-byte opening (s .kept)) (s .line) rest ∙ ap (λ (k : Line). restKept opening (s .kept) k (drop end part ++ rest)) (sym f)
 
+  -- the bytes of the part, from the line's end on
+  ahead-on : (text : List ℕ) → passed opening (length before) (s .kept) (s .line) text (drop (s .at) part) ≡ passed opening (length before) (s .kept) l text (drop end part)
+  ahead-on text =
+      ap (passed opening (length before) (s .kept) (s .line) text) (sym (append-nil (drop (s .at) part)))
+      ∙ to-end part (s .at) end e (λ (k : Line) (bytes : List ℕ). passed opening (length before) (s .kept) k text bytes) (passed-byte opening (length before) (s .kept) text) (s .line) []
+      ∙ ap (passed opening (length before) (s .kept) (fed (s .line) (slice (s .at) end part)) text) (append-nil (drop end part))
+      ∙ ap (λ (k : Line). passed opening (length before) (s .kept) k text (drop end part)) (sym f)
+
   -- the line does not end in the part
   pub goes-past : length part ≤ end → Next opening part before before s (record { kept = s .kept; line = l; at = end; length = s .length })
   goes-past h =
@@ -155,7 +197,13 @@ module _ (opening : List ℕ → ℕ → Outcome) (part before : List ℕ) (s : 
         long = refl;
         fits = (omega arith, omega (arith, room-long before (s .length) room));
         on = (omega arith, e .within);
+        ahead = ahead-on (take (s .length) before) ∙ none-left;
       }
+    where
+      none-left : passed opening (length before) (s .kept) l (take (s .length) before) (drop end part) ≡ passedOn opening (length before) (s .kept) l (take (s .length) before) (drop end part)
+      none-left =
+          rw (drop-of-length-le part h)
+          (passed-none opening (length before) (s .kept) l (take (s .length) before) ∙ sym (on-none opening (length before) (s .kept) l (take (s .length) before)))
 
   -- a line feed ends it
   pub is-answered : (after : List ℕ) (kept : Kept) (next : ℕ) (empty : Line) → end < length part → empty ≡ emptyLine
@@ -172,6 +220,7 @@ module _ (opening : List ℕ → ℕ → Outcome) (part before : List ℕ) (s : 
         long = p .long;
         fits = (omega (arith, w .to), w .fits);
         on = (omega (arith, e .on), omega arith);
+        ahead = ahead-on (take (s .length) before) ∙ ahead-ends;
       }
     where
       answer : List ℕ
@@ -183,6 +232,9 @@ module _ (opening : List ℕ → ℕ → Outcome) (part before : List ℕ) (s : 
       cut : drop end part ≡ getD part end 0 ∷ drop (end + 1) part
       cut = drop-cons part end 0 h ∙ ap (λ (k : ℕ). getD part end 0 ∷ drop k part) (sym (add-one end))
 
+      ahead-ends : passed opening (length before) (s .kept) l (take (s .length) before) (drop end part) ≡ passedOn opening (length before) kept empty (take next after) (drop (end + 1) part)
+      ahead-ends = rw (cut, k, n, w .head) (passed-line opening (length before) (s .kept) (take (s .length) before) l (getD part end 0) (drop (end + 1) part) (e .feed h))
+
       text-ends : (rest : List ℕ) → restText opening (s .kept) l (drop end part ++ rest) ≡ answer ++ restText opening (kept) empty (drop (end + 1) part ++ rest)
       text-ends rest = rw (cut, k, n) (text-line opening (s .kept) l (getD part end 0) (drop (end + 1) part ++ rest) (e .feed h))
 
@@ -190,6 +242,9 @@ module _ (opening : List ℕ → ℕ → Outcome) (part before : List ℕ) (s : 
       kept-ends rest = rw (cut, k, n) (kept-line opening (s .kept) l (getD part end 0) (drop (end + 1) part ++ rest) (e .feed h))
 
 -- ---- all lines of a part
+
+same-progress : (s : Progress) (at n : ℕ) → at ≡ s .at → n ≡ s .length → s ≡ record { kept = s .kept; line = s .line; at = at; length = n }
+same-progress s at n e d = rw (e, d) refl
 
 -- on the way: nothing has been done yet, or the place has moved on
 pub record Going (opening : List ℕ → ℕ → Outcome) (h : Kept) (l : Line) (part : List ℕ) (from : ℕ) (before after : List ℕ) (r : Progress) : Type 0 where
@@ -200,10 +255,11 @@ pub record Going (opening : List ℕ → ℕ → Outcome) (h : Kept) (l : Line) 
   pub long : length after ≡ length before
   pub within : from ≤ length part → r .at ≤ length part
   pub on : ((r ≡ record { kept = h; line = l; at = from; length = 0 }) × (after ≡ before)) ⊎ ((512 ≤ length before) × (from < length part) × (from < r .at))
+  pub ahead : passedOn opening (length before) h l [] (drop from part) ≡ passedOn opening (length before) (r .kept) (r .line) (take (r .length) after) (drop (r .at) part)
 
 module _ (opening : List ℕ → ℕ → Outcome) (h : Kept) (l : Line) (part : List ℕ) (from : ℕ) (before : List ℕ) where
   pub begins : Going opening h l part from before before (record { kept = h; line = l; at = from; length = 0 })
-  begins = record { text = λ rest. refl; state = λ rest. refl; fits = omega arith; unchanged = refl; long = refl; within = λ k. k; on = inl (refl, refl) }
+  begins = record { text = λ rest. refl; state = λ rest. refl; fits = omega arith; unchanged = refl; long = refl; within = λ k. k; on = inl (refl, refl); ahead = refl }
 
   module _ (out : List ℕ) (s : Progress) (g : Going opening h l part from before out s) where
     pub goes : (after : List ℕ) (r : Progress) {b : Bool} → b ≡ another part (s .at) out (s .length) → b ≡ true → Next opening part out after s r → Going opening h l part from before after r
@@ -216,6 +272,7 @@ module _ (opening : List ℕ → ℕ → Outcome) (h : Kept) (l : Line) (part : 
           long = n .long ∙ g .long;
           within = λ k. n .on .1;
           on = inr (omega (arith, room-long out (s .length) (room .1), g .long), came (g .on), later (g .on));
+          ahead = g .ahead ∙ on-room opening (length before) (s .kept) (s .line) (take (s .length) out) (drop (s .at) part) free ∙ rw (g .long) at (n .ahead);
         }
       where
         room : (s .at < length part) × (roomy out (s .length) ≡ true)
@@ -223,6 +280,9 @@ module _ (opening : List ℕ → ℕ → Outcome) (h : Kept) (l : Line) (part : 
 
         in-part : s .at < length part
         in-part = room .0
+
+        free : length (take (s .length) out) + 512 ≤ length before
+        free = omega (arith, length-take-le (s .length) out (g .fits), room-long out (s .length) (room .1), g .long)
 
         joined : (rest : List ℕ) → take (s .length) out ++ restText opening (s .kept) (s .line) (drop (s .at) part ++ rest)
             ≡ take (r .length) after ++ restText opening (r .kept) (r .line) (drop (r .at) part ++ rest)
@@ -262,6 +322,8 @@ module _ (opening : List ℕ → ℕ → Outcome) (h : Kept) (l : Line) (part : 
           within = g .within;
           full = λ i. omega (arith, no-more i, g .long);
           idle = λ e. stays e (g .on);
+          is = same-progress s _ _ (place (g .on)) count ∙ ap (progressOf part from) (sym (g .ahead ∙ stopped (lt-or-ge (s .at) (length part))));
+          bytes = sym (ap (λ (p : Passed). p .text) (g .ahead ∙ stopped (lt-or-ge (s .at) (length part))));
         }
       where
         no-more : s .at < length part → length out < s .length + 512
@@ -280,6 +342,23 @@ module _ (opening : List ℕ → ℕ → Outcome) (h : Kept) (l : Line) (part : 
             let k : length out < s .length + 512 = no-more (omega arith) in
             omega (arith, g .long)
         moved m i (inr e) = e .2
+
+        count : length (take (s .length) out) ≡ s .length
+        count = length-take-le (s .length) out (g .fits)
+
+        place : Start ⊎ Moved → from + (length (drop from part) - length (drop (s .at) part)) ≡ s .at
+        place (inl e) =
+            let a : s .at ≡ from = ap (λ (q : Progress). q .at) (e .0) in
+            omega (arith, ap (λ (k : ℕ). length (drop k part)) a)
+        place (inr e) =
+            let w : s .at ≤ length part = g .within (omega (arith, e .1)) in
+            omega (arith, length-drop from part, length-drop (s .at) part, e .1, e .2)
+
+        stopped : (s .at < length part) ⊎ (length part ≤ s .at)
+            → passedOn opening (length before) (s .kept) (s .line) (take (s .length) out) (drop (s .at) part)
+            ≡ record { kept = s .kept; line = s .line; text = take (s .length) out; left = drop (s .at) part }
+        stopped (inl i) = on-full opening (length before) (s .kept) (s .line) (take (s .length) out) (drop (s .at) part) (omega (arith, count, no-more i, g .long))
+        stopped (inr i) = rw (drop-of-length-le part i) (on-none opening (length before) (s .kept) (s .line) (take (s .length) out))
 
         stays : (length before < 512) ⊎ (length part ≤ from) → Start ⊎ Moved → Start
         stays e (inl d) = d

@@ -1,19 +1,19 @@
 -- The text of the program `terms`, part by part of its input (01, March 2008 and its neighbours, 'The program `terms`').
 -- Assumes nothing.
-use Prim.Native.Nat.{ℕ, _+_, _%_, _^_, _≤_, _<_}
+use Prim.Native.Nat.{ℕ, _+_, _-_, _%_, _^_, _≤_, _<_}
 use mathlib.Core.Path.{_≡_}
-use mathlib.Core.Bool.{Bool, _&&_}
+use mathlib.Core.Bool.{Bool, _&&_, cond}
 use mathlib.Core.List.{List, [], _∷_, _++_}
 use mathlib.Core.Logic.{_⊎_}
-use lib.Dec.{ltb}
+use lib.Dec.{leb, ltb, eqb}
 use lib.ListN.{length, getD, take, drop}
 use Rattle.lines.specs.declared.Line.{Line}
-use Rattle.lines.specs.Lines.{emptyLine}
+use Rattle.lines.specs.Lines.{lineCommand, emptyLine, extended}
 use Rattle.printing.specs.Buffer.{roomy}
 use Rattle.years.specs.declared.FileCalendar.{FileCalendar}
 use Rattle.table.specs.declared.Outcome.{Outcome}
 use Rattle.command.specs.declared.Kept.{Kept}
-use Rattle.command.specs.Sessions.{nothingKept, restText, restKept, Known}
+use Rattle.command.specs.Sessions.{nothingKept, answerText, keptAfter, restText, restKept, Known}
 use Rattle.apart.specs.Apart.{tableWith, keptWith}
 use Rattle.sessions.specs.declared.Progress.{Progress}
 use Rattle.sessions.specs.declared.Step.{Step}
@@ -38,6 +38,32 @@ progressWith s closed exchange =
 abbrev pub KnownStep : FileCalendar → Bool → Step → List ℕ → List ℕ → Type 0
 KnownStep judged right s closed exchange = Known judged right (tableWith (s .replied .rest) closed exchange) (s .replied .ten)
 
+-- how far the bytes of a part are answered: what is kept, the line so far, the text that was written, and the bytes that are left
+pub record Passed : Type 0 where
+  pub kept : Kept
+  pub line : Line
+  pub text : List ℕ
+  pub left : List ℕ
+
+-- some bytes, with a table kept, a line begun and a text that stands in a buffer of so many bytes: a line that ends is answered, and after it the next one is looked at as long as 512 bytes are free
+unfoldable pub passed : (List ℕ → ℕ → Outcome) → ℕ → Kept → Line → List ℕ → List ℕ → Passed
+passed opening size h l text [] = record { kept = h; line = l; text = text; left = [] }
+passed opening size h l text (byte ∷ rest) =
+    let written = text ++ answerText opening h (lineCommand l) in
+    let after = keptAfter opening h (lineCommand l) in
+    cond (eqb byte 10)
+    (cond (leb (length written + 512) size) (passed opening size after emptyLine written rest) (record { kept = after; line = emptyLine; text = written; left = rest }))
+    (passed opening size h (extended l byte) text rest)
+
+-- the same where the first line, too, is looked at only where 512 bytes are free
+unfoldable pub passedOn : (List ℕ → ℕ → Outcome) → ℕ → Kept → Line → List ℕ → List ℕ → Passed
+passedOn opening size h l text bytes =
+    cond (leb (length text + 512) size) (passed opening size h l text bytes) (record { kept = h; line = l; text = text; left = bytes })
+
+-- the place in a part, from a place on, and the count of bytes in the buffer
+abbrev pub progressOf : List ℕ → ℕ → Passed → Progress
+progressOf part from p = record { kept = p .kept; line = p .line; at = from + (length (drop from part) - length (p .left)); length = length (p .text) }
+
 -- one line, or the rest of the part: a piece of text stands after what stood in the buffer, and for every rest of the input it is what comes next
 pub record Next (opening : List ℕ → ℕ → Outcome) (part before after : List ℕ) (s r : Progress) : Type 0 where
   pub piece : List ℕ
@@ -48,6 +74,7 @@ pub record Next (opening : List ℕ → ℕ → Outcome) (part before after : Li
   pub long : length after ≡ length before
   pub fits : (s .length ≤ r .length) × (r .length ≤ length after)
   pub on : (s .at < r .at) × (r .at ≤ length part)
+  pub ahead : passed opening (length before) (s .kept) (s .line) (take (s .length) before) (drop (s .at) part) ≡ passedOn opening (length before) (r .kept) (r .line) (take (r .length) after) (drop (r .at) part)
 
 -- the answers to the lines that end in a part from a place on
 pub record Answers (opening : List ℕ → ℕ → Outcome) (h : Kept) (l : Line) (part : List ℕ) (from : ℕ) (before after : List ℕ) (r : Progress) : Type 0 where
@@ -66,6 +93,9 @@ pub record Answers (opening : List ℕ → ℕ → Outcome) (h : Kept) (l : Line
   pub full : r .at < length part → length before < r .length + 512
   -- without room for an answer, or at a place past the part, all stays as it is
   pub idle : (length before < 512) ⊎ (length part ≤ from) → (r ≡ record { kept = h; line = l; at = from; length = 0 }) × (after ≡ before)
+  -- so on every input the place, the line, what is kept and the text are those of the lines that are answered as long as 512 bytes are free
+  pub is : r ≡ progressOf part from (passedOn opening (length before) h l [] (drop from part))
+  pub bytes : take (r .length) after ≡ passedOn opening (length before) h l [] (drop from part) .text
 
 -- the answer to a last line that no line feed ends: where there is room, what is printed for an input that has ended
 pub record LastAnswer (opening : List ℕ → ℕ → Outcome) (h : Kept) (l : Line) (before after : List ℕ) (r : ℕ) : Type 0 where
