@@ -134,7 +134,7 @@ line-short cal f n = go (eqb n 0) (leb n (coverDays (cal .cover)))
     go false false = place-short f (n - 1 - coverDays (cal .cover))
 
 -- the line of a refusal has at most 9
-refusal-short : (n : ℕ) → length (refusalText n) ≤ 9
+pub refusal-short : (n : ℕ) → length (refusalText n) ≤ 9
 unfolding refusalText
 refusal-short n = omega (arith, length-append (spaced n) (10 ∷ []), spaced-short n)
 

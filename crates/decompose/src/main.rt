@@ -1,9 +1,16 @@
 // The program `decompose`: reads a master file from standard input and prints its text, or the number of its refusal.
+mod output;
+
 use calendar::Calendar;
 use libc::STDIN_FILENO;
-use libc::STDOUT_FILENO;
+use output::Sent;
+ghost use mathlib.Core.Path.{_≡_};
+ghost use mathlib.Core.Bool.{true};
 ghost use Prim.Native.Nat.{_≤_};
 ghost use lib.ListN.{length};
+ghost use Rattle.years.specs.Calendars.{calendarOf};
+ghost use Rattle.master.specs.Load.{loadCall};
+ghost use Rattle.contents.specs.Whole.{decomposeText};
 ghost use Rattle.io.specs.Counts.{Counts};
 
 // How many bytes were read, and whether every read succeeded.
@@ -37,44 +44,47 @@ fn read_all(file: &mut [u8]) -> Input
     }
 }
 
-// Writes the first n bytes of a buffer, and answers whether the output took them. Where it did not, one line on standard error says why.
-fn write_out(out: &[u8], n: usize) -> bool
-    requires { ⌜ n ≤ length (now out) ⌝ }
-{
-    if io::write_all(STDOUT_FILENO, &out[..n]) {
-        return true;
-    }
-    os::fail(b"decompose: standard output");
-    false
-}
-
-// Writes the text of a file with this calendar, part by part.
-fn write_text(cal: Calendar, file: &[u8], out: &mut [u8])
-    requires { ⌜ 64 ≤ length (now out) ⌝ }
+// Writes the text of an accepted file with this calendar, part by part. A write that fails ends the run.
+fn write_text(cal: Calendar, file: &[u8], out: &mut [u8]) -> Sent
+    requires { ⌜ (64 ≤ length (now out)) × (length (now file) ≤ 65537) × (loadCall (now file) .refusal ≡ 0) × (cal ≡ calendarOf (now file)) ⌝ }
+    ensures { λ r. ⌜ (r .open ≡ true → r .bytes ≡ length (decomposeText (now (file .entry)))) ⌝ }
 {
     let count = contents::line_count(cal, file);
+    let mut sent = output::nothing_sent();
     let mut next: usize = 0;
     while next < count {
         let p = contents::print_lines(cal, file, next, out);
         next = p.next;
-        if !write_out(out, p.length) {
-            return;
+        sent = output::write_out(sent, file, out, p.length);
+        if !output::is_open(sent) {
+            return sent;
         }
     }
+    sent
 }
 
-// Writes the text of a file, or its refusal.
-fn answer(file: &[u8]) {
+// Writes the refusal of a file.
+fn write_refusal(refusal: u8, file: &[u8], out: &mut [u8]) -> Sent
+    requires { ⌜ (512 ≤ length (now out)) × (length (now file) ≤ 65537) × (loadCall (now file) .refusal ≡ refusal) × (refusal ≡ 0 → ⊥) ⌝ }
+    ensures { λ r. ⌜ (r .open ≡ true → r .bytes ≡ length (decomposeText (now (file .entry)))) ⌝ }
+{
+    let n = printing::print_refusal(out, 0, refusal);
+    output::write_out(output::nothing_sent(), file, out, n)
+}
+
+// Writes the text of a file, or its refusal: as many bytes as the definition has, each as the next of it.
+fn answer(file: &[u8]) -> Sent
+    requires { ⌜ length (now file) ≤ 65537 ⌝ }
+    ensures { λ r. ⌜ (r .open ≡ true → r .bytes ≡ length (decomposeText (now (file .entry)))) ⌝ }
+{
     let mut out = io::large_buffer();
     let loaded = master::load(file);
     let refusal = loaded.refusal;
     if refusal != 0 {
-        let n = printing::print_refusal(&mut out, 0, refusal);
-        write_out(&out, n);
-        return;
+        return write_refusal(refusal, file, &mut out);
     }
     let cal = years::calendar_of(file);
-    write_text(cal, file, &mut out);
+    write_text(cal, file, &mut out)
 }
 
 fn main() {

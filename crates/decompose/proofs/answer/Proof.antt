@@ -1,41 +1,50 @@
+-- The buffer has room for a line; load's answer says which of the two texts is the file's.
 use native.Mathlib.Omega.{arith}
+use mathlib.Core.Path.{_≡_, sym, ap, _∙_}
 use borrow.Author.Needs.{needs}
-use Rattle.contents.proofs.Lengths.{refusal-fits}
+use Rattle.questions.specs.Questions.{Answer}
+use Rattle.master.specs.declared.Counts.{Counts}
 use Rattle.decompose.proofs.answer.Statement.{statement}
 use Rattle.decompose.proofs.answer.Tie as tie
 
 large-buffer-requires : tie.Need-large-buffer-requires
-large-buffer-requires c κs = search needs
+large-buffer-requires c κs = tt
 
 load-requires : tie.Need-load-requires
-load-requires c κs = search needs
+load-requires c κs = tt
 
-slice-aggregate-print-refusal : tie.Need-slice-aggregate-print-refusal
-slice-aggregate-print-refusal c = search needs
+slice-aggregate-write-refusal : tie.Need-slice-aggregate-write-refusal
+slice-aggregate-write-refusal c = search needs
 
-print-refusal-requires : tie.Need-print-refusal-requires
-print-refusal-requires c κs = search needs
-
-slice-aggregate-write-out : tie.Need-slice-aggregate-write-out
-slice-aggregate-write-out c = search needs
-
-write-out-requires : tie.Need-write-out-requires
-write-out-requires c κs = omega (arith, refusal-fits _ _ (c .before .before .print-refusal .ensures))
+write-refusal-requires : tie.Need-write-refusal-requires
+write-refusal-requires c κs =
+    let at-load = c .before .before in (
+      omega (arith, at-load .before .large-buffer .ensures),
+      at-load .before .before .before .pre,
+      ap (λ (a : Answer Counts). a .refusal) (sym (at-load .load .ensures)),
+      c .before .if1 .taken,
+    )
 
 returns : tie.Need-returns
-returns c = search needs
+returns c = c .before .write-refusal .ensures
 
 calendar-of-requires : tie.Need-calendar-of-requires
-calendar-of-requires c κs = search needs
+calendar-of-requires c κs = tt
 
 slice-aggregate-write-text : tie.Need-slice-aggregate-write-text
 slice-aggregate-write-text c = search needs
 
 write-text-requires : tie.Need-write-text-requires
-write-text-requires c κs = search needs
+write-text-requires c κs =
+    let at-load = c .before .before .before in (
+      omega (arith, at-load .before .large-buffer .ensures),
+      at-load .before .before .before .pre,
+      ap (λ (a : Answer Counts). a .refusal) (sym (at-load .load .ensures)) ∙ c .before .before .if1 .left,
+      c .before .calendar-of .ensures,
+    )
 
 returns-2 : tie.Need-returns-2
-returns-2 c = search needs
+returns-2 c = c .before .write-text .ensures
 
 pub answer-spec : {M : Type 1} → statement M
 answer-spec =
@@ -43,10 +52,8 @@ answer-spec =
     (tie.spec
     large-buffer-requires
     load-requires
-    slice-aggregate-print-refusal
-    print-refusal-requires
-    slice-aggregate-write-out
-    write-out-requires
+    slice-aggregate-write-refusal
+    write-refusal-requires
     returns
     calendar-of-requires
     slice-aggregate-write-text
