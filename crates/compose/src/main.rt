@@ -1,18 +1,24 @@
 // The program `compose`: reads a list from standard input and writes the master file of what it says to standard output, or one line to standard error.
-use libc::STDERR_FILENO;
-use libc::STDIN_FILENO;
-use libc::STDOUT_FILENO;
 use lines::Line;
 use lists::Composed;
 use lists::Taken;
+use streams::Transfer;
 ghost use Prim.Native.Nat.{_≤_};
 ghost use lib.ListN.{length};
+ghost use Rattle.streams.specs.Transfers.{Within};
 
 // What the lines so far say, the line begun, and whether the list could be read to here.
 pub struct Reading {
     pub taken: Taken,
     pub line: Line,
     pub whole: bool,
+}
+
+// The next bytes of standard input at the start of part. A read that fails is told.
+fn read_part(part: &mut [u8]) -> Transfer
+    ensures { λ r. ⌜ Within r (now (part .exit)) ⌝ }
+{
+    streams::read_input_part(b"compose: standard input", part)
 }
 
 // Reads the list part by part. The loop has to be shown to end, so after 2^64 - 1 reads the list counts as ended.
@@ -22,15 +28,15 @@ fn read_list(records: &mut [u8]) -> Reading {
     let mut line = lines::empty_line();
     let mut turns: u64 = 18446744073709551615;
     while 0 < turns {
-        let got = libc::read(STDIN_FILENO, &mut part);
-        if got < 0 {
+        let read = read_part(&mut part);
+        if read.failed {
             return Reading {
                 taken,
                 line,
                 whole: false,
             };
         }
-        let n = io::count(got, &part);
+        let n = read.length;
         if n == 0 {
             break;
         }
@@ -48,9 +54,11 @@ fn read_list(records: &mut [u8]) -> Reading {
 
 // One line on standard error: a word and a number.
 fn say(word: &[u8], number: u32) {
-    io::write_all(STDERR_FILENO, word);
-    io::print_decimal(STDERR_FILENO, number as u64);
-    io::write_all(STDERR_FILENO, b"\n");
+    let mut digits = [0u8; 20];
+    let n = io::decimal(number as u64, &mut digits);
+    streams::tell(word);
+    streams::tell(&digits[..n]);
+    streams::tell(b"\n");
 }
 
 // Writes the file, or says why there is none.
@@ -66,9 +74,8 @@ fn answer(c: Composed, file: &[u8])
         return;
     }
     let n = c.length;
-    if !io::write_all(STDOUT_FILENO, &file[..n]) {
-        os::fail(b"compose: standard output");
-    }
+    let sent = streams::nothing_sent();
+    streams::write_next(sent, b"compose: standard output", &file[..n]);
 }
 
 fn main() {
@@ -76,7 +83,6 @@ fn main() {
     let mut file = io::large_buffer();
     let r = read_list(&mut records);
     if !r.whole {
-        os::fail(b"compose: standard input");
         return;
     }
     let begun = r.taken;

@@ -100,7 +100,7 @@ fn judged(
         return;
     }
     let read = input::read_notices(text);
-    if !read.there {
+    if read.failed {
         return;
     }
     let n = read.length;
@@ -115,7 +115,7 @@ fn main() {
     let mut refusals = [0u8; 6554];
     let mut out = [0u8; 1024];
     let read = input::read_master(&mut file);
-    if !read.there {
+    if read.failed {
         return;
     }
     let size = read.length;

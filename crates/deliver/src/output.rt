@@ -1,6 +1,4 @@
 // Rows on standard output, and what is told on standard error.
-use libc::STDERR_FILENO;
-use libc::STDOUT_FILENO;
 use lines::Line;
 ghost use Prim.Native.Nat.{_≤_};
 ghost use lib.ListN.{length};
@@ -18,11 +16,9 @@ fn within(out: &[u8], n: usize) -> usize
 // Writes the first n bytes of a buffer, and answers whether the output took them. Where it did not, one line on standard error says why.
 pub(crate) fn write_out(out: &[u8], n: usize) -> bool {
     let end = within(out, n);
-    if io::write_all(STDOUT_FILENO, &out[..end]) {
-        return true;
-    }
-    os::fail(b"deliver: standard output");
-    false
+    let before = streams::nothing_sent();
+    let sent = streams::write_next(before, b"deliver: standard output", &out[..end]);
+    streams::is_open(sent)
 }
 
 // Writes a line to standard output, and answers whether it took it.
@@ -38,5 +34,5 @@ pub(crate) fn tell(line: Line) {
     }
     let bytes = line.bytes;
     let end = within(&bytes, line.length);
-    io::write_all(STDERR_FILENO, &bytes[..end]);
+    streams::tell(&bytes[..end]);
 }

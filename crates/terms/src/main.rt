@@ -4,7 +4,7 @@ mod output;
 
 use command::Kept;
 use lines::Line;
-use output::Sent;
+use output::SentText;
 use sessions::Progress;
 use years::FileCalendar;
 ghost use mathlib.Core.Path.{_≡_};
@@ -17,21 +17,21 @@ ghost use Rattle.table.specs.Table.{openCall, openIn};
 ghost use Rattle.command.specs.Sessions.{restText};
 ghost use Rattle.sessions.specs.Parts.{counted, Handed, Ran};
 
-// What is kept from one part of the input to the next: the table, the line so far, and what has been written.
+// What is kept from one part of the input to the next: the table, the line so far, and what has been sent of the text.
 pub struct Carried {
     pub kept: Kept,
     pub line: Line,
-    pub sent: Sent,
+    pub text: SentText,
 }
 
 // Writes the answers to all lines that end in a part of the input. A write that fails ends the run.
 fn write_part(file: &[u8], judged: FileCalendar, k: Carried, part: &[u8], out: &mut [u8]) -> Carried
     requires { ⌜ 512 ≤ length (now out) ⌝ }
-    ensures { λ r. ⌜ (r .sent .open ≡ true → Handed (openIn (calendarAnswer judged) (now (file .entry))) (k .kept) (k .line) (now (part .entry)) (k .sent .bytes) (r .kept) (r .line) [] (r .sent .bytes)) ⌝ }
+    ensures { λ r. ⌜ (r .text .sent .open ≡ true → Handed (openIn (calendarAnswer judged) (now (file .entry))) (k .kept) (k .line) (now (part .entry)) (k .text .sent .bytes) (r .kept) (r .line) [] (r .text .sent .bytes)) ⌝ }
 {
     let kept = k.kept;
     let line = k.line;
-    let mut sent = k.sent;
+    let mut text = k.text;
     let mut s = Progress {
         kept,
         line,
@@ -40,10 +40,10 @@ fn write_part(file: &[u8], judged: FileCalendar, k: Carried, part: &[u8], out: &
     };
     while s.at < part.len() {
         let p = sessions::answer_part(file, judged, s.kept, s.line, part, s.at, out);
-        sent = output::write_out(sent, file, judged, part, s, p, out);
+        text = output::write_out(text, file, judged, part, s, p, out);
         s = p;
-        if !output::is_open(sent) {
-            return Carried { kept, line, sent };
+        if !output::is_open(text) {
+            return Carried { kept, line, text };
         }
     }
     let after = s.kept;
@@ -51,14 +51,14 @@ fn write_part(file: &[u8], judged: FileCalendar, k: Carried, part: &[u8], out: &
     Carried {
         kept: after,
         line: begun,
-        sent,
+        text,
     }
 }
 
 // Writes the answer to a last line that no line feed ends.
-fn write_last(file: &[u8], judged: FileCalendar, k: Carried, out: &mut [u8]) -> Sent
+fn write_last(file: &[u8], judged: FileCalendar, k: Carried, out: &mut [u8]) -> SentText
     requires { ⌜ 512 ≤ length (now out) ⌝ }
-    ensures { λ r. ⌜ (r .open ≡ true → r .bytes ≡ counted (k .sent .bytes) (length (restText (openIn (calendarAnswer judged) (now (file .entry))) (k .kept) (k .line) []))) ⌝ }
+    ensures { λ r. ⌜ (r .sent .open ≡ true → r .sent .bytes ≡ counted (k .text .sent .bytes) (length (restText (openIn (calendarAnswer judged) (now (file .entry))) (k .kept) (k .line) []))) ⌝ }
 {
     let kept = k.kept;
     let line = k.line;
@@ -75,20 +75,20 @@ fn write_last(file: &[u8], judged: FileCalendar, k: Carried, out: &mut [u8]) -> 
         at: 0,
         length: n,
     };
-    output::write_out(k.sent, file, judged, file, from, to, out)
+    output::write_out(k.text, file, judged, file, from, to, out)
 }
 
-// Judges the file once, and reads the input part by part. What is answered is written before the next read. The loop has to be shown to end, so after 2^64 - 1 reads the input counts as ended.
-fn run(file: &[u8]) -> Sent
-    ensures { λ r. ⌜ (r .open ≡ true → Ran (openCall (now (file .entry))) (r .bytes)) ⌝ }
+// Judges the file once, and reads the input part by part. What is answered is written before the next read. A read that fails ends the input. The loop has to be shown to end, so after 2^64 - 1 reads the input counts as ended.
+fn run(file: &[u8]) -> SentText
+    ensures { λ r. ⌜ (r .sent .open ≡ true → Ran (openCall (now (file .entry))) (r .sent .bytes)) ⌝ }
 {
     let judged = master::judge(file);
     let mut part = io::large_buffer();
     let mut out = io::large_buffer();
     let kept = command::nothing_kept();
     let line = lines::empty_line();
-    let sent = output::nothing_sent();
-    let mut k = Carried { kept, line, sent };
+    let text = output::no_text();
+    let mut k = Carried { kept, line, text };
     let mut turns: u64 = 18446744073709551615;
     while 0 < turns {
         let n = input::read_part(&mut part);
@@ -96,8 +96,8 @@ fn run(file: &[u8]) -> Sent
             break;
         }
         k = write_part(file, judged, k, &part[..n], &mut out);
-        if !output::is_open(k.sent) {
-            return k.sent;
+        if !output::is_open(k.text) {
+            return k.text;
         }
         turns -= 1;
     }

@@ -1,3 +1,4 @@
+-- The file's bytes lie within its buffer.
 use borrow.Author.Needs.{needs}
 use mathlib.Core.Path.{sym}
 use lib.Seq.{length-take-le}
@@ -25,23 +26,20 @@ say-requires-2 c κs = search needs
 returns-2 : tie.Need-returns-2
 returns-2 c = search needs
 
-slice-aggregate-write-all : tie.Need-slice-aggregate-write-all
-slice-aggregate-write-all c = sym (length-take-le _ _ (c .before .before .before .before .before .before .pre))
+nothing-sent-requires : tie.Need-nothing-sent-requires
+nothing-sent-requires c κs = tt
 
-write-all-requires : tie.Need-write-all-requires
-write-all-requires c κs = search needs
+slice-aggregate-write-next : tie.Need-slice-aggregate-write-next
+slice-aggregate-write-next c = search needs
 
-slice-aggregate-fail : tie.Need-slice-aggregate-fail
-slice-aggregate-fail c = search needs
+slice-aggregate-write-next-2 : tie.Need-slice-aggregate-write-next-2
+slice-aggregate-write-next-2 c = sym (length-take-le _ _ (search needs))
 
-fail-requires : tie.Need-fail-requires
-fail-requires c κs = search needs
+write-next-requires : tie.Need-write-next-requires
+write-next-requires c κs = tt
 
 returns-3 : tie.Need-returns-3
 returns-3 c = search needs
-
-returns-4 : tie.Need-returns-4
-returns-4 c = search needs
 
 pub answer-spec : {M : Type 1} → statement M
 answer-spec =
@@ -54,9 +52,8 @@ answer-spec =
     cast-say
     say-requires-2
     returns-2
-    slice-aggregate-write-all
-    write-all-requires
-    slice-aggregate-fail
-    fail-requires
-    returns-3
-    returns-4)
+    nothing-sent-requires
+    slice-aggregate-write-next
+    slice-aggregate-write-next-2
+    write-next-requires
+    returns-3)

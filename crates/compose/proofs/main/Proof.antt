@@ -16,12 +16,6 @@ slice-aggregate-read-list c = search needs
 read-list-requires : tie.Need-read-list-requires
 read-list-requires c κs = search needs
 
-slice-aggregate-fail : tie.Need-slice-aggregate-fail
-slice-aggregate-fail c = search needs
-
-fail-requires : tie.Need-fail-requires
-fail-requires c κs = search needs
-
 returns : tie.Need-returns
 returns c = search needs
 
@@ -57,8 +51,6 @@ main-spec =
     large-buffer-requires-2
     slice-aggregate-read-list
     read-list-requires
-    slice-aggregate-fail
-    fail-requires
     returns
     slice-aggregate-take-last
     take-last-requires

@@ -1,5 +1,7 @@
+-- The lengths of the two buffers are kept; each turn uses up one of the turns.
 use borrow.Author.Needs.{needs}
-use mathlib.Core.Path.{_≡_, refl, sym, _∙_}
+use native.Mathlib.Omega.{arith}
+use mathlib.Core.Path.{_≡_, refl, sym}
 use lib.ListN.{length}
 use Rattle.compose.proofs.read_list.Statement.{statement}
 use Rattle.compose.proofs.read_list.Tie as tie
@@ -22,23 +24,17 @@ empty-line-requires c κs = search needs
 loop-holds : tie.Need-loop-holds Inv-loop μ-loop
 loop-holds c = (sym (c .before .before .large-buffer .ensures), refl)
 
-slice-aggregate-read : tie.Need-slice-aggregate-read Inv-loop μ-loop
-slice-aggregate-read c = search needs
+slice-aggregate-read-part : tie.Need-slice-aggregate-read-part Inv-loop μ-loop
+slice-aggregate-read-part c = search needs
 
-read-requires : tie.Need-read-requires Inv-loop μ-loop
-read-requires c κs = search needs
+read-part-requires : tie.Need-read-part-requires Inv-loop μ-loop
+read-part-requires c κs = search needs
 
 same-length : tie.Need-same-length Inv-loop μ-loop
 same-length c = search needs
 
 returns : tie.Need-returns Inv-loop μ-loop
 returns c = search needs
-
-slice-aggregate-count : tie.Need-slice-aggregate-count Inv-loop μ-loop
-slice-aggregate-count c = search needs
-
-count-requires : tie.Need-count-requires Inv-loop μ-loop
-count-requires c κs = search needs
 
 array-share-prefix-part : tie.Need-array-share-prefix-part Inv-loop μ-loop
 array-share-prefix-part c = search needs
@@ -56,7 +52,7 @@ loop-less : tie.Need-loop-less Inv-loop μ-loop
 loop-less c = search needs
 
 loop-again : tie.Need-loop-again Inv-loop μ-loop
-loop-again c = (search needs, c .before .before .before .before .take-part .ensures .buffer .long ∙ c .before .before .before .before .before .before .before .before .before .before .before .before .before .before .before .loop .inv .1)
+loop-again c = (search needs, omega (arith, c .before .before .before .before .take-part .ensures .buffer .long))
 
 same-length-2 : tie.Need-same-length-2 Inv-loop μ-loop
 same-length-2 c = search needs
@@ -80,12 +76,10 @@ read-list-spec =
     nothing-taken-requires
     empty-line-requires
     loop-holds
-    slice-aggregate-read
-    read-requires
+    slice-aggregate-read-part
+    read-part-requires
     same-length
     returns
-    slice-aggregate-count
-    count-requires
     array-share-prefix-part
     slice-aggregate-take-part
     take-part-requires

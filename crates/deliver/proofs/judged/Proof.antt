@@ -29,7 +29,7 @@ slice-reshare-prefix-run : tie.Need-slice-reshare-prefix-run
 slice-reshare-prefix-run c = search needs
 
 slice-aggregate-run : tie.Need-slice-aggregate-run
-slice-aggregate-run c = sym (length-take-le _ _ (c .before .before .before .before .before .read-notices .ensures))
+slice-aggregate-run c = sym (length-take-le _ _ (search needs))
 
 run-requires : tie.Need-run-requires
 run-requires c κs = tt

@@ -17,7 +17,7 @@ array-share-prefix-file : tie.Need-array-share-prefix-file
 array-share-prefix-file c = search needs
 
 slice-aggregate-judged : tie.Need-slice-aggregate-judged
-slice-aggregate-judged c = sym (length-take-le _ _ (c .before .before .before .before .read-master .ensures))
+slice-aggregate-judged c = sym (length-take-le _ _ (search needs))
 
 slice-aggregate-judged-2 : tie.Need-slice-aggregate-judged-2
 slice-aggregate-judged-2 c = search needs

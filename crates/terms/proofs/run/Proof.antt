@@ -13,7 +13,7 @@ use Rattle.terms.proofs.run.Statement.{statement}
 use Rattle.terms.proofs.run.Tie as tie
 
 abbrev Inv-loop : tie.InvT-loop
-Inv-loop file judged part₀ out₀ k₀ turns₀ part out k turns = (length part ≡ 65536) × (length out ≡ 65536) × (calendarAnswer judged ≡ judgeCall file) × Came (openIn (calendarAnswer judged) file) (k .kept) (k .line) (k .sent .bytes)
+Inv-loop file judged part₀ out₀ k₀ turns₀ part out k turns = (length part ≡ 65536) × (length out ≡ 65536) × (calendarAnswer judged ≡ judgeCall file) × Came (openIn (calendarAnswer judged) file) (k .kept) (k .line) (k .text .sent .bytes)
 
 abbrev μ-loop : tie.MeasureT-loop
 μ-loop file judged part₀ out₀ k₀ turns₀ part out k turns = turns
@@ -36,10 +36,10 @@ empty-line-requires c κs = tt
 loop-holds : tie.Need-loop-holds Inv-loop μ-loop
 loop-holds c =
     let at-large-buffer2 = c .before .before .before in
-    (sym (at-large-buffer2 .before .large-buffer .ensures), sym (at-large-buffer2 .large-buffer2 .ensures), at-large-buffer2 .before .before .judge .ensures, rw (c .nothing-sent .ensures .1, c .before .empty-line .ensures, c .before .before .nothing-kept .ensures) (came-none _))
+    (sym (at-large-buffer2 .before .large-buffer .ensures), sym (at-large-buffer2 .large-buffer2 .ensures), at-large-buffer2 .before .before .judge .ensures, rw (c .no-text .ensures .1, c .before .empty-line .ensures, c .before .before .nothing-kept .ensures) (came-none _))
 
-nothing-sent-requires : tie.Need-nothing-sent-requires Inv-loop μ-loop
-nothing-sent-requires c κs = tt
+no-text-requires : tie.Need-no-text-requires Inv-loop μ-loop
+no-text-requires c κs = tt
 
 slice-aggregate-read-part : tie.Need-slice-aggregate-read-part Inv-loop μ-loop
 slice-aggregate-read-part c = search needs
@@ -106,7 +106,7 @@ run-spec =
     large-buffer-requires-2
     nothing-kept-requires
     empty-line-requires
-    nothing-sent-requires
+    no-text-requires
     loop-holds
     slice-aggregate-read-part
     read-part-requires

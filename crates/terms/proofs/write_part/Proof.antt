@@ -13,11 +13,11 @@ use Rattle.terms.proofs.write_part.Statement.{statement}
 use Rattle.terms.proofs.write_part.Tie as tie
 
 abbrev Inv-loop : tie.InvT-loop
-Inv-loop file judged part out₀ kept line sent₀ s₀ out sent s =
-    (512 ≤ length out₀) × (length out ≡ length out₀) × Handed (openIn (calendarAnswer judged) file) (s₀ .kept) (s₀ .line) part (sent₀ .bytes) (s .kept) (s .line) (drop (s .at) part) (sent .bytes)
+Inv-loop file judged part out₀ kept line text₀ s₀ out text s =
+    (512 ≤ length out₀) × (length out ≡ length out₀) × Handed (openIn (calendarAnswer judged) file) (s₀ .kept) (s₀ .line) part (text₀ .sent .bytes) (s .kept) (s .line) (drop (s .at) part) (text .sent .bytes)
 
 abbrev μ-loop : tie.MeasureT-loop
-μ-loop file judged part out₀ kept line sent₀ s₀ out sent s = length part - s .at
+μ-loop file judged part out₀ kept line text₀ s₀ out text s = length part - s .at
 
 loop-holds : tie.Need-loop-holds Inv-loop μ-loop
 loop-holds c = (omega arith, refl, handed-none _ _ _ _ _ (search needs))

@@ -16,11 +16,11 @@ within-requires c κs = tt
 array-share-prefix-bytes : tie.Need-array-share-prefix-bytes
 array-share-prefix-bytes c = search needs
 
-slice-aggregate-write-all : tie.Need-slice-aggregate-write-all
-slice-aggregate-write-all c = sym (length-take-le _ _ (c .before .within .ensures))
+slice-aggregate-tell : tie.Need-slice-aggregate-tell
+slice-aggregate-tell c = sym (length-take-le _ _ (c .before .within .ensures))
 
-write-all-requires : tie.Need-write-all-requires
-write-all-requires c κs = tt
+tell-requires : tie.Need-tell-requires
+tell-requires c κs = tt
 
 returns-2 : tie.Need-returns-2
 returns-2 c = search needs
@@ -33,6 +33,6 @@ tell-spec =
     slice-aggregate-within
     within-requires
     array-share-prefix-bytes
-    slice-aggregate-write-all
-    write-all-requires
+    slice-aggregate-tell
+    tell-requires
     returns-2)

@@ -1,39 +1,26 @@
-use mathlib.Core.Path.{sym}
-use mathlib.Core.Bool.{true≢false}
+-- All of the bytes are handed to the library's write, whose count grows by their number.
+use mathlib.Core.Path.{sym, ap, _∙_}
+use Prim.Native.Nat.{ℕ}
 use lib.Seq.{length-take-le}
 use borrow.Author.Needs.{needs}
+use Rattle.sessions.specs.Parts.{counted}
 use Rattle.terms.proofs.output.write_out.Statement.{statement}
 use Rattle.terms.proofs.output.write_out.Tie as tie
 
-slice-aggregate-write-all : tie.Need-slice-aggregate-write-all
-slice-aggregate-write-all c = sym (length-take-le _ _ (c .before .before .before .before .pre .0))
+slice-aggregate-write-next : tie.Need-slice-aggregate-write-next
+slice-aggregate-write-next c = search needs
 
-write-all-requires : tie.Need-write-all-requires
-write-all-requires c κs = tt
+slice-aggregate-write-next-2 : tie.Need-slice-aggregate-write-next-2
+slice-aggregate-write-next-2 c = sym (length-take-le _ _ (c .before .before .before .before .before .pre .0))
 
-wrapping-add-u64-requires : tie.Need-wrapping-add-u64-requires
-wrapping-add-u64-requires c κs = tt
+write-next-requires : tie.Need-write-next-requires
+write-next-requires c κs = tt
 
 returns : tie.Need-returns
-returns c = λ e. c .wrapping-add-u64 .ensures
-
-slice-aggregate-fail : tie.Need-slice-aggregate-fail
-slice-aggregate-fail c = search needs
-
-fail-requires : tie.Need-fail-requires
-fail-requires c κs = tt
-
-returns-2 : tie.Need-returns-2
-returns-2 c = λ e. absurd (true≢false (sym e))
+returns c = λ e.
+    let start = c .before .before .before .before .before .before in
+    c .write-next .ensures e .1 ∙ ap (λ (n : ℕ). counted (start .args .text .sent .bytes) n) (length-take-le _ _ (start .pre .0))
 
 pub write-out-spec : {M : Type 1} → statement M
 write-out-spec =
-    tie.close
-    (tie.spec
-    slice-aggregate-write-all
-    write-all-requires
-    wrapping-add-u64-requires
-    returns
-    slice-aggregate-fail
-    fail-requires
-    returns-2)
+    tie.close (tie.spec slice-aggregate-write-next slice-aggregate-write-next-2 write-next-requires returns)
