@@ -85,12 +85,13 @@ class Reads(faults.FailingReads):
                          (0, b'BAD\nNO 1\nBAD\n', b''))
 
     # A standard input that cannot be read counts as one that has ended (docs/DECISIONS.md,
-    # 22): a line begun is answered as the last one, and nothing more is read.
+    # 22): a line begun is answered as the last one, and nothing more is read. It is told (55).
     def test_input(self):
         commands = OPEN + b'R 2008-03-21\nC 2008-03-25\n' + OPEN * MANY
+        said = f'terms: standard input: {os.strerror(errno.EIO)}\n'.encode()
         for at in (0, 1, len(OPEN) - 1, len(OPEN), len(OPEN) + 3, len(OPEN) + 12, len(OPEN) + 13, 65536):
             with self.subTest(at=at):
-                self.assertEqual(self.run_with(commands, FAULT_AT=str(at)), (0, answers(commands[:at]), b''))
+                self.assertEqual(self.run_with(commands, FAULT_AT=str(at)), (0, answers(commands[:at]), said))
 
 
 class Writes(unittest.TestCase):

@@ -1,4 +1,5 @@
-"""Reads that fail: a library that is loaded before the C library, from failing_read.c."""
+"""Reads and writes that fail: libraries that are loaded before the C library, from
+failing_read.c and failing_write.c."""
 
 import os
 import shutil
@@ -6,17 +7,33 @@ import subprocess
 import tempfile
 import unittest
 
-SOURCE = os.path.join(os.path.dirname(os.path.abspath(__file__)), 'failing_read.c')
+FOLDER = os.path.dirname(os.path.abspath(__file__))
 COMPILER = shutil.which('cc')
 
 
-# Tests of a program whose reads fail; without a C compiler they are skipped.
+# Tests of a program whose reads or writes fail; without a C compiler they are skipped.
 @unittest.skipUnless(COMPILER, 'no C compiler')
-class FailingReads(unittest.TestCase):
+class FailingCalls(unittest.TestCase):
+
+    # The library of one of the files.
+    @classmethod
+    def made(cls, name):
+        folder = tempfile.TemporaryDirectory()
+        cls.addClassCleanup(folder.cleanup)
+        library = os.path.join(folder.name, f'{name}.so')
+        subprocess.run([COMPILER, '-shared', '-fPIC', '-O1', '-o', library, os.path.join(FOLDER, f'{name}.c')], check=True)
+        return library
+
+
+class FailingReads(FailingCalls):
 
     @classmethod
     def setUpClass(cls):
-        folder = tempfile.TemporaryDirectory()
-        cls.addClassCleanup(folder.cleanup)
-        cls.library = os.path.join(folder.name, 'failing_read.so')
-        subprocess.run([COMPILER, '-shared', '-fPIC', '-O1', '-o', cls.library, SOURCE], check=True)
+        cls.library = cls.made('failing_read')
+
+
+class FailingWrites(FailingCalls):
+
+    @classmethod
+    def setUpClass(cls):
+        cls.library = cls.made('failing_write')

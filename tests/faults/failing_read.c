@@ -5,7 +5,9 @@
                none fails
    FAULT_ENDS  1: the reads after the failed one find the file's end. Else they go
                on where it failed.
-   FAULT_MOST  the most bytes that a read of the file gets */
+   FAULT_MOST  the most bytes that a read of the file gets
+   FAULT_INTERRUPTS  how many times a signal interrupts a read of the file (EINTR)
+               before it goes on */
 #define _GNU_SOURCE
 #include <errno.h>
 #include <stdlib.h>
@@ -15,6 +17,7 @@
 
 static long place;
 static int failed;
+static long interrupts;
 
 static long number(const char *name, long otherwise) {
   const char *text = getenv(name);
@@ -31,6 +34,12 @@ static int is_the_file(int fd) {
 ssize_t read(int fd, void *buffer, size_t size) {
   if (!is_the_file(fd))
     return syscall(SYS_read, fd, buffer, size);
+  if (interrupts < number("FAULT_INTERRUPTS", 0)) {
+    interrupts++;
+    errno = EINTR;
+    return -1;
+  }
+  interrupts = 0;
   long at = number("FAULT_AT", -1), most = number("FAULT_MOST", (long)size);
   if (!failed && place == at) {
     failed = 1;
