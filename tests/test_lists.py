@@ -25,6 +25,8 @@ WRONG_COMPOSE = {
     'a status': '{}; exit 3',
     'another number': '{} 2>&1 >/dev/null | sed s/NO/BAD/ >&2',
     'the answer on standard output': '{} 2>&1',
+    'no line': '{} 2>&1 >/dev/null | sed "s/ line.*//" >&2',
+    'no id': '{} 2>&1 >/dev/null | sed "s/ AXA$//" >&2',
 }
 WRONG_DECOMPOSE = {
     'a line less': '{} | head -n -1',
@@ -108,6 +110,7 @@ class Compare(unittest.TestCase):
     # A refused text, and a file with closed days of both kinds that is given back.
     def run_both(self, programs):
         programs.text('no product', texts.text(texts.COVER))
+        programs.text('7', texts.text(texts.COVER, texts.changed(7, b'JPY')))
         return programs.file('X and C', lists.compose(
             texts.text(texts.COVER, texts.WEEK[4], b'X 2008-03-24', texts.changed(5, b'100.0001')))[0])
 

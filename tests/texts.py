@@ -12,6 +12,7 @@ COVER = b'Y 2008 3'
 AXA = b'P AXA FR11 XPAR 1 100 100 EUR'
 WEEK = [b'C 2008-03-%d' % day for day in range(17, 22)]
 MADE_UP = b'S 0 2008 1'
+MARK = b'\xef\xbb\xbf'
 # 02, note 14: the days of 2008 that seed 0 closes, by hand.
 CLOSED = [b'C 2008-' + day for day in
           (b'01-21', b'02-04', b'02-13', b'05-30', b'09-04', b'10-03', b'11-18', b'12-09', b'12-23')]
@@ -44,8 +45,9 @@ def cover_faults():
                        (b'Y 2100 1', b'NO 3'), (b'Y 65535 65535', b'NO 3'), (b'Y 0 1', b'NO 3')):
         yield line.decode(), text(line, AXA), said + b'\n'
     for line in (b'Y 65536 1', b'Y 2008 65536', b'Y 2008', b'Y 2008 3 1', b'Y  2008 3', b'Y 2008  3', b' Y 2008 3',
-                 b'Y 2008 3 ', b'Y 2008 3\r', b'y 2008 3', b'YY 2008 3', b'Y2008 3', b'Y 2008 x', b'Y -1 3',
-                 b'Y 2008 3.0', b'Y 99999999999999999999999999 3', b'Y', b'', b'Z 2008 3'):
+                 b'Y 2008 3 #', b'Y 2008\t3', b'\tY 2008 3', b'y 2008 3', b'YY 2008 3', b'Y2008 3', b'Y 2008 x', b'Y -1 3',
+                 b'Y 2008 3.0', b'Y 99999999999999999999999999 3', b'Y', b'Z 2008 3', 2 * MARK + b'Y 2008 3', MARK[:2] + b'Y 2008 3',
+                 b' #', b'Y 2008 3\0'):
         yield repr(line), text(line, AXA), b'BAD 1\n'
     yield 'no cover', text(AXA), b'BAD 1\n'
     yield 'a day first', text(WEEK[0], COVER, AXA), b'BAD 1\n'
@@ -60,7 +62,7 @@ def seed_faults():
         yield line.decode(), text(line, AXA), b'NO 4\n'
     for line in (b'S 4294967296 2008 3', b'S 4294967303 2008 3', b'S 18446744073709551623 2008 3', b'S 7 65536 1',
                  b'S 7 2008 65536', b'S 2008 3', b'S 7 2008', b'S 7 2008 3 1', b'S  7 2008 3', b'S 7  2008 3',
-                 b'S 7 2008  3', b'S  2008 3', b' S 7 2008 3', b'S 7 2008 3 ', b'S 7 2008 3\r', b's 7 2008 3',
+                 b'S 7 2008  3', b'S  2008 3', b' S 7 2008 3', b'S 7 2008 3 #', b'S 7 2008 3\r1', b's 7 2008 3',
                  b'SS 7 2008 3', b'S7 2008 3', b'S x 2008 3', b'S 7 x 3', b'S 7 2008 x', b'S -1 2008 3', b'S 7.0 2008 3',
                  b'S 0x7 2008 3', b'S', b'Y 7 2008 3', b'T 7 2008 3', b'S %s 2008 3' % b'7'.rjust(55, b'0')):
         yield repr(line), text(line, AXA), b'BAD 1\n'
@@ -73,20 +75,20 @@ def seed_faults():
         yield f'a seed, a product, then {line!r}', text(MADE_UP, AXA, line), b'BAD 3\n'
     yield 'a closed day after a seed whose cover is not right', text(b'S 7 1999 1', AXA, b'C 2008-03-21'), b'BAD 3\n'
     yield 'a seed, 4 before 7', text(b'S 7 2000 17', changed(7, b'JPY')), b'NO 4\n'
-    yield 'a seed and 7', text(MADE_UP, changed(7, b'JPY')), b'NO 7\n'
-    yield 'a seed and 8', text(MADE_UP, AXA, AXA), b'NO 8\n'
+    yield 'a seed and 7', text(MADE_UP, changed(7, b'JPY')), b'NO 7 line 2 AXA\n'
+    yield 'a seed and 8', text(MADE_UP, AXA, AXA), b'NO 8 line 3 AXA\n'
     yield 'a seed and 25', text(MADE_UP, *many(1906)), b'NO 25\n'
 
 
 def day_faults():
     for line in (b'C 2008-02-30', b'C 2008-3-21', b'C 2007-12-31', b'X 2011-01-01', b'X 1999-12-31', b'C 2100-01-01',
-                 b'C 2008-03-21 ', b'C  2008-03-21', b'C 2008/03/21', b'C', b'C 2008-03-21 2008-03-24', b'c 2008-03-21',
-                 b'R 2008-03-21', b'X 20080321', b'D 2008-03-21', b'\xff 2008-03-21', b'', b' '):
+                 b'C 2008-03-21 .', b'C  2008-03-21', b'C 2008/03/21', b'C', b'C 2008-03-21 2008-03-24', b'c 2008-03-21',
+                 b'R 2008-03-21', b'X 20080321', b'D 2008-03-21', b'\xff 2008-03-21', MARK, MARK + b'C 2008-03-21', b' C 2008-03-21'):
         yield repr(line), text(COVER, AXA, line), b'BAD 3\n'
     for line in (b'C 2008-03-22', b'X 2008-03-23'):
-        yield line.decode(), text(COVER, line, AXA), b'NO 5\n'
-    yield 'a week', text(COVER, *WEEK, AXA), b'NO 6\n'
-    yield 'a week with X', text(COVER, *WEEK[:4], b'X 2008-03-21', AXA), b'NO 6\n'
+        yield line.decode(), text(COVER, line, AXA), b'NO 5 line 2\n'
+    yield 'a week', text(COVER, *WEEK, AXA), b'NO 6 from 2008-03-15\n'
+    yield 'a week with X', text(COVER, *WEEK[:4], b'X 2008-03-21', AXA), b'NO 6 from 2008-03-15\n'
 
 
 def product_faults():
@@ -95,41 +97,79 @@ def product_faults():
                          (5, (b'0', b'00000', b'0.0000', b'0.5000', b'0.9999', b'000.0001')),
                          (6, (b'2', b'0', b'65535')), (7, (b'JPY', b'eur'))):
         for word in words:
-            yield f'{place} {word!r}', text(COVER, changed(place, word)), b'NO 7\n'
+            yield f'{place} {word!r}', text(COVER, changed(place, word)), b'NO 7 line 2 %s\n' % (word if place == 1 else b'AXA')
     for place, words in ((0, (b'p', b'PP', b'')), (1, (b'', b'AXAXA')), (2, (b'FR1', b'FR111', b'')),
                          (3, (b'XPA', b'XPARI', b'')), (4, (b'256', b'', b'x', b'-1', b'1.5', b'+1')),
                          (5, (b'65536', b'', b'1e3', b'4294967396', b'18446744073709551716')),
                          (5, (b'1.', b'1.5', b'1.500', b'1.50000', b'.5000', b'.', b'1..500', b'1.5.00', b'1.0000.',
                               b'1.0000.0000', b'1,5000', b'1.50x0', b'1.-500', b'1.+500', b'-1.5000', b'x.5000',
                               b'65536.0000', b'65536.5000', b'4294967297.5000', b'1.5000\0', b'1:5000')),
-                         (6, (b'65536', b'', b'1,0', b'1.0000')), (7, (b'EU', b'EURO', b'', b'EUR '))):
+                         (6, (b'65536', b'', b'1,0', b'1.0000')), (7, (b'EU', b'EURO', b'', b'EUR .', b'EU\t', b'EU\r'))):
         for word in words:
             yield f'{place} {word!r}', text(COVER, AXA, changed(place, word)), b'BAD 3\n'
     yield 'a word less', text(COVER, AXA[:-4]), b'BAD 2\n'
     yield 'a word more', text(COVER, AXA + b' EUR'), b'BAD 2\n'
     yield '64 characters', text(COVER, changed(4, b'1'.rjust(36, b'0'))), b'BAD 2\n'
     yield 'a long line', text(COVER, changed(4, b'1'.rjust(100_000, b'0'))), b'BAD 2\n'
-    yield 'an id twice', text(COVER, AXA, AXA), b'NO 8\n'
-    yield 'ids fall', text(COVER, AXA, changed(1, b'AXB'), changed(1, b'AX')), b'NO 8\n'
+    yield 'an id twice', text(COVER, AXA, AXA), b'NO 8 line 3 AXA\n'
+    yield 'ids fall', text(COVER, AXA, changed(1, b'AXB'), changed(1, b'AX')), b'NO 8 line 4 AX\n'
 
 
 def order_faults():
     yield '3 before 7', text(b'Y 1999 1', changed(7, b'JPY')), b'NO 3\n'
     yield '4 before 7', text(b'Y 2000 17', changed(7, b'JPY')), b'NO 4\n'
-    yield '5 before 6', text(COVER, *WEEK, b'C 2008-04-05', AXA), b'NO 5\n'
-    yield '6 before 7', text(COVER, *WEEK, changed(7, b'JPY')), b'NO 6\n'
-    yield '7 before 8', text(COVER, AXA, AXA, changed(7, b'JPY')), b'NO 7\n'
-    yield '8 before 25', text(b'Y 2008 1', *many(1906), AXA), b'NO 8\n'
+    yield '5 before 6', text(COVER, *WEEK, b'C 2008-04-05', AXA), b'NO 5 line 7\n'
+    yield '6 before 7', text(COVER, *WEEK, changed(7, b'JPY')), b'NO 6 from 2008-03-15\n'
+    yield '7 before 8', text(COVER, AXA, AXA, changed(7, b'JPY')), b'NO 7 line 4 AXA\n'
+    yield '8 before 25', text(b'Y 2008 1', *many(1906), AXA), b'NO 8 line 1908 AXA\n'
     yield 'a bad line before all', text(b'Y 1999 1', AXA, AXA, b'BAD'), b'BAD 4\n'
     yield 'the first of two bad lines', text(COVER, b'?', AXA, b'?'), b'BAD 2\n'
     yield '1,906 products', text(b'Y 2008 1', *many(1906)), b'NO 25\n'
     yield '16 years and 1,681 products', text(b'Y 2000 16', *many(1681)), b'NO 25\n'
-    yield 'product 2,048 of 2,049', text(b'Y 2008 1', *many(2047), changed(1, b'?'), AXA), b'NO 7\n'
+    yield 'product 2,048 of 2,049', text(b'Y 2008 1', *many(2047), changed(1, b'?'), AXA), b'NO 7 line 2049 ?\n'
     yield 'product 2,049', text(b'Y 2008 1', *many(2048), changed(1, b'?')), b'NO 25\n'
     yield 'a bad line after 2,049 products', text(b'Y 2008 1', *many(2049), b'?'), b'BAD 2051\n'
 
 
+# The first line at fault, by its number in the text, comments and empty lines counted.
+def place_faults():
+    wrong = changed(7, b'JPY')
+    yield 'the first of two weekend days', text(COVER, WEEK[0], b'X 2008-03-23', AXA, b'C 2008-03-22'), b'NO 5 line 3\n'
+    yield 'a weekend day after the products', text(COVER, AXA, b'# Sunday', b'', b'C 2010-12-26 \r'), b'NO 5 line 5\n'
+    yield 'a day twice on a weekend', text(COVER, b'C 2008-03-22', b'C 2008-03-22', AXA), b'NO 5 line 2\n'
+    yield 'the first of two products', text(COVER, b'', wrong, changed(2, b'FR01')), b'NO 7 line 3 AXA\n'
+    yield '7 with its id in full', text(b'# list', COVER, AXA, b'P AXAX FR11 XPAR 9 100 100 EUR'), b'NO 7 line 4 AXAX\n'
+    yield '8 after a comment', text(COVER, changed(1, b'AXB'), b'# ', AXA, changed(1, b'AX')), b'NO 8 line 4 AXA\n'
+    yield '8 after a rise', text(COVER, changed(1, b'B'), changed(1, b'C'), changed(1, b'A'), changed(1, b'B')), b'NO 8 line 4 A\n'
+    yield '8 before a wrong one is 7', text(COVER, AXA, AXA, wrong), b'NO 7 line 4 AXA\n'
+    yield '7 and 8 in one line', text(COVER, AXA, wrong), b'NO 7 line 3 AXA\n'
+    yield 'line 555', text(COVER, *many(553), changed(4, b'9')), b'NO 7 line 555 AXA\n'
+    yield 'a bad line after a comment', text(b'#', COVER, b'', b'?', AXA), b'BAD 4\n'
+    yield 'a bad line after a mark', MARK + text(b'', b'?', COVER), b'BAD 2\n'
+    yield 'a second mark on a line', text(COVER, MARK + AXA), b'BAD 2\n'
+    yield 'no line but comments', text(b'# a', b'', b' \t\r'), b'NO 4\n'
+    yield 'a mark alone', MARK, b'NO 4\n'
+    yield 'blanks alone', b' \t\r ', b'NO 4\n'
+    yield 'a comment after blanks', text(COVER, b' # no comment', AXA), b'BAD 2\n'
+    yield '64 characters and blanks', text(COVER, changed(4, b'1'.rjust(36, b'0')) + b'  '), b'BAD 2\n'
+    yield 'a byte after 100,000 blanks', text(COVER, AXA + 100_000 * b' ' + b'x'), b'BAD 2\n'
+
+
+# 6: the first day of the first run, by hand: 2008-01-01 is a Tuesday, 2008-12-31 a Wednesday.
+def idle_faults():
+    def days(*names):
+        return [b'C 2008-' + name for name in names]
+
+    yield 'from the first day', text(b'Y 2008 1', *days(*(b'01-%02d' % day for day in (1, 2, 3, 4, 7))), AXA), b'NO 6 from 2008-01-01\n'
+    yield 'to the last day', text(b'Y 2008 1', *days(*(b'12-%d' % day for day in (25, 26, 29, 30, 31))), AXA), b'NO 6 from 2008-12-25\n'
+    yield 'across the year', text(b'Y 2008 2', *days(b'12-29', b'12-30', b'12-31'), b'C 2009-01-01', b'C 2009-01-02', AXA), b'NO 6 from 2008-12-27\n'
+    yield 'two runs', text(b'Y 2008 1', *days(*(b'07-%02d' % day for day in range(14, 19))), *WEEK, AXA), b'NO 6 from 2008-03-15\n'
+    yield 'eight days', text(b'Y 2008 1', *WEEK, b'C 2008-03-14', AXA), b'NO 6 from 2008-03-14\n'
+
+
 def faults():
+    yield from place_faults()
+    yield from idle_faults()
     yield from cover_faults()
     yield from seed_faults()
     yield from day_faults()
@@ -153,6 +193,16 @@ def other_forms():
     yield 'zeros before numbers', text(b'Y 02008 0003', WEEK[4], changed(5, b'0000100')), plain
     yield '63 characters', text(COVER, WEEK[4], changed(4, b'1'.rjust(35, b'0'))), plain
     yield 'a day twice', text(COVER, WEEK[4], AXA, WEEK[4]), plain
+    yield 'carriage returns', plain.replace(b'\n', b'\r\n'), plain
+    yield 'a mark', MARK + plain, plain
+    yield 'a mark before a comment', MARK + b'# list\r\n' + plain, plain
+    yield 'a mark before an empty line', MARK + b'\n' + plain, plain
+    yield 'comments and empty lines', b'# list\n\n' + plain.replace(b'\n', b'\n#\n \t\n') + b'# end', plain
+    yield 'blanks at the ends of lines', plain.replace(b'\n', b' \t \r\n'), plain
+    yield '100,000 blanks', plain.replace(b'\n', 100_000 * b' ' + b'\n'), plain
+    yield '63 characters, a mark and blanks', MARK + text(b'Y %s 3' % b'2008'.rjust(59, b'0') + 300 * b'\t', WEEK[4], AXA), plain
+    yield 'a comment of 100,000 bytes', text(COVER, b'#' + 100_000 * b'x', WEEK[4], AXA), plain
+    yield 'a comment of blanks and bytes', text(COVER, b'# ' + 400 * b' ' + b'x', WEEK[4], AXA), plain
     both = text(COVER, b'X 2008-03-21', AXA)
     yield 'C and then X', text(COVER, WEEK[4], b'X 2008-03-21', AXA), both
     yield 'X and then C', text(COVER, b'X 2008-03-21', WEEK[4], AXA), both
@@ -220,7 +270,7 @@ def with_change(chance, lines):
     elif change == 3:
         lines.insert(chance.below(len(lines)), lines.pop(at))
     else:
-        lines.insert(at, chance.one_of((b'', b'#', b'C 2010-06-01', b'X 2010-06-01', COVER, MADE_UP, AXA)))
+        lines.insert(at, chance.one_of((b'', b'#', b'# \xff', b'\t', MARK, b'C 2010-06-01', b'C 2010-06-05', b'X 2010-06-01', COVER, MADE_UP, AXA)))
     return lines or [COVER]
 
 
@@ -231,7 +281,10 @@ def made(seed, count):
         lines = random_text(chance)
         for _ in range(chance.one_of((0, 0, 0, 1, 1, 2))):
             lines = with_change(chance, lines)
-        yield text(*lines)[:None if chance.below(4) else -1]
+        if not chance.below(4):
+            lines = [line + chance.one_of((b'', b'\r', b' ', b'\t\r')) for line in lines]
+        mark = b'' if chance.below(8) else MARK
+        yield mark + text(*lines)[:None if chance.below(4) else -1]
 
 
 # The text of the example, as it is stored.

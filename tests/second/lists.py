@@ -1,7 +1,7 @@
 """The text of a master file (README, "The text of a master file"; 02, notes 7, 11 and 14).
 
 python3 tests/second/lists.py compose reads a text from standard input and writes
-the master file to standard output, or `NO n` or `BAD k` to standard error.
+the master file to standard output, or `NO n`, with where, or `BAD k` to standard error.
 python3 tests/second/lists.py decompose reads a master file from standard input
 and prints its text, or `NO n`.
 """
@@ -25,6 +25,9 @@ NUMBER_AT_MOST = 65535
 KIND_AT_MOST = 255
 SEED_AT_MOST = 4294967295
 KEPT_AT_MOST = 2048
+MARK = b'\xef\xbb\xbf'
+BLANKS = b' \t\r'
+RUN = 7
 
 # README: "single spaces part the words of a line"; "a number is one or more
 # digits"; "an id has 1 to 4 characters, a group and a market 4, a currency 3, any
@@ -39,12 +42,14 @@ PRODUCT = re.compile(rb'P ([^ ]{1,4}) ([^ ]{4}) ([^ ]{4}) ([0-9]+) ' + SIZE + rb
 
 # ---- From a text to a file ----
 
-# README: "a line ends with a line feed or with the text".
+# README: "a line ends with a line feed or with the text"; "Spaces, tabs and carriage
+# returns at a line's end play no part, nor does one byte order mark before the first
+# line"; "A line that is then empty, or whose first byte is `#`, says nothing": the
+# lines that say something, with their numbers.
 def lines_of(text):
-    lines = text.split(b'\n')
-    if lines[-1] == b'':
-        lines.pop()
-    return lines
+    lines = text.removeprefix(MARK).split(b'\n')
+    bare = ((number, line.rstrip(BLANKS)) for number, line in enumerate(lines, 1))
+    return [(number, line) for number, line in bare if line and not line.startswith(b'#')]
 
 
 # A line as a tuple: its letter and what follows it; None for another line.
@@ -95,14 +100,14 @@ def is_in_cover(first, years, day):
     return first <= dates.date_of(day)[0] < first + years
 
 
-# README: "The first line is a `Y` or an `S`, and no other line is. After an `S` no
-# line is a `C` or an `X`"; "the day of a `C` or `X` is in the cover". Whether an
-# entry may stand on the line with this number, after a first line with this letter.
-def may_stand(entry, number, first_letter, cover):
+# README: "The first line that says something is a `Y` or an `S`, and no other line
+# is. After an `S` no line is a `C` or an `X`"; "the day of a `C` or `X` is in the
+# cover". Whether an entry may stand after a first line with this letter.
+def may_stand(entry, first_letter, cover):
     if entry is None:
         return False
-    if entry[0] in 'YS' or number == 1:
-        return entry[0] in 'YS' and number == 1
+    if entry[0] in 'YS' or not first_letter:
+        return entry[0] in 'YS' and not first_letter
     return entry[0] == 'P' or first_letter == 'Y' and is_in_cover(*cover, entry[1])
 
 
@@ -116,21 +121,23 @@ def first_said(entry):
 
 
 # What a text says: the number of its first line that is none, 0 where each is one;
-# the cover, the closed days, those on which payments run, the products.
+# the cover, the closed days, those on which payments run, the products; and each
+# line's number and entry.
 def read(text):
-    first_letter, cover, closed, exchange, products = '', (0, 0), set(), set(), []
-    for number, line in enumerate(lines_of(text), 1):
+    first_letter, cover, closed, exchange, products, said = '', (0, 0), set(), set(), [], []
+    for number, line in lines_of(text):
         entry = entry_of(line)
-        if not may_stand(entry, number, first_letter, cover):
-            return number, cover, closed, exchange, products
-        if number == 1:
+        if not may_stand(entry, first_letter, cover):
+            return number, cover, closed, exchange, products, said
+        said.append((number, entry))
+        if not first_letter:
             first_letter, (cover, closed) = entry[0], first_said(entry)
         elif entry[0] == 'P':
             products.append(entry[1])
         else:
             closed.add(entry[1])
             exchange |= {entry[1]} if entry[0] == 'X' else set()
-    return 0, cover, closed, exchange, products
+    return 0, cover, closed, exchange, products, said
 
 
 # 02, note 7, of what a text says: (number, file). A calendar has no maps for the
@@ -143,13 +150,47 @@ def write(cover, closed, exchange, products):
     return number, buffer[:length]
 
 
+# README: "with 5 the first `C` or `X` whose day is a Saturday or a Sunday, with 7 the
+# first product that is not as stated, with 8 the first whose id is not greater than
+# that of the product before it": its number and the product's id.
+def line_at_fault(number, said):
+    before = b''
+    for line, entry in said:
+        if entry[0] in 'CX' and number == 5 and not dates.is_weekday(entry[1]):
+            return b' line %d' % line
+        if entry[0] != 'P':
+            continue
+        code = entry[1].id
+        if number == 7 and not master.record_is_right(master.record_of(entry[1])) or number == 8 and code <= before:
+            return b' line %d %s' % (line, code.rstrip(b' '))
+        before = code
+    raise ValueError(number)
+
+
+# README: "with 6 the first day of the first run of seven days in the cover without a
+# trading day".
+def first_idle_day(cover, closed):
+    calendar = Calendar(*cover, frozenset(closed), frozenset())
+    for day in range(trading.first_day(calendar), trading.last_day(calendar) - RUN + 2):
+        if not any(trading.is_trading_day(calendar, day + k) for k in range(RUN)):
+            return b' from %04d-%02d-%02d' % dates.date_of(day)
+    raise ValueError(cover)
+
+
+# README: what `NO n` says of the place.
+def place_of(number, cover, closed, said):
+    if number == 6:
+        return first_idle_day(cover, closed)
+    return line_at_fault(number, said) if number in (5, 7, 8) else b''
+
+
 # README: "the file on standard output, or one line on standard error": both.
 def compose(text):
-    bad, cover, closed, exchange, products = read(text)
+    bad, cover, closed, exchange, products, said = read(text)
     if bad:
         return b'', b'BAD %d\n' % bad
     number, file = write(cover, closed, exchange, products[:KEPT_AT_MOST])
-    return file, b'NO %d\n' % number if number else b''
+    return file, b'NO %d%s\n' % (number, place_of(number, cover, closed, said)) if number else b''
 
 
 # ---- From a file to a text ----

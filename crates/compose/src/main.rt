@@ -1,5 +1,5 @@
 // The program `compose`: reads a list from standard input and writes the master file of what it says to standard output, or one line to standard error.
-use lines::Line;
+use delivery_items::LongLine;
 use lists::Composed;
 use lists::Taken;
 use streams::Transfer;
@@ -10,7 +10,7 @@ ghost use Rattle.streams.specs.Transfers.{Within};
 // What the lines so far say, the line begun, and whether the list could be read to here.
 pub struct Reading {
     pub taken: Taken,
-    pub line: Line,
+    pub line: LongLine,
     pub whole: bool,
 }
 
@@ -25,7 +25,7 @@ fn read_part(part: &mut [u8]) -> Transfer
 fn read_list(records: &mut [u8]) -> Reading {
     let mut part = io::large_buffer();
     let mut taken = lists::nothing_taken();
-    let mut line = lines::empty_line();
+    let mut line = delivery_items::empty_line();
     let mut turns: u64 = 18446744073709551615;
     while 0 < turns {
         let read = read_part(&mut part);
@@ -52,25 +52,20 @@ fn read_list(records: &mut [u8]) -> Reading {
     }
 }
 
-// One line on standard error: a word and a number.
-fn say(word: &[u8], number: u32) {
-    let mut digits = [0u8; 20];
-    let n = io::decimal(number as u64, &mut digits);
-    streams::tell(word);
-    streams::tell(&digits[..n]);
-    streams::tell(b"\n");
+// One line on standard error: why there is no file, and where.
+fn tell(c: Composed) {
+    let line = compose_words::said(c);
+    let bytes = line.bytes;
+    let n = line.length;
+    streams::tell(&bytes[..n]);
 }
 
 // Writes the file, or says why there is none.
 fn answer(c: Composed, file: &[u8])
     requires { ⌜ c .length ≤ length (now file) ⌝ }
 {
-    if c.bad != 0 {
-        say(b"BAD ", c.bad);
-        return;
-    }
-    if c.refusal != 0 {
-        say(b"NO ", c.refusal as u32);
+    if (c.bad != 0) | (c.refusal != 0) {
+        tell(c);
         return;
     }
     let n = c.length;

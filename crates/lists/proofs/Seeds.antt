@@ -1,13 +1,14 @@
 -- A list whose first line says a seed: the calendar stays that of the seed, its file passes 3 to 6 where the cover is right, and gets 4 where it is not.
 -- Assumes nothing.
 use mathlib.Core.Path.{_≡_, refl, sym, ap, _∙_}
-use mathlib.Core.Bool.{Bool, true, false, _||_, cond}
+use mathlib.Core.Bool.{Bool, true, false, _||_, cond, or-true}
 use mathlib.Core.List.{List, [], _∷_}
+use mathlib.Core.Logic.{_⊎_, inl, inr}
 use Prim.Native.Nat.{ℕ, _+_, _-_, _≤_}
 use native.Mathlib.Omega.{arith}
 use lib.Dec.{eqb, ltb}
 use lib.ListN.{length}
-use borrow.Author.Tests.{le-leb, ne-eqb, eqb-true}
+use borrow.Author.Tests.{le-leb, eq-eqb, ne-eqb, eqb-true}
 use Rattle.questions.specs.Questions.{Answer}
 use Rattle.questions.proofs.Asks.{first-no, refused}
 use Rattle.questions.proofs.Bools.{and-both, clash}
@@ -25,24 +26,16 @@ use Rattle.drafts.proofs.Calendars.{order-written, clean-written, weeks-written
 use Rattle.drafts.proofs.Answers.{no-4}
 use Rattle.writing.specs.Writing.{writeCall}
 use Rattle.writing.proofs.Holding.{within-clean, within-weeks}
-use Rattle.lines.specs.Lines.{linesFrom}
 use Rattle.entries.specs.declared.Entry.{Entry}
-use Rattle.entries.specs.Entries.{entryOf}
-use Rattle.lists.specs.Lists.{Content, noContent, entryFits, calendarAfter, recordsAfter, nextLine, lineTaken, linesTaken, contentOf, composed, CalendarPasses, OfSeed}
-
--- there is a next line
-next-some : (n : ℕ) → (n ≡ 0 → ⊥) → nextLine n ≡ 0 → ⊥
-unfolding nextLine
-next-some n some = go (ltb n 999999999)
-  where
-    go : (b : Bool) → cond b (n + 1) n ≡ 0 → ⊥
-    go true e = omega arith
-    go false e = some e
+use Rattle.list_faults.specs.declared.Faults.{Faults}
+use Rattle.list_faults.specs.Faults.{noFault, faultsAfter, faultKept, Numbered}
+use Rattle.lists.specs.declared.Composed.{Composed}
+use Rattle.lists.specs.Lists.{Content, noContent, entryFits, calendarAfter, recordsAfter, nextLine, lineCounted, entryTaken, lineTaken, linesTaken, numberedLines, contentOf, idleDay, composed, CalendarPasses, saySeed, OfSeed}
 
 -- after a seed only a product fits
-product-only : (lines : ℕ) (cover : Cover) (e : Entry) → (lines ≡ 0 → ⊥) → entryFits lines cover true e ≡ true → e .letter ≡ 80
+product-only : (cover : Cover) (e : Entry) → entryFits true cover true e ≡ true → e .letter ≡ 80
 unfolding entryFits
-product-only lines cover e some = rw (ne-eqb lines 0 some) (go (eqb (e .letter) 0) (eqb (e .letter) 89 || eqb (e .letter) 83) (eqb (e .letter) 80) refl)
+product-only cover e = go (eqb (e .letter) 0) (eqb (e .letter) 89 || eqb (e .letter) 83) (eqb (e .letter) 80) refl
   where
     go : (a b d : Bool) → eqb (e .letter) 80 ≡ d → cond a false (cond b false (d || false)) ≡ true → e .letter ≡ 80
     go true b d q h = clash h refl
@@ -59,34 +52,75 @@ product-kept cal e p = rw p refl
 record Seeded (cal : Calendar) (c : Content) : Type 0 where
   calendar : c .calendar ≡ cal
   seeded : c .seeded ≡ true
-  some : c .lines ≡ 0 → ⊥
+  begun : c .begun ≡ true
 
 module _ (room : ℕ) (cal : Calendar) where
+  seeded-entry : (c : Content) (e : Entry) → Seeded cal c → Seeded cal (entryTaken room c e)
+  unfolding entryTaken
+  seeded-entry c e s = go (entryFits (c .begun) (c .calendar .cover) (c .seeded) e) refl
+    where
+      go : (b : Bool) → entryFits (c .begun) (c .calendar .cover) (c .seeded) e ≡ b
+          → Seeded cal
+          (cond b
+          (record {
+            begun = true;
+            calendar = calendarAfter (c .calendar) e;
+            seeded = c .seeded || eqb (e .letter) 83;
+            records = recordsAfter room (c .records) e;
+            faults = faultsAfter (c .faults) (nextLine (c .lines)) e;
+            lines = nextLine (c .lines);
+            bad = 0;
+          })
+          (lineCounted c (nextLine (c .lines))))
+      go false q = record { calendar = s .calendar; seeded = s .seeded; begun = s .begun }
+      go true q =
+          record {
+            calendar = product-kept (c .calendar) e (product-only (c .calendar .cover) e (rw (s .begun, s .seeded) at q)) ∙ s .calendar;
+            seeded = rw (s .seeded) refl;
+            begun = refl;
+          }
+
   seeded-line : (c : Content) (e : Entry) → Seeded cal c → Seeded cal (lineTaken room c e)
   unfolding lineTaken
-  seeded-line c e s = go (eqb (c .bad) 0) (entryFits (c .lines) (c .calendar .cover) (c .seeded) e) refl
+  seeded-line c e s = go (eqb (c .bad) 0) (eqb (e .letter) 35) (seeded-entry c e s)
     where
-      go : (a b : Bool) → entryFits (c .lines) (c .calendar .cover) (c .seeded) e ≡ b
-          → Seeded cal
-          (cond a
-          (cond b
-          (record { calendar = calendarAfter (c .calendar) e; seeded = c .seeded || eqb (e .letter) 83; records = recordsAfter room (c .records) e; lines = nextLine (c .lines); bad = 0 })
-          (record { calendar = c .calendar; seeded = c .seeded; records = c .records; lines = nextLine (c .lines); bad = nextLine (c .lines) }))
-          c)
-      go false b q = s
-      go true false q = record { calendar = s .calendar; seeded = s .seeded; some = next-some (c .lines) (s .some) }
-      go true true q = record { calendar = product-kept (c .calendar) e (product-only (c .lines) (c .calendar .cover) e (s .some) (rw (s .seeded) at q)) ∙ s .calendar; seeded = rw (s .seeded) refl; some = next-some (c .lines) (s .some) }
+      go : (a b : Bool) → Seeded cal (entryTaken room c e) → Seeded cal (cond a (cond b (lineCounted c 0) (entryTaken room c e)) c)
+      go false b h = s
+      go true true h = record { calendar = s .calendar; seeded = s .seeded; begun = s .begun }
+      go true false h = h
 
-  seeded-lines : (c : Content) (lines : List (List ℕ)) → Seeded cal c → Seeded cal (linesTaken room c lines)
+  seeded-lines : (c : Content) (ls : List Numbered) → Seeded cal c → Seeded cal (linesTaken room c ls)
   unfolding linesTaken
   seeded-lines c [] s = s
-  seeded-lines c (line ∷ lines) s = seeded-lines (lineTaken room c (entryOf line)) lines (seeded-line c (entryOf line) s)
+  seeded-lines c (l ∷ ls) s = seeded-lines (lineTaken room c (l .entry)) ls (seeded-line c (l .entry) s)
 
--- a first line that says a seed
+-- nothing is said yet
+record Quiet (c : Content) : Type 0 where
+  begun : c .begun ≡ false
+  seeded : c .seeded ≡ false
+  good : c .bad ≡ 0
+
+-- a line that says nothing
+quiet-line : (room : ℕ) (c : Content) (e : Entry) → Quiet c → e .letter ≡ 35 → Quiet (lineTaken room c e)
+unfolding lineTaken
+quiet-line room c e h p = rw (h .good, p) (record { begun = h .begun; seeded = h .seeded; good = refl })
+
+-- the first line that says something says a seed
 module _ (room : ℕ) (e : Entry) (p : e .letter ≡ 83) where
-  seed-first : Seeded (madeCall (e .seed) (e .cover) .value) (lineTaken room noContent e)
-  unfolding lineTaken noContent entryFits calendarAfter nextLine
-  seed-first = rw p (record { calendar = refl; seeded = refl; some = λ h. omega arith })
+  seed-entry : (c : Content) → c .begun ≡ false → Seeded (madeCall (e .seed) (e .cover) .value) (entryTaken room c e)
+  unfolding entryTaken entryFits calendarAfter
+  seed-entry c h = rw (p, h) (record { calendar = refl; seeded = or-true (c .seeded); begun = refl })
+
+  seed-first : (c : Content) → Quiet c → Seeded (madeCall (e .seed) (e .cover) .value) (lineTaken room c e)
+  unfolding lineTaken
+  seed-first c h = rw (eq-eqb (c .bad) 0 (h .good), ne-eqb (e .letter) 35 (λ z. omega (arith, p))) (seed-entry c (h .begun))
+
+-- the lines before it say nothing
+seed-lines : (room : ℕ) (c : Content) (ls : List Numbered) (first : Entry) → Quiet c → saySeed ls first → Seeded (madeCall (first .seed) (first .cover) .value) (linesTaken room c ls)
+unfolding linesTaken saySeed
+seed-lines room c [] first h s = absurd s
+seed-lines room c (l ∷ ls) first h (inl s) = seed-lines room (lineTaken room c (l .entry)) ls first (quiet-line room c (l .entry) h (s .0)) (s .1)
+seed-lines room c (l ∷ ls) first h (inr s) = rw (s .0) (seeded-lines room (madeCall (first .seed) (first .cover) .value) (lineTaken room c first) ls (seed-first room first (s .1) c h))
 
 -- a calendar of zeros has no year that could be wrong, and no calendar block
 no-year : yearsRight (zeroCalendar .cover) ≡ true
@@ -140,14 +174,23 @@ module _ (seed : ℕ) (cover : Cover) (right : validCover cover ≡ true) (recor
         yes6 = weeks-written cal records ordered ∙ within-weeks cal few ∙ good .weeks;
       }
 
-pub of-seed : (room : ℕ) (input first : List ℕ) (more : List (List ℕ)) → linesFrom [] input ≡ first ∷ more → entryOf first .letter ≡ 83 → OfSeed room input first
-unfolding contentOf linesTaken composed
-of-seed room input first more e p =
+-- with 4 no place is said
+no-place : (s : Faults) (of : Calendar) → _≡_ {A = Composed} (record { bad = 0; refusal = 4; fault = faultKept s 4; day = idleDay 4 of; length = 0 }) (record { bad = 0; refusal = 4; fault = noFault; day = 0; length = 0 })
+unfolding faultKept idleDay
+no-place s of = refl
+
+quiet : Quiet noContent
+unfolding noContent
+quiet = record { begun = refl; seeded = refl; good = refl }
+
+pub of-seed : (room : ℕ) (input : List ℕ) (first : Entry) → saySeed (numberedLines input) first → OfSeed room input first
+unfolding contentOf composed
+of-seed room input first q =
     record {
       calendar = s .calendar;
-      right-cover = λ right some. rw (s .calendar) (calendar-passes (entryOf first .seed) (entryOf first .cover) right (contentOf room input .records) some);
-      wrong-cover = λ wrong good space. rw (good, s .calendar, gets-4 (entryOf first .seed) (entryOf first .cover) wrong (contentOf room input .records) space) refl;
+      right-cover = λ right some. rw (s .calendar) (calendar-passes (first .seed) (first .cover) right (contentOf room input .records) some);
+      wrong-cover = λ wrong good space. rw (good, s .calendar, gets-4 (first .seed) (first .cover) wrong (contentOf room input .records) space) (no-place (contentOf room input .faults) (madeCall (first .seed) (first .cover) .value));
     }
   where
-    s : Seeded (madeCall (entryOf first .seed) (entryOf first .cover) .value) (contentOf room input)
-    s = rw e (seeded-lines room (madeCall (entryOf first .seed) (entryOf first .cover) .value) (lineTaken room noContent (entryOf first)) more (seed-first room (entryOf first) p))
+    s : Seeded (madeCall (first .seed) (first .cover) .value) (contentOf room input)
+    s = seed-lines room noContent (numberedLines input) first quiet q

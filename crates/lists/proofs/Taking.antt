@@ -6,10 +6,10 @@ use mathlib.Core.List.{List, [], _∷_, _++_}
 use Prim.Native.Nat.{ℕ, _+_, _≤_, _<_}
 use native.Mathlib.Numerals.{add-one}
 use native.Mathlib.Omega.{arith}
-use lib.Dec.{eqb}
+use lib.Dec.{eqb, ltb}
 use lib.ListN.{length, getD, take, drop}
 use lib.Seq.{drop-cons, drop-length}
-use borrow.Author.Tests.{eq-eqb, ne-eqb, eqb-true}
+use borrow.Author.Tests.{eq-eqb, ne-eqb, eqb-true, eqb-false, ltb-false}
 use Rattle.questions.specs.Questions.{firstNo, answer}
 use Rattle.calendar.specs.declared.Calendar.{Calendar}
 use Rattle.drafts.specs.Drafts.{fileOf, writeAsks}
@@ -17,76 +17,90 @@ use Rattle.drafts.proofs.Blocks.{file-length}
 use Rattle.drafts.proofs.Answers.{writable, Counted, counted}
 use Rattle.writing.specs.declared.WrittenFile.{WrittenFile}
 use Rattle.writing.specs.Writing.{writeCall, writeAnswer, bufferAfter}
-use Rattle.lines.specs.declared.Line.{Line}
-use Rattle.lines.specs.Lines.{emptyLine, extended, fed, linesFrom}
-use Rattle.lines.proofs.Feeding.{any-empty, fed-more}
+use Rattle.lines.specs.Lines.{linesFrom}
 use Rattle.entries.specs.declared.Entry.{Entry}
-use Rattle.entries.specs.Entries.{entryOf, lineEntry}
-use Rattle.entries.proofs.Forms.{any-length}
+use Rattle.delivery_items.specs.declared.LongLine.{LongLine}
+use Rattle.delivery_items.specs.Items.{emptyLong, lengthened, fedLong}
+use Rattle.delivery_items.proofs.Long.{any-empty, fed-more}
+use Rattle.list_lines.specs.Said.{lineSaid, heldSaid}
+use Rattle.list_lines.proofs.Held.{held-any}
+use Rattle.list_faults.specs.declared.Fault.{Fault}
+use Rattle.list_faults.specs.declared.Faults.{Faults}
+use Rattle.list_faults.specs.Faults.{noFault, faultsAfter, faultKept}
 use Rattle.lists.specs.declared.Taken.{Taken}
 use Rattle.lists.specs.declared.Composed.{Composed}
-use Rattle.lists.specs.Lists.{Content, noContent, nothingTaken, entryFits, calendarAfter, recordsAfter, nextLine, lineTaken, linesTaken, contentOf, restTaken, partTaken, lineAfter, contentIn, Grown, RecordsIn, LineIn, PartIn, EndIn, composed, composedFile}
+use Rattle.lists.specs.Lists.{Content, noContent, nothingTaken, entryFits, calendarAfter, recordsAfter, nextLine, lineCounted, entryTaken, lineTaken, linesTaken, numberedFrom, numberedLines, contentOf, restTaken, partTaken, lineAfter, contentIn, Grown, lineTold, RecordsIn, EntryIn, LineIn, PartIn, EndIn, idleDay, composed, composedFile}
 use Rattle.lists.proofs.Storing.{stays, grows-on}
 
 -- ---- one line more
 
-module _ (t : Taken) (l : Line) (before : List ℕ) where
+-- a line that says something
+module _ (t : Taken) (before : List ℕ) (e : Entry) (n : ℕ) (p : n ≡ nextLine (t .lines)) (b : Bool) (s : b ≡ entryFits (t .begun) (t .calendar .cover) (t .seeded) e) where
+  pub taken-bad : b ≡ false → (r : Taken) → r ≡ lineTold t n → EntryIn t e before before r
+  unfolding entryTaken lineTold
+  taken-bad f r q = rw q (record { is = rw (← s, f, p) refl; buffer = stays before (t .size) })
+
+  pub taken-good : b ≡ true → (faults : Faults) → faults ≡ faultsAfter (t .faults) n e → (cal : Calendar) → cal ≡ calendarAfter (t .calendar) e → (after : List ℕ) (size : ℕ)
+      → RecordsIn before after (t .size) size (recordsAfter (length before) (take (t .size) before) e)
+      → EntryIn t e before after (record { begun = true; calendar = cal; seeded = t .seeded || eqb (e .letter) 83; size = size; faults = faults; lines = n; bad = 0 })
+  unfolding entryTaken
+  taken-good f faults k cal g after size r = record { is = rw (← s, f, k, p, g, r .is) refl; buffer = r .buffer }
+
+-- any line
+module _ (t : Taken) (l : LongLine) (before : List ℕ) where
   pub taken-after-bad : (t .bad ≡ 0 → ⊥) → LineIn t l before before t
   unfolding lineTaken
   taken-after-bad n = record { is = rw (ne-eqb (t .bad) 0 n) refl; buffer = stays before (t .size) }
 
-  module _ (z : t .bad ≡ 0) (e : Entry) (q : e ≡ lineEntry l) (n : ℕ) (p : n ≡ nextLine (t .lines)) (b : Bool) (s : b ≡ entryFits (t .lines) (t .calendar .cover) (t .seeded) e) where
-    pub taken-bad : b ≡ false → LineIn t l before before (record { calendar = t .calendar; seeded = t .seeded; size = t .size; lines = n; bad = n })
-    unfolding lineTaken
-    taken-bad f = record { is = rw (eq-eqb (t .bad) 0 z, ← q, ← s, f, p) refl; buffer = stays before (t .size) }
+  module _ (z : t .bad ≡ 0) (e : Entry) (q : e ≡ heldSaid (eqb (t .lines) 0) l) where
+    pub taken-nothing : e .letter ≡ 35 → (r : Taken) → r ≡ lineTold t 0 → LineIn t l before before r
+    unfolding lineTaken lineTold
+    taken-nothing c r p = rw p (record { is = rw (eq-eqb (t .bad) 0 z, ← q, eq-eqb (e .letter) 35 c) refl; buffer = stays before (t .size) })
 
-    pub taken-good : b ≡ true → (cal : Calendar) → cal ≡ calendarAfter (t .calendar) e → (after : List ℕ) (size : ℕ)
-        → RecordsIn before after (t .size) size (recordsAfter (length before) (take (t .size) before) e)
-        → LineIn t l before after (record { calendar = cal; seeded = t .seeded || eqb (e .letter) 83; size = size; lines = n; bad = 0 })
+    pub taken-entry : (e .letter ≡ 35 → ⊥) → (after : List ℕ) (r : Taken) → EntryIn t e before after r → LineIn t l before after r
     unfolding lineTaken
-    taken-good f cal g after size r =
-        record { is = rw (eq-eqb (t .bad) 0 z, ← q, ← s, f, p, g, r .is) refl; buffer = r .buffer }
+    taken-entry c after r p = record { is = rw (eq-eqb (t .bad) 0 z, ← q, ne-eqb (e .letter) 35 c) (p .is); buffer = p .buffer }
 
 -- ---- part by part
 
-module _ (room : ℕ) (c : Content) (l : Line) where
-  rest-byte : (byte : ℕ) (rest : List ℕ) → (byte ≡ 10 → ⊥) → restTaken room c l (byte ∷ rest) ≡ restTaken room c (extended l byte) rest
+module _ (room : ℕ) (c : Content) (l : LongLine) where
+  rest-byte : (byte : ℕ) (rest : List ℕ) → (byte ≡ 10 → ⊥) → restTaken room c l (byte ∷ rest) ≡ restTaken room c (lengthened l byte) rest
   unfolding restTaken
   rest-byte byte rest n = rw (ne-eqb byte 10 n) refl
 
-  part-byte : (byte : ℕ) (rest : List ℕ) → (byte ≡ 10 → ⊥) → partTaken room c l (byte ∷ rest) ≡ partTaken room c (extended l byte) rest
+  part-byte : (byte : ℕ) (rest : List ℕ) → (byte ≡ 10 → ⊥) → partTaken room c l (byte ∷ rest) ≡ partTaken room c (lengthened l byte) rest
   unfolding partTaken
   part-byte byte rest n = rw (ne-eqb byte 10 n) refl
 
-  part-line : (byte : ℕ) (rest : List ℕ) → byte ≡ 10 → partTaken room c l (byte ∷ rest) ≡ partTaken room (lineTaken room c (lineEntry l)) emptyLine rest
+  part-line : (byte : ℕ) (rest : List ℕ) → byte ≡ 10 → partTaken room c l (byte ∷ rest) ≡ partTaken room (lineTaken room c (heldSaid (eqb (c .lines) 0) l)) emptyLong rest
   unfolding partTaken
   part-line byte rest e = rw (eq-eqb byte 10 e) refl
 
-  rest-line : (byte : ℕ) (rest : List ℕ) → byte ≡ 10 → restTaken room c l (byte ∷ rest) ≡ restTaken room (lineTaken room c (lineEntry l)) emptyLine rest
+  rest-line : (byte : ℕ) (rest : List ℕ) → byte ≡ 10 → restTaken room c l (byte ∷ rest) ≡ restTaken room (lineTaken room c (heldSaid (eqb (c .lines) 0) l)) emptyLong rest
   unfolding restTaken
   rest-line byte rest e = rw (eq-eqb byte 10 e) refl
 
-module _ (l : Line) (byte : ℕ) (rest : List ℕ) where
-  begun-byte : (byte ≡ 10 → ⊥) → lineAfter l (byte ∷ rest) ≡ lineAfter (extended l byte) rest
+module _ (l : LongLine) (byte : ℕ) (rest : List ℕ) where
+  begun-byte : (byte ≡ 10 → ⊥) → lineAfter l (byte ∷ rest) ≡ lineAfter (lengthened l byte) rest
   unfolding lineAfter
   begun-byte n = rw (ne-eqb byte 10 n) refl
 
-  begun-line : byte ≡ 10 → lineAfter l (byte ∷ rest) ≡ lineAfter emptyLine rest
+  begun-line : byte ≡ 10 → lineAfter l (byte ∷ rest) ≡ lineAfter emptyLong rest
   unfolding lineAfter
   begun-line e = rw (eq-eqb byte 10 e) refl
 
 -- after the first i bytes of a part
-pub record Going (t : Taken) (l : Line) (part before : List ℕ) (now : Taken) (line : Line) (buffer : List ℕ) (i : ℕ) : Type 0 where
+pub record Going (t : Taken) (l : LongLine) (part before : List ℕ) (now : Taken) (line : LongLine) (buffer : List ℕ) (i : ℕ) : Type 0 where
   pub within : i ≤ length part
   pub grown : Grown before buffer (t .size) (now .size)
   pub said : partTaken (length before) (contentIn t before) l part ≡ partTaken (length before) (contentIn now buffer) line (drop i part)
   pub begun : lineAfter l part ≡ lineAfter line (drop i part)
   pub is : (rest : List ℕ) → restTaken (length before) (contentIn t before) l (part ++ rest) ≡ restTaken (length before) (contentIn now buffer) line (drop i part ++ rest)
 
-pub begins : (t : Taken) (l : Line) (part before : List ℕ) → Going t l part before t l before 0
+pub begins : (t : Taken) (l : LongLine) (part before : List ℕ) → Going t l part before t l before 0
 begins t l part before = record { within = omega arith; grown = stays before (t .size); said = refl; begun = refl; is = λ rest. refl }
 
-module _ (t : Taken) (l : Line) (part before : List ℕ) (now : Taken) (line : Line) (buffer : List ℕ) (i : ℕ) (g : Going t l part before now line buffer i) where
+module _ (t : Taken) (l : LongLine) (part before : List ℕ) (now : Taken) (line : LongLine) (buffer : List ℕ) (i : ℕ) (g : Going t l part before now line buffer i) where
   module _ (h : i < length part) where
     part-next : (rest : List ℕ) → drop i part ++ rest ≡ getD part i 0 ∷ (drop (i + 1) part ++ rest)
     part-next rest = rw (drop-cons part i 0 h, add-one i) refl
@@ -94,7 +108,7 @@ module _ (t : Taken) (l : Line) (part before : List ℕ) (now : Taken) (line : L
     one-more : drop i part ≡ getD part i 0 ∷ drop (i + 1) part
     one-more = rw (drop-cons part i 0 h, add-one i) refl
 
-    pub goes-byte : (getD part i 0 ≡ 10 → ⊥) → (next : Line) → next ≡ extended line (getD part i 0) → Going t l part before now next buffer (i + 1)
+    pub goes-byte : (getD part i 0 ≡ 10 → ⊥) → (next : LongLine) → next ≡ lengthened line (getD part i 0) → Going t l part before now next buffer (i + 1)
     goes-byte n next e =
         record {
           within = omega arith;
@@ -104,7 +118,7 @@ module _ (t : Taken) (l : Line) (part before : List ℕ) (now : Taken) (line : L
           is = λ rest. g .is rest ∙ rw (part-next rest, e) (rest-byte (length before) (contentIn now buffer) line (getD part i 0) (drop (i + 1) part ++ rest) n);
         }
 
-    pub goes-line : getD part i 0 ≡ 10 → (after : List ℕ) (r : Taken) → LineIn now line buffer after r → (next : Line) → next ≡ emptyLine → Going t l part before r next after (i + 1)
+    pub goes-line : getD part i 0 ≡ 10 → (after : List ℕ) (r : Taken) → LineIn now line buffer after r → (next : LongLine) → next ≡ emptyLong → Going t l part before r next after (i + 1)
     goes-line e after r s next q =
         let room : length buffer ≡ length before = g .grown .long in
         record {
@@ -128,7 +142,7 @@ module _ (t : Taken) (l : Line) (part before : List ℕ) (now : Taken) (line : L
 
 -- ---- the end of the list
 
-module _ (t : Taken) (l : Line) (before : List ℕ) where
+module _ (t : Taken) (l : LongLine) (before : List ℕ) where
   pub end-none : l .length ≡ 0 → EndIn t l before before t
   unfolding restTaken
   end-none e = record { is = rw (eq-eqb (l .length) 0 e) refl; buffer = stays before (t .size) }
@@ -139,44 +153,92 @@ module _ (t : Taken) (l : Line) (before : List ℕ) where
 
 -- ---- the whole
 
--- the line that the program holds is the line that has begun
-rest-is : (room : ℕ) (c : Content) (begun input : List ℕ) → restTaken room c (fed emptyLine begun) input ≡ linesTaken room c (linesFrom begun input)
-unfolding restTaken linesTaken linesFrom fed
-rest-is room c begun [] = rw (any-empty begun, any-length begun) (go (eqb (length begun) 0))
+-- there is a next line
+pub next-some : (n : ℕ) → eqb (nextLine n) 0 ≡ false
+unfolding nextLine
+next-some n = ne-eqb (cond (ltb n 999999999) (n + 1) n) 0 (go (ltb n 999999999) refl)
   where
-    go : (b : Bool) → cond b c (lineTaken room c (entryOf begun)) ≡ linesTaken room c (cond b [] (begun ∷ []))
+    go : (b : Bool) → ltb n 999999999 ≡ b → cond b (n + 1) n ≡ 0 → ⊥
+    go true q e = omega arith
+    go false q e = omega (arith, ltb-false n 999999999 q)
+
+-- a bad line was counted
+abbrev Numbering : Content → Type 0
+Numbering c = (c .bad ≡ 0 → ⊥) → eqb (c .lines) 0 ≡ false
+
+counted-next : (room : ℕ) (c : Content) (e : Entry) → Numbering c → eqb (lineTaken room c e .lines) 0 ≡ false
+unfolding lineTaken entryTaken
+counted-next room c e h = go (eqb (c .bad) 0) refl (eqb (e .letter) 35) (entryFits (c .begun) (c .calendar .cover) (c .seeded) e)
+  where
+    good : Content
+    good =
+        record {
+          begun = true;
+          calendar = calendarAfter (c .calendar) e;
+          seeded = c .seeded || eqb (e .letter) 83;
+          records = recordsAfter room (c .records) e;
+          faults = faultsAfter (c .faults) (nextLine (c .lines)) e;
+          lines = nextLine (c .lines);
+          bad = 0;
+        }
+
+    go : (a : Bool) → eqb (c .bad) 0 ≡ a → (b d : Bool) → eqb (cond a (cond b (lineCounted c 0) (cond d good (lineCounted c (nextLine (c .lines))))) c .lines) 0 ≡ false
+    go false q b d = h (eqb-false (c .bad) 0 q)
+    go true q true d = next-some (c .lines)
+    go true q false true = next-some (c .lines)
+    go true q false false = next-some (c .lines)
+
+-- the line that the program holds is the line that has begun
+rest-is : (room : ℕ) (c : Content) (n : ℕ) (begun input : List ℕ) → Numbering c → eqb (c .lines) 0 ≡ eqb n 0
+    → restTaken room c (fedLong emptyLong begun) input ≡ linesTaken room c (numberedFrom n (linesFrom begun input))
+unfolding restTaken linesTaken numberedFrom linesFrom fedLong
+rest-is room c n begun [] h q = rw (any-empty begun, held-any (eqb (c .lines) 0) begun, q) (go (eqb (length begun) 0))
+  where
+    go : (b : Bool) → cond b c (lineTaken room c (lineSaid (eqb n 0) begun)) ≡ linesTaken room c (numberedFrom n (cond b [] (begun ∷ [])))
     go true = refl
     go false = refl
-rest-is room c begun (byte ∷ rest) = go (eqb byte 10) (rest-is room (lineTaken room c (entryOf begun)) [] rest) (rest-is room c (begun ++ (byte ∷ [])) rest)
+rest-is room c n begun (byte ∷ rest) h q =
+    go (eqb byte 10) (rest-is room next (nextLine n) [] rest (λ b. after) (after ∙ sym (next-some n))) (rest-is room c n (begun ++ (byte ∷ [])) rest h q)
   where
-    l : Line
-    l = fed emptyLine begun
+    next : Content
+    next = lineTaken room c (lineSaid (eqb n 0) begun)
+
+    after : eqb (next .lines) 0 ≡ false
+    after = counted-next room c (lineSaid (eqb n 0) begun) h
+
+    l : LongLine
+    l = fedLong emptyLong begun
 
     go : (b : Bool)
-        → restTaken room (lineTaken room c (entryOf begun)) (fed emptyLine []) rest ≡ linesTaken room (lineTaken room c (entryOf begun)) (linesFrom [] rest)
-        → restTaken room c (fed emptyLine (begun ++ (byte ∷ []))) rest ≡ linesTaken room c (linesFrom (begun ++ (byte ∷ [])) rest)
-        → cond b (restTaken room (lineTaken room c (lineEntry l)) emptyLine rest) (restTaken room c (extended l byte) rest)
-        ≡ linesTaken room c (cond b (begun ∷ linesFrom [] rest) (linesFrom (begun ++ (byte ∷ [])) rest))
-    go true e d = rw (any-length begun) e
-    go false e d = rw (fed-more emptyLine begun byte) at d
+        → restTaken room next (fedLong emptyLong []) rest ≡ linesTaken room next (numberedFrom (nextLine n) (linesFrom [] rest))
+        → restTaken room c (fedLong emptyLong (begun ++ (byte ∷ []))) rest ≡ linesTaken room c (numberedFrom n (linesFrom (begun ++ (byte ∷ [])) rest))
+        → cond b (restTaken room (lineTaken room c (heldSaid (eqb (c .lines) 0) l)) emptyLong rest) (restTaken room c (lengthened l byte) rest)
+        ≡ linesTaken room c (numberedFrom n (cond b (begun ∷ linesFrom [] rest) (linesFrom (begun ++ (byte ∷ [])) rest)))
+    go true e d = rw (held-any (eqb (c .lines) 0) begun, q) e
+    go false e d = rw (fed-more emptyLong begun byte) at d
 
 -- from nothing taken and an empty line, what is taken byte by byte is what the whole list says
-pub whole-list : (buffer input : List ℕ) → restTaken (length buffer) (contentIn nothingTaken buffer) emptyLine input ≡ contentOf (length buffer) input
-unfolding contentOf fed noContent nothingTaken
-whole-list buffer input = rest-is (length buffer) noContent [] input
+pub whole-list : (buffer input : List ℕ) → restTaken (length buffer) (contentIn nothingTaken buffer) emptyLong input ≡ contentOf (length buffer) input
+unfolding contentOf numberedLines fedLong noContent nothingTaken
+whole-list buffer input = rest-is (length buffer) noContent 0 [] input (λ n. absurd (n refl)) refl
 
 -- ---- the file
 
+pub no-idle : (refusal : ℕ) (cal : Calendar) → (refusal ≡ 6 → ⊥) → 0 ≡ idleDay refusal cal
+unfolding idleDay
+no-idle refusal cal n = rw (ne-eqb refusal 6 n) refl
+
 module _ (t : Taken) (buffer file : List ℕ) where
-  pub composed-bad : (t .bad ≡ 0 → ⊥) → (record { bad = t .bad; refusal = 0; length = 0 } ≡ composed (contentIn t buffer) (length file)) × (file ≡ composedFile (contentIn t buffer) file)
+  pub composed-bad : (t .bad ≡ 0 → ⊥) → (r : Composed) → r ≡ record { bad = t .bad; refusal = 0; fault = noFault; day = 0; length = 0 } → (r ≡ composed (contentIn t buffer) (length file)) × (file ≡ composedFile (contentIn t buffer) file)
   unfolding composed composedFile
-  composed-bad n = (rw (ne-eqb (t .bad) 0 n) refl, rw (ne-eqb (t .bad) 0 n) refl)
+  composed-bad n r e = (rw (ne-eqb (t .bad) 0 n) e, rw (ne-eqb (t .bad) 0 n) refl)
 
   pub composed-is : t .bad ≡ 0 → (n : ℕ) → take n buffer ≡ take (t .size) buffer → (w : WrittenFile) (after : List ℕ)
       → writeAnswer w ≡ writeCall (t .calendar) (take n buffer) (length file) → after ≡ bufferAfter (t .calendar) (take n buffer) file
-      → (record { bad = 0; refusal = w .refusal; length = w .length } ≡ composed (contentIn t buffer) (length file)) × (after ≡ composedFile (contentIn t buffer) file)
+      → (fault : Fault) → fault ≡ faultKept (t .faults) (w .refusal) → (day : ℕ) → day ≡ idleDay (w .refusal) (t .calendar)
+      → (record { bad = 0; refusal = w .refusal; fault = fault; day = day; length = w .length } ≡ composed (contentIn t buffer) (length file)) × (after ≡ composedFile (contentIn t buffer) file)
   unfolding composed composedFile
-  composed-is z n e w after p q = (rw (eq-eqb (t .bad) 0 z, ← e, ← p) refl, rw (eq-eqb (t .bad) 0 z, ← e) q)
+  composed-is z n e w after p q fault k day d = (rw (eq-eqb (t .bad) 0 z, ← e, ← p, k, d) refl, rw (eq-eqb (t .bad) 0 z, ← e) q)
 
 -- no file is longer than the room for it
 written-fits : (cal : Calendar) (records : List ℕ) (room : ℕ) → writeCall cal records room .value ≤ room
@@ -194,6 +256,16 @@ pub composed-fits : (c : Content) (room : ℕ) (r : Composed) → r ≡ composed
 unfolding composed
 composed-fits c room r e = rw e (go (eqb (c .bad) 0))
   where
-    go : (b : Bool) → cond {A = Composed} b (record { bad = 0; refusal = writeCall (c .calendar) (c .records) room .refusal; length = writeCall (c .calendar) (c .records) room .value }) (record { bad = c .bad; refusal = 0; length = 0 }) .length ≤ room
+    good : Composed
+    good =
+        record {
+          bad = 0;
+          refusal = writeCall (c .calendar) (c .records) room .refusal;
+          fault = faultKept (c .faults) (writeCall (c .calendar) (c .records) room .refusal);
+          day = idleDay (writeCall (c .calendar) (c .records) room .refusal) (c .calendar);
+          length = writeCall (c .calendar) (c .records) room .value;
+        }
+
+    go : (b : Bool) → cond b good (record { bad = c .bad; refusal = 0; fault = noFault; day = 0; length = 0 }) .length ≤ room
     go true = written-fits (c .calendar) (c .records) room
     go false = omega arith

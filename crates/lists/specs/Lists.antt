@@ -4,6 +4,7 @@ use Prim.Native.Nat.{ℕ, _+_, _≤_, _<_}
 use mathlib.Core.Path.{_≡_}
 use mathlib.Core.Bool.{Bool, true, false, not, _&&_, _||_, cond}
 use mathlib.Core.List.{List, [], _∷_, _++_}
+use mathlib.Core.Logic.{_⊎_}
 use lib.Dec.{eqb, leb, ltb}
 use lib.ListN.{length, take, drop}
 use Rattle.calendar.specs.declared.Cover.{Cover}
@@ -14,24 +15,31 @@ use Rattle.blocks.specs.Blocks.{headersRight}
 use Rattle.years.specs.Calendars.{orderRight, calendarsClean, weeksRight}
 use Rattle.drafts.specs.Drafts.{fileOf}
 use Rattle.writing.specs.Writing.{writeCall, bufferAfter}
-use Rattle.lines.specs.declared.Line.{Line}
-use Rattle.lines.specs.Lines.{emptyLine, extended, linesFrom}
+use Rattle.lines.specs.Lines.{linesFrom}
 use Rattle.entries.specs.declared.Entry.{Entry}
-use Rattle.entries.specs.Entries.{entryOf, lineEntry}
+use Rattle.delivery_items.specs.declared.LongLine.{LongLine}
+use Rattle.delivery_items.specs.Items.{emptyLong, lengthened}
+use Rattle.list_lines.specs.Said.{lineSaid, heldSaid}
+use Rattle.list_faults.specs.declared.Fault.{Fault}
+use Rattle.list_faults.specs.declared.Faults.{Faults}
+use Rattle.list_faults.specs.Faults.{noFault, noFaults, faultsAfter, faultKept, Numbered, firstFault, firstIdle}
 use Rattle.lists.specs.declared.Taken.{Taken}
 use Rattle.lists.specs.declared.Composed.{Composed}
 
--- what the lines so far say: a calendar, whether the first line was an `S`, and records, 32 bytes each; how many lines were taken, up to the first that is none of those of a list; and the number of that one, from 1, 0 where there is none. Both numbers are at most 999,999,999
+-- what the lines so far say: whether one of them says something, a calendar, whether the first of these was an `S`, and records, 32 bytes each; the first lines at fault; how many lines were taken, up to the first that is none of those of a list; and the number of that one, from 1, 0 where there is none. Both numbers are at most 999,999,999
 pub record Content : Type 0 where
+  pub begun : Bool
   pub calendar : Calendar
   pub seeded : Bool
   pub records : List ℕ
+  pub faults : Faults
   pub lines : ℕ
   pub bad : ℕ
 
 -- before the first line there is no year
 unfoldable pub noContent : Content
-noContent = record { calendar = zeroCalendar; seeded = false; records = []; lines = 0; bad = 0 }
+noContent =
+    record { begun = false; calendar = zeroCalendar; seeded = false; records = []; faults = noFaults; lines = 0; bad = 0 }
 
 -- '`X date`: a closed day on which payments and deliveries run': closed, and with its bit in the second map as a closure sets it in the first
 unfoldable pub closeExchangeDay : Calendar → ℕ → Calendar
@@ -42,12 +50,12 @@ closeExchangeDay cal d =
       exchange = closeDay (calendarWith (cal .cover) (cal .exchange)) d .closed;
     }
 
--- 'The first line is a `Y` [89] or an `S` [83], and no other line is. After an `S` no line is a `C` or an `X`'; 'the day of a `C` or `X` is in the cover'; the other entry is P, 80
-unfoldable pub entryFits : ℕ → Cover → Bool → Entry → Bool
-entryFits lines cover seeded e =
+-- 'The first line that says something is a `Y` [89] or an `S` [83], and no other line is. After an `S` no line is a `C` or an `X`'; 'the day of a `C` or `X` is in the cover'; the other entry is P, 80
+unfoldable pub entryFits : Bool → Cover → Bool → Entry → Bool
+entryFits begun cover seeded e =
     cond (eqb (e .letter) 0) false
-    (cond (eqb (e .letter) 89 || eqb (e .letter) 83) (eqb lines 0)
-    (not (eqb lines 0) && (eqb (e .letter) 80 || (not seeded && inCover cover (e .day)))))
+    (cond (eqb (e .letter) 89 || eqb (e .letter) 83) (not begun)
+    (begun && (eqb (e .letter) 80 || (not seeded && inCover cover (e .day)))))
 
 -- the calendar after an entry: Y, 89, S, 83, C, 67, X, 88; a product leaves it as it is. 'An `S` whose cover is not 1 to 16 years from 2000 to 2099 says no year': the seed's calendar is then one of zeros
 unfoldable pub calendarAfter : Calendar → Entry → Calendar
@@ -69,55 +77,95 @@ recordsAfter room records e = cond (eqb (e .letter) 80) (withRecord room records
 unfoldable pub nextLine : ℕ → ℕ
 nextLine n = cond (ltb n 999999999) (n + 1) n
 
--- what is said after one line more; after a line that is none of a list's, nothing more is taken
-unfoldable pub lineTaken : ℕ → Content → Entry → Content
-lineTaken room c e =
-    cond (eqb (c .bad) 0)
-    (cond (entryFits (c .lines) (c .calendar .cover) (c .seeded) e)
+-- what is said after a line more that says nothing, or that is none of a list's: only the number of lines is another, and perhaps that of the bad one
+abbrev pub lineCounted : Content → ℕ → Content
+lineCounted c bad =
+    record {
+      begun = c .begun;
+      calendar = c .calendar;
+      seeded = c .seeded;
+      records = c .records;
+      faults = c .faults;
+      lines = nextLine (c .lines);
+      bad = bad;
+    }
+
+-- what is said after a line more that says something and stands where it may
+unfoldable pub entryTaken : ℕ → Content → Entry → Content
+entryTaken room c e =
+    cond (entryFits (c .begun) (c .calendar .cover) (c .seeded) e)
     (record {
+      begun = true;
       calendar = calendarAfter (c .calendar) e;
       seeded = c .seeded || eqb (e .letter) 83;
       records = recordsAfter room (c .records) e;
+      faults = faultsAfter (c .faults) (nextLine (c .lines)) e;
       lines = nextLine (c .lines);
       bad = 0;
     })
-    (record { calendar = c .calendar; seeded = c .seeded; records = c .records; lines = nextLine (c .lines); bad = nextLine (c .lines) }))
-    c
+    (lineCounted c (nextLine (c .lines)))
+
+-- what is said after one line more; a comment's letter is #, 35; after a line that is none of a list's, nothing more is taken
+unfoldable pub lineTaken : ℕ → Content → Entry → Content
+lineTaken room c e = cond (eqb (c .bad) 0) (cond (eqb (e .letter) 35) (lineCounted c 0) (entryTaken room c e)) c
 
 -- the same of some lines, one after the other
-unfoldable pub linesTaken : ℕ → Content → List (List ℕ) → Content
+unfoldable pub linesTaken : ℕ → Content → List Numbered → Content
 linesTaken room c [] = c
-linesTaken room c (line ∷ lines) = linesTaken room (lineTaken room c (entryOf line)) lines
+linesTaken room c (l ∷ ls) = linesTaken room (lineTaken room c (l .entry)) ls
+
+-- some lines with their numbers and what they say, after so many lines
+unfoldable pub numberedFrom : ℕ → List (List ℕ) → List Numbered
+numberedFrom n [] = []
+numberedFrom n (line ∷ lines) =
+    record { line = nextLine n; entry = lineSaid (eqb n 0) line } ∷ numberedFrom (nextLine n) lines
+
+-- those of a text: 'A line ends with a line feed or with the text'
+unfoldable pub numberedLines : List ℕ → List Numbered
+numberedLines input = numberedFrom 0 (linesFrom [] input)
 
 -- what a list says, with room for so many bytes of records
 unfoldable pub contentOf : ℕ → List ℕ → Content
-contentOf room input = linesTaken room noContent (linesFrom [] input)
+contentOf room input = linesTaken room noContent (numberedLines input)
 
 -- what is said after the rest of a list, with a line begun; from `noContent` and an empty line this is `contentOf` (proofs, Taking: `whole-list`)
-unfoldable pub restTaken : ℕ → Content → Line → List ℕ → Content
-restTaken room c l [] = cond (eqb (l .length) 0) c (lineTaken room c (lineEntry l))
+unfoldable pub restTaken : ℕ → Content → LongLine → List ℕ → Content
+restTaken room c l [] = cond (eqb (l .length) 0) c (lineTaken room c (heldSaid (eqb (c .lines) 0) l))
 restTaken room c l (byte ∷ rest) =
-    cond (eqb byte 10) (restTaken room (lineTaken room c (lineEntry l)) emptyLine rest) (restTaken room c (extended l byte) rest)
+    cond (eqb byte 10)
+    (restTaken room (lineTaken room c (heldSaid (eqb (c .lines) 0) l)) emptyLong rest)
+    (restTaken room c (lengthened l byte) rest)
 
 -- what is said after the lines that end in a part of a list, with a line begun
-unfoldable pub partTaken : ℕ → Content → Line → List ℕ → Content
+unfoldable pub partTaken : ℕ → Content → LongLine → List ℕ → Content
 partTaken room c l [] = c
 partTaken room c l (byte ∷ rest) =
-    cond (eqb byte 10) (partTaken room (lineTaken room c (lineEntry l)) emptyLine rest) (partTaken room c (extended l byte) rest)
+    cond (eqb byte 10)
+    (partTaken room (lineTaken room c (heldSaid (eqb (c .lines) 0) l)) emptyLong rest)
+    (partTaken room c (lengthened l byte) rest)
 
 -- and the line that is begun after them
-unfoldable pub lineAfter : Line → List ℕ → Line
+unfoldable pub lineAfter : LongLine → List ℕ → LongLine
 lineAfter l [] = l
-lineAfter l (byte ∷ rest) = cond (eqb byte 10) (lineAfter emptyLine rest) (lineAfter (extended l byte) rest)
+lineAfter l (byte ∷ rest) = cond (eqb byte 10) (lineAfter emptyLong rest) (lineAfter (lengthened l byte) rest)
 
 -- what the code holds: the records stand at the start of a lent buffer
 abbrev pub contentIn : Taken → List ℕ → Content
 contentIn t buffer =
-    record { calendar = t .calendar; seeded = t .seeded; records = take (t .size) buffer; lines = t .lines; bad = t .bad }
+    record {
+      begun = t .begun;
+      calendar = t .calendar;
+      seeded = t .seeded;
+      records = take (t .size) buffer;
+      faults = t .faults;
+      lines = t .lines;
+      bad = t .bad;
+    }
 
 -- before the first line
 unfoldable pub nothingTaken : Taken
-nothingTaken = record { calendar = zeroCalendar; seeded = false; size = 0; lines = 0; bad = 0 }
+nothingTaken =
+    record { begun = false; calendar = zeroCalendar; seeded = false; size = 0; faults = noFaults; lines = 0; bad = 0 }
 
 -- of a buffer before and after, with so many bytes of records at its start before and after: they are no fewer, and no more than the buffer has where they were no more before, else as many as before; the buffer is as long as it was, and after the records nothing is changed
 pub record Grown (before after : List ℕ) (from size : ℕ) : Type 0 where
@@ -132,13 +180,31 @@ pub record RecordsIn (before after : List ℕ) (from size : ℕ) (records : List
   pub is : take size after ≡ records
   pub buffer : Grown before after from size
 
+-- only the code needs it: the state after a line that only counts, with the number of the bad one
+unfoldable pub lineTold : Taken → ℕ → Taken
+lineTold t bad =
+    record {
+      begun = t .begun;
+      calendar = t .calendar;
+      seeded = t .seeded;
+      size = t .size;
+      faults = t .faults;
+      lines = nextLine (t .lines);
+      bad = bad;
+    }
+
+-- of a state and a buffer before and after one line more that says something
+pub record EntryIn (t : Taken) (e : Entry) (before after : List ℕ) (r : Taken) : Type 0 where
+  pub is : contentIn r after ≡ entryTaken (length before) (contentIn t before) e
+  pub buffer : Grown before after (t .size) (r .size)
+
 -- of a state and a buffer before and after one line more
-pub record LineIn (t : Taken) (l : Line) (before after : List ℕ) (r : Taken) : Type 0 where
-  pub is : contentIn r after ≡ lineTaken (length before) (contentIn t before) (lineEntry l)
+pub record LineIn (t : Taken) (l : LongLine) (before after : List ℕ) (r : Taken) : Type 0 where
+  pub is : contentIn r after ≡ lineTaken (length before) (contentIn t before) (heldSaid (eqb (t .lines) 0) l)
   pub buffer : Grown before after (t .size) (r .size)
 
 -- of a state, a line begun and a buffer before and after a part of the list
-pub record PartIn (t : Taken) (l : Line) (part before after : List ℕ) (r : Taken) (next : Line) : Type 0 where
+pub record PartIn (t : Taken) (l : LongLine) (part before after : List ℕ) (r : Taken) (next : LongLine) : Type 0 where
   pub said : contentIn r after ≡ partTaken (length before) (contentIn t before) l part
   pub begun : next ≡ lineAfter l part
   -- whatever the rest of the list is, the whole says what the rest says after the part
@@ -146,16 +212,21 @@ pub record PartIn (t : Taken) (l : Line) (part before after : List ℕ) (r : Tak
   pub buffer : Grown before after (t .size) (r .size)
 
 -- of the end of the list
-pub record EndIn (t : Taken) (l : Line) (before after : List ℕ) (r : Taken) : Type 0 where
+pub record EndIn (t : Taken) (l : LongLine) (before after : List ℕ) (r : Taken) : Type 0 where
   pub is : contentIn r after ≡ restTaken (length before) (contentIn t before) l []
   pub buffer : Grown before after (t .size) (r .size)
 
--- '`compose` writes the file to standard output', or 'nothing there' and `BAD k` or `NO n` (README, The text of a master file): the number of the first line that is none of a list's, or the refusal, or the file's length
+-- the first day of a run without trading where the refusal is 6, else 0
+unfoldable pub idleDay : ℕ → Calendar → ℕ
+idleDay refusal cal = cond (eqb refusal 6) (firstIdle cal) 0
+
+-- '`compose` writes the file to standard output', or 'nothing there' and `BAD k` or `NO n` (README, The text of a master file): the number of the first line that is none of a list's, or the refusal with 'the first line at fault' or 'the first day of a run without trading', or the file's length
 unfoldable pub composed : Content → ℕ → Composed
 composed c room =
+    let w = writeCall (c .calendar) (c .records) room in
     cond (eqb (c .bad) 0)
-    (record { bad = 0; refusal = writeCall (c .calendar) (c .records) room .refusal; length = writeCall (c .calendar) (c .records) room .value })
-    (record { bad = c .bad; refusal = 0; length = 0 })
+    (record { bad = 0; refusal = w .refusal; fault = faultKept (c .faults) (w .refusal); day = idleDay (w .refusal) (c .calendar); length = w .value })
+    (record { bad = c .bad; refusal = 0; fault = noFault; day = 0; length = 0 })
 
 -- the lent buffer afterwards: the file, and after it what stood there; as it was where a line is none of a list's or the file is refused
 unfoldable pub composedFile : Content → List ℕ → List ℕ
@@ -168,11 +239,22 @@ pub record CalendarPasses (f : List ℕ) : Type 0 where
   pub yes5 : calendarsClean f ≡ true
   pub yes6 : weeksRight f ≡ true
 
--- of a list whose first line is `first`, an `S`, whatever lines follow (proofs, Seeds: `of-seed`)
-pub record OfSeed (room : ℕ) (input first : List ℕ) : Type 0 where
+-- of a text whose lines are all those of a list: what is kept for a question is its first line at fault (proofs, Where: `says-where`)
+pub record SaysWhere (room : ℕ) (input : List ℕ) : Type 0 where
+  pub line5 : faultKept (contentOf room input .faults) 5 ≡ firstFault 5 (numberedLines input)
+  pub line7 : faultKept (contentOf room input .faults) 7 ≡ firstFault 7 (numberedLines input)
+  pub line8 : faultKept (contentOf room input .faults) 8 ≡ firstFault 8 (numberedLines input)
+
+-- the first of some lines that says something is an `S`, 83, with this entry
+unfoldable pub saySeed : List Numbered → Entry → Type 0
+saySeed [] first = ⊥
+saySeed (l ∷ ls) first = ((l .entry .letter ≡ 35) × saySeed ls first) ⊎ ((l .entry ≡ first) × (first .letter ≡ 83))
+
+-- of a list whose first line that says something is an `S` with entry `first`, whatever lines follow (proofs, Seeds: `of-seed`)
+pub record OfSeed (room : ℕ) (input : List ℕ) (first : Entry) : Type 0 where
   -- 'all closed days are those of the seed'
-  pub calendar : contentOf room input .calendar ≡ madeCall (entryOf first .seed) (entryOf first .cover) .value
+  pub calendar : contentOf room input .calendar ≡ madeCall (first .seed) (first .cover) .value
   -- 'every calendar made this way passes questions 5 and 6, for every seed and every cover of 1 to 16 years from 2000 to 2099' (02, note 14), and so does its file, with some product
-  pub right-cover : validCover (entryOf first .cover) ≡ true → 1 ≤ length (contentOf room input .records) → CalendarPasses (fileOf (contentOf room input .calendar) (contentOf room input .records))
+  pub right-cover : validCover (first .cover) ≡ true → 1 ≤ length (contentOf room input .records) → CalendarPasses (fileOf (contentOf room input .calendar) (contentOf room input .records))
   -- 'An `S` whose cover is not 1 to 16 years from 2000 to 2099 says no year, so that the file gets 4', where each line is one of a list's
-  pub wrong-cover : validCover (entryOf first .cover) ≡ false → contentOf room input .bad ≡ 0 → (space : ℕ) → composed (contentOf room input) space ≡ record { bad = 0; refusal = 4; length = 0 }
+  pub wrong-cover : validCover (first .cover) ≡ false → contentOf room input .bad ≡ 0 → (space : ℕ) → composed (contentOf room input) space ≡ record { bad = 0; refusal = 4; fault = noFault; day = 0; length = 0 }

@@ -1,18 +1,23 @@
 // A list taken in line by line: the calendar and the records of a master file, and the file.
 use calendar::Calendar;
 use calendar::Cover;
+use delivery_items::LongLine;
 use entries::Entry;
-use lines::Line;
+use list_faults::Fault;
+use list_faults::Faults;
 ghost use mathlib.Core.Path.{_≡_};
 ghost use Prim.Native.Nat.{_≤_};
 ghost use lib.ListN.{length, take};
-ghost use Rattle.lists.specs.Lists.{nothingTaken, closeExchangeDay, entryFits, calendarAfter, withRecord, recordsAfter, nextLine, contentIn, RecordsIn, LineIn, PartIn, EndIn, composed, composedFile};
+ghost use Rattle.list_faults.specs.Faults.{noFault};
+ghost use Rattle.lists.specs.Lists.{nothingTaken, closeExchangeDay, entryFits, calendarAfter, withRecord, recordsAfter, nextLine, lineTold, EntryIn, idleDay, contentIn, RecordsIn, LineIn, PartIn, EndIn, composed, composedFile};
 
-// What the lines so far say: the calendar, whether the first line was an `S`, how many bytes of records stand in the buffer, how many lines were taken, up to the first that is none of a list's, and the number of that one, 0 where there is none.
+// What the lines so far say: whether one says something, the calendar, whether the first of these was an `S`, how many bytes of records stand in the buffer, the first lines at fault, how many lines were taken, up to the first that is none of a list's, and the number of that one, 0 where there is none.
 pub struct Taken {
+    pub begun: bool,
     pub calendar: Calendar,
     pub seeded: bool,
     pub size: usize,
+    pub faults: Faults,
     pub lines: u32,
     pub bad: u32,
 }
@@ -20,13 +25,15 @@ pub struct Taken {
 // What the lines so far say, and the line begun.
 pub struct Progress {
     pub taken: Taken,
-    pub line: Line,
+    pub line: LongLine,
 }
 
-// The number of the first line that is none of a list's, the refusal, and the file's length, each 0 where there is none.
+// The number of the first line that is none of a list's, the refusal, the first line at fault, the first day without trading, and the file's length, each 0 where there is none.
 pub struct Composed {
     pub bad: u32,
     pub refusal: u8,
+    pub fault: Fault,
+    pub day: u16,
     pub length: usize,
 }
 
@@ -35,10 +42,13 @@ pub fn nothing_taken() -> Taken
     ensures { λ r. ⌜ r ≡ nothingTaken ⌝ }
 {
     let calendar = calendar::zero_calendar();
+    let faults = list_faults::no_faults();
     Taken {
+        begun: false,
         calendar,
         seeded: false,
         size: 0,
+        faults,
         lines: 0,
         bad: 0,
     }
@@ -68,18 +78,18 @@ fn close_exchange_day(cal: Calendar, day: u16) -> Calendar
     }
 }
 
-// Whether an entry may stand after so many lines, under a cover, where the first line was an `S` or not.
-fn entry_fits(lines: u32, cover: Cover, seeded: bool, e: Entry) -> bool
-    ensures { λ r. ⌜ r ≡ entryFits lines cover seeded e ⌝ }
+// Whether an entry may stand where a line before it said something or none did, under a cover, where the first of these was an `S` or not.
+fn entry_fits(begun: bool, cover: Cover, seeded: bool, e: Entry) -> bool
+    ensures { λ r. ⌜ r ≡ entryFits begun cover seeded e ⌝ }
 {
     let letter = e.letter;
     if letter == 0 {
         return false;
     }
     if (letter == b'Y') | (letter == b'S') {
-        return lines == 0;
+        return !begun;
     }
-    if lines == 0 {
+    if !begun {
         return false;
     }
     if letter == b'P' {
@@ -154,39 +164,64 @@ pub fn next_line(lines: u32) -> u32
     lines
 }
 
-// One line more. A product for which the buffer has no room is left out: where the buffer has 60,992 bytes or more, such a list has no file.
-pub fn take_line(taken: Taken, line: Line, records: &mut [u8]) -> Taken
-    ensures { λ r. ⌜ LineIn taken line (now (records .entry)) (now (records .exit)) r ⌝ }
+// The state after a line that only counts, with the number of the bad one.
+fn count_line(taken: Taken, bad: u32) -> Taken
+    ensures { λ r. ⌜ r ≡ lineTold taken bad ⌝ }
 {
-    if taken.bad != 0 {
-        return taken;
+    let calendar = taken.calendar;
+    let faults = taken.faults;
+    Taken {
+        begun: taken.begun,
+        calendar,
+        seeded: taken.seeded,
+        size: taken.size,
+        faults,
+        lines: next_line(taken.lines),
+        bad,
     }
-    let e = entries::entry_of(line);
+}
+
+// One line more that says something. A product for which the buffer has no room is left out: where the buffer has 60,992 bytes or more, such a list has no file.
+fn take_entry(taken: Taken, e: Entry, records: &mut [u8]) -> Taken
+    ensures { λ r. ⌜ EntryIn taken e (now (records .entry)) (now (records .exit)) r ⌝ }
+{
     let calendar = taken.calendar;
     let cover = calendar.cover;
     let lines = next_line(taken.lines);
-    if !entry_fits(taken.lines, cover, taken.seeded, e) {
-        return Taken {
-            calendar,
-            seeded: taken.seeded,
-            size: taken.size,
-            lines,
-            bad: lines,
-        };
+    if !entry_fits(taken.begun, cover, taken.seeded, e) {
+        return count_line(taken, lines);
     }
+    let before = taken.faults;
+    let faults = list_faults::faults_after(before, lines, e);
     let after = calendar_after(calendar, e);
     let size = store_entry(records, taken.size, e);
     Taken {
+        begun: true,
         calendar: after,
         seeded: taken.seeded | (e.letter == b'S'),
         size,
+        faults,
         lines,
         bad: 0,
     }
 }
 
+// One line more.
+pub fn take_line(taken: Taken, line: LongLine, records: &mut [u8]) -> Taken
+    ensures { λ r. ⌜ LineIn taken line (now (records .entry)) (now (records .exit)) r ⌝ }
+{
+    if taken.bad != 0 {
+        return taken;
+    }
+    let e = list_lines::held_entry(taken.lines == 0, line);
+    if e.letter == b'#' {
+        return count_line(taken, 0);
+    }
+    take_entry(taken, e, records)
+}
+
 // The lines that end in a part of the list, and the line begun after them.
-pub fn take_part(taken: Taken, line: Line, part: &[u8], records: &mut [u8]) -> Progress
+pub fn take_part(taken: Taken, line: LongLine, part: &[u8], records: &mut [u8]) -> Progress
     ensures { λ r. ⌜ PartIn taken line (now (part .entry)) (now (records .entry)) (now (records .exit)) (r .taken) (r .line) ⌝ }
 {
     let mut t = taken;
@@ -196,17 +231,17 @@ pub fn take_part(taken: Taken, line: Line, part: &[u8], records: &mut [u8]) -> P
         let byte = part[i];
         i += 1;
         if byte != b'\n' {
-            l = lines::extend(l, byte);
+            l = delivery_items::extend(l, byte);
             continue;
         }
         t = take_line(t, l, records);
-        l = lines::empty_line();
+        l = delivery_items::empty_line();
     }
     Progress { taken: t, line: l }
 }
 
 // A last line that no line feed ends; a line with no bytes is none.
-pub fn take_last(taken: Taken, line: Line, records: &mut [u8]) -> Taken
+pub fn take_last(taken: Taken, line: LongLine, records: &mut [u8]) -> Taken
     ensures { λ r. ⌜ EndIn taken line (now (records .entry)) (now (records .exit)) r ⌝ }
 {
     if line.length == 0 {
@@ -226,23 +261,50 @@ fn records_size(taken: Taken, records: &[u8]) -> usize
     size
 }
 
+// The first day of a run without trading where the refusal is 6, else 0.
+fn idle_day(refusal: u8, calendar: Calendar) -> u16
+    ensures { λ r. ⌜ r ≡ idleDay refusal calendar ⌝ }
+{
+    if refusal == 6 {
+        return list_faults::first_idle(calendar);
+    }
+    0
+}
+
+// A list with a line that is none of a list's.
+fn bad_list(bad: u32) -> Composed
+    ensures { λ r. ⌜ r ≡ record { bad = bad; refusal = 0; fault = noFault; day = 0; length = 0 } ⌝ }
+{
+    Composed {
+        bad,
+        refusal: 0,
+        fault: Fault {
+            line: 0,
+            id: [0, 0, 0, 0],
+        },
+        day: 0,
+        length: 0,
+    }
+}
+
 // The file of what a list says, in a lent buffer.
 pub fn compose(taken: Taken, records: &[u8], file: &mut [u8]) -> Composed
     ensures { λ r. ⌜ (r ≡ composed (contentIn taken (now (records .entry))) (length (now (file .entry)))) × (now (file .exit) ≡ composedFile (contentIn taken (now (records .entry))) (now (file .entry))) ⌝ }
 {
     if taken.bad != 0 {
-        return Composed {
-            bad: taken.bad,
-            refusal: 0,
-            length: 0,
-        };
+        return bad_list(taken.bad);
     }
     let n = records_size(taken, records);
     let calendar = taken.calendar;
     let w = writing::write(calendar, &records[..n], file);
+    let faults = taken.faults;
+    let fault = list_faults::fault_for(faults, w.refusal);
+    let day = idle_day(w.refusal, calendar);
     Composed {
         bad: 0,
         refusal: w.refusal,
+        fault,
+        day,
         length: w.length,
     }
 }

@@ -1,0 +1,15 @@
+-- A closed day whose weekday is 5 or 6.
+use mathlib.Core.Path.{refl}
+use Rattle.list_faults.specs.Faults.{namesWeekend}
+use Rattle.list_faults.proofs.names_weekend.Statement.{statement}
+use Rattle.list_faults.proofs.names_weekend.Tie as tie
+
+weekday-requires : tie.Need-weekday-requires
+weekday-requires c κs = tt
+
+returns : tie.Need-returns
+unfolding namesWeekend
+returns c = rw (c .weekday .ensures) refl
+
+pub names-weekend-spec : {M : Type 1} → statement M
+names-weekend-spec = tie.close (tie.spec weekday-requires returns)
