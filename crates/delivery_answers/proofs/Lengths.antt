@@ -34,13 +34,13 @@ eight-long : (n : ℕ) → length (inEightDigits n) ≤ 8
 unfolding inEightDigits
 eight-long n = omega (arith, length-append (inFourDigits (n / 10000)) (inFourDigits (n % 10000)), four-long (n / 10000), four-long (n % 10000))
 
-short-most : (n : ℕ) → length (decimalShort n) ≤ 9
+pub short-most : (n : ℕ) → length (decimalShort n) ≤ 9
 unfolding decimalShort
 short-most n =
     either (ltb n 10000) (decimal n) (decimal (n / 10000) ++ inFourDigits (n % 10000)) 9 (omega (arith, decimal-short n))
     (omega (arith, length-append (decimal (n / 10000)) (inFourDigits (n % 10000)), decimal-short (n / 10000), four-long (n % 10000)))
 
-number-most : (n : ℕ) → length (numberText n) ≤ 25
+pub number-most : (n : ℕ) → length (numberText n) ≤ 25
 unfolding numberText
 number-most n =
     either (ltb n 100000000) (decimalShort n) (cond (ltb (n / 100000000) 100000000) two three) 25 (omega (arith, short-most n))

@@ -57,7 +57,7 @@ fn refused_line(line: u32, refusal: u8, id: [u8; 4]) -> Line
 }
 
 // A refused call, or a line with no bytes where the number is 0.
-fn refusal_text(line: u32, refusal: u8, id: [u8; 4]) -> Line
+pub fn refusal_text(line: u32, refusal: u8, id: [u8; 4]) -> Line
     ensures { λ r. ⌜ LineWith emptyLine (refusalText line refusal id) r ⌝ }
 {
     if refusal == 0 {

@@ -1,0 +1,3 @@
+pub mod Lines
+mod Telling
+mod Taking

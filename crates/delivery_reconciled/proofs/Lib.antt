@@ -1,0 +1,3 @@
+mod Listed
+mod Strangers
+pub mod Rows

@@ -1,0 +1,2 @@
+pub mod Reconciled
+pub mod Standings
