@@ -1,0 +1,4 @@
+pub mod Long
+pub mod Answering
+pub mod Standings
+pub mod Tables

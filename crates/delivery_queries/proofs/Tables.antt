@@ -1,0 +1,82 @@
+-- What is answered to a question is of the product's table after the notices, of which demand 3 holds.
+-- Assumes nothing.
+use mathlib.Core.Path.{_≡_, refl, _∙_, sym, ap}
+use mathlib.Core.Bool.{Bool, true, false, _&&_, cond}
+use mathlib.Core.List.{List, [], _∷_, _++_}
+use Prim.Native.Nat.{ℕ}
+use lib.Dec.{eqb}
+use borrow.Author.Tests.{eq-eqb, ne-eqb}
+use Rattle.product.specs.declared.Product.{Product}
+use Rattle.master.specs.Load.{found, productOf}
+use Rattle.table.specs.declared.Table.{Table}
+use Rattle.table.specs.Table.{openCall}
+use Rattle.table.proofs.Opens.{accepted-from}
+use Rattle.history.specs.Book.{Call}
+use Rattle.history.specs.History.{tableRun}
+use Rattle.history.proofs.FromFile.{from-file}
+use Rattle.delivery_lines.specs.NoticeLines.{trimmed}
+use Rattle.delivery_notices.specs.Notices.{Notice}
+use Rattle.delivery_tables.specs.Tables.{callsFor, tableAfter}
+use Rattle.delivery_questions.specs.QuestionLines.{Question, last, due, tick, cash, size, Asked, asks, askedBy}
+use Rattle.delivery_answers.specs.declared.Standing.{Standing}
+use Rattle.delivery_answers.specs.Replies.{noText, questionText, replyText, misfits, badText, askedText, answerText}
+use Rattle.delivery_queries.specs.Queries.{standingOf}
+use Rattle.delivery_queries.specs.Tables.{answered, OfTable, EveryAnswer}
+
+-- of an id that is not in the file both forms of a maturity are taken
+unknown-fits : (s : Standing) (q : Question) → s .known ≡ false → misfits s q ≡ false
+unfolding misfits
+unknown-fits s (last friday key) e = rw e refl
+unknown-fits s (due day) e = refl
+unknown-fits s (tick price) e = refl
+unknown-fits s (cash contracts agreed final) e = refl
+unknown-fits s size e = refl
+
+module _ (of : List ℕ → Standing) (k : ℕ) (line id : List ℕ) (q : Question) (a : askedBy line ≡ asks id q) where
+  misfit : misfits (of id) q ≡ true → answerText of k line ≡ badText k
+  unfolding answerText askedText
+  misfit m = rw (a, m) refl
+
+  replied : misfits (of id) q ≡ false → answerText of k line ≡ answered line (replyText (of id) q)
+  unfolding answerText askedText
+  replied m = rw (a, m) refl
+
+module _ (f : List ℕ) (date : ℕ) (ns : List Notice) (id : List ℕ) (q : Question) where
+  no-product : found f id ≡ false → replyText (standingOf f date ns id) q ≡ noText 9
+  unfolding replyText standingOf
+  no-product e = rw e refl
+
+  no-opening : found f id ≡ true → (openCall f id date .refusal ≡ 0 → ⊥) → replyText (standingOf f date ns id) q ≡ noText (openCall f id date .refusal)
+  unfolding replyText standingOf
+  no-opening e n = rw (e, ne-eqb (openCall f id date .refusal) 0 n) refl
+
+  opened : found f id ≡ true → openCall f id date .refusal ≡ 0 → replyText (standingOf f date ns id) q ≡ questionText (tableAfter f id date ns) q
+  unfolding replyText standingOf
+  opened e z = rw (e, eq-eqb (openCall f id date .refusal) 0 z) refl
+
+  known-is : standingOf f date ns id .known ≡ found f id
+  unfolding standingOf
+  known-is = refl
+
+module _ (f : List ℕ) (date : ℕ) (ns : List Notice) (k : ℕ) (line id : List ℕ) (q : Question) (a : askedBy line ≡ asks id q) where
+  of-that-table : openCall f id date .refusal ≡ 0 → misfits (standingOf f date ns id) q ≡ false → OfTable f date ns k line id q
+  of-that-table z m =
+      let t = accepted-from f id date z .there in
+      let h = from-file f id date z (callsFor id ns) [] in
+      record {
+        there = t;
+        answer = replied (standingOf f date ns) k line id q a m ∙ ap (answered line) (opened f date ns id q t z);
+        kind = ap (λ (x : Table). tableRun x (callsFor id ns) .product .kind) (h .opened) ∙ ap (λ (p : Product). p .kind) (h .demand .product);
+        history = from-file f id date z (callsFor id ns);
+      }
+
+  pub every-answer : EveryAnswer f date ns k line id q
+  every-answer =
+      record {
+        unknown = λ e.
+            replied (standingOf f date ns) k line id q a (unknown-fits (standingOf f date ns id) q (known-is f date ns id q ∙ e))
+            ∙ ap (answered line) (no-product f date ns id q e);
+        other-sort = misfit (standingOf f date ns) k line id q a;
+        no-table = λ e m n. replied (standingOf f date ns) k line id q a m ∙ ap (answered line) (no-opening f date ns id q e n);
+        of-table = of-that-table;
+      }

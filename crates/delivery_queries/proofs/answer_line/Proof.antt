@@ -1,0 +1,68 @@
+-- By what the line asks: nothing, a bad line, or the answer by what is known of its product.
+use Rattle.questions.proofs.Bools.{said-no, said-yes}
+use Rattle.printing.proofs.Writing.{unprinted, room-long}
+use Rattle.delivery_queries.proofs.Answering.{printed-nothing, printed-bad, printed-answer, room-64}
+use borrow.Author.Needs.{needs}
+use Rattle.delivery_queries.proofs.answer_line.Statement.{statement}
+use Rattle.delivery_queries.proofs.answer_line.Tie as tie
+
+has-room-requires : tie.Need-has-room-requires
+has-room-requires c κs = tt
+
+same-length : tie.Need-same-length
+same-length c = search needs
+
+returns : tie.Need-returns
+returns c = unprinted (said-no (c .before .has-room .ensures) (c .if1 .taken))
+
+held-asks-requires : tie.Need-held-asks-requires
+held-asks-requires c κs = tt
+
+same-length-2 : tie.Need-same-length-2
+same-length-2 c = search needs
+
+returns-2 : tie.Need-returns-2
+returns-2 c = printed-nothing _ _ _ _ (c .before .before .held-asks .ensures) _ _ (said-yes (c .before .before .before .before .has-room .ensures) (c .before .before .before .if1 .left)) (c .if2 .taken)
+
+put-bad-requires : tie.Need-put-bad-requires
+put-bad-requires c κs = room-64 _ _ (said-yes (c .before .before .before .before .before .before .before .has-room .ensures) (c .before .before .before .before .before .before .if1 .left))
+
+same-length-3 : tie.Need-same-length-3
+same-length-3 c = search needs
+
+returns-3 : tie.Need-returns-3
+returns-3 c = printed-bad _ _ _ _ (c .before .before .before .before .before .before .before .before .held-asks .ensures) _ _ (said-yes (c .before .before .before .before .before .before .before .before .before .before .has-room .ensures) (c .before .before .before .before .before .before .before .before .before .if1 .left)) (c .before .before .before .before .if3 .taken) _ _ (c .before .before .put-bad .ensures .0) (c .before .before .put-bad .ensures .1)
+
+standing-requires : tie.Need-standing-requires
+standing-requires c κs = tt
+
+put-answer-requires : tie.Need-put-answer-requires
+put-answer-requires c κs = room-long _ _ (said-yes (c .before .before .before .before .before .before .before .before .before .before .before .before .has-room .ensures) (c .before .before .before .before .before .before .before .before .before .before .before .if1 .left))
+
+same-length-4 : tie.Need-same-length-4
+same-length-4 c = search needs
+
+same-length-5 : tie.Need-same-length-5
+same-length-5 c = search needs
+
+returns-4 : tie.Need-returns-4
+returns-4 c = printed-answer _ _ _ _ (c .before .before .before .before .before .before .before .before .before .before .before .before .before .held-asks .ensures) _ _ (said-yes (c .before .before .before .before .before .before .before .before .before .before .before .before .before .before .before .has-room .ensures) (c .before .before .before .before .before .before .before .before .before .before .before .before .before .before .if1 .left)) (c .before .before .before .before .before .before .before .before .before .before .before .if2 .left) (c .before .before .before .before .before .before .before .before .before .if3 .left) _ (c .before .before .before .before .before .before .standing .ensures) _ _ (c .before .before .put-answer .ensures .0) (c .before .before .put-answer .ensures .1)
+
+pub answer-line-spec : {M : Type 1} → statement M
+answer-line-spec =
+    tie.close
+    (tie.spec
+    has-room-requires
+    same-length
+    returns
+    held-asks-requires
+    same-length-2
+    returns-2
+    put-bad-requires
+    same-length-3
+    returns-3
+    standing-requires
+    put-answer-requires
+    same-length-4
+    same-length-5
+    returns-4)

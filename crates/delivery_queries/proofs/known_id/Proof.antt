@@ -1,0 +1,38 @@
+-- The answer of `find` says whether the id is there, and of which product.
+use Rattle.delivery_queries.proofs.Standings.{known-here, known-not}
+use borrow.Author.Needs.{needs}
+use Rattle.delivery_queries.proofs.known_id.Statement.{statement}
+use Rattle.delivery_queries.proofs.known_id.Tie as tie
+
+find-requires : tie.Need-find-requires
+find-requires c κs = tt
+
+enum-known-block : tie.Need-enum-known-block
+enum-known-block c = search needs
+
+product-at-requires : tie.Need-product-at-requires
+product-at-requires c κs = tt
+
+is-weekly-requires : tie.Need-is-weekly-requires
+is-weekly-requires c κs = tt
+
+enum-told : tie.Need-enum-told
+enum-told c = search needs
+
+returns : tie.Need-returns
+returns c = known-here _ _ _ _ (rw (c .before .before .before .block .given .1) at (c .before .before .before .before .before .find .ensures)) _ (c .before .product-at .ensures) _ (c .is-weekly .ensures)
+
+returns-2 : tie.Need-returns-2
+returns-2 c = known-not _ _ (rw (c .enum-told .given .1) at (c .before .before .find .ensures))
+
+pub known-id-spec : {M : Type 1} → statement M
+known-id-spec =
+    tie.close
+    (tie.spec
+    find-requires
+    enum-known-block
+    product-at-requires
+    is-weekly-requires
+    enum-told
+    returns
+    returns-2)

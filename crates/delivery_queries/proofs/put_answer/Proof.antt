@@ -1,0 +1,49 @@
+-- A misfit is bad; any other question is answered after its line.
+use mathlib.Core.Path.{sym, _∙_}
+use native.Mathlib.Omega.{arith}
+use Rattle.delivery_answers.proofs.Lengths.{reply-short}
+use Rattle.delivery_queries.proofs.Answering.{short-line, answer-bad, answer-reply}
+use borrow.Author.Needs.{needs}
+use Rattle.delivery_queries.proofs.put_answer.Statement.{statement}
+use Rattle.delivery_queries.proofs.put_answer.Tie as tie
+
+is-misfit-requires : tie.Need-is-misfit-requires
+is-misfit-requires c κs = tt
+
+put-bad-requires : tie.Need-put-bad-requires
+put-bad-requires c κs = omega (arith, c .before .before .before .before .pre)
+
+same-length : tie.Need-same-length
+same-length c = search needs
+
+returns : tie.Need-returns
+returns c = answer-bad _ _ _ _ _ _ _ _ (sym (c .before .before .before .before .before .is-misfit .ensures) ∙ c .before .before .before .before .if1 .taken) (c .before .before .put-bad .ensures)
+
+put-held-requires : tie.Need-put-held-requires
+put-held-requires c κs = omega (arith, c .before .before .before .before .pre)
+
+reply-line-requires : tie.Need-reply-line-requires
+reply-line-requires c κs = tt
+
+put-line-requires : tie.Need-put-line-requires
+put-line-requires c κs = (short-line _ _ (c .reply-line .ensures) (reply-short _ _), omega (arith, c .before .before .before .before .put-held .ensures .1, c .before .before .before .before .before .before .before .before .before .pre))
+
+same-length-2 : tie.Need-same-length-2
+same-length-2 c = search needs
+
+returns-2 : tie.Need-returns-2
+returns-2 c = answer-reply _ _ _ _ _ _ _ _ (sym (c .before .before .before .before .before .before .before .before .before .before .is-misfit .ensures) ∙ c .before .before .before .before .before .before .before .before .before .if1 .left) _ _ (c .before .before .before .before .before .before .before .put-held .ensures) _ (c .before .before .before .reply-line .ensures) (c .before .before .put-line .ensures)
+
+pub put-answer-spec : {M : Type 1} → statement M
+put-answer-spec =
+    tie.close
+    (tie.spec
+    is-misfit-requires
+    put-bad-requires
+    same-length
+    returns
+    put-held-requires
+    reply-line-requires
+    put-line-requires
+    same-length-2
+    returns-2)

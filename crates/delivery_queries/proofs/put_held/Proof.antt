@@ -1,0 +1,50 @@
+-- The bytes that are held, up to the last that is no blank, go to the buffer one by one.
+use mathlib.Core.Path.{_≡_, sym}
+use native.Mathlib.Omega.{arith}
+use lib.ListN.{length, length-map}
+use lib.Seq.{length-take-le}
+use Rattle.delivery_queries.proofs.Answering.{trim-few, put-trimmed}
+use borrow.Author.Needs.{needs}
+use Rattle.delivery_queries.proofs.put_held.Statement.{statement}
+use Rattle.delivery_queries.proofs.put_held.Tie as tie
+
+held-length-requires : tie.Need-held-length-requires
+held-length-requires c κs = tt
+
+array-share-prefix-bytes : tie.Need-array-share-prefix-bytes
+array-share-prefix-bytes c = let l : length (c .before .before .before .args .line .bytes) ≡ 255 = simp length-map at (c .before .before .before .good .1 .1 .0 .1 .1 .0 .1 .0 .1) in omega (arith, l, c .held-length .ensures .0)
+
+slice-aggregate-trimmed-length : tie.Need-slice-aggregate-trimmed-length
+slice-aggregate-trimmed-length c = let l : length (c .before .before .before .before .args .line .bytes) ≡ 255 = simp length-map at (c .before .before .before .before .good .1 .1 .0 .1 .1 .0 .1 .0 .1) in sym (length-take-le (c .before .held-length .result) (c .before .before .before .before .args .line .bytes) (omega (arith, l, c .before .held-length .ensures .0)))
+
+trimmed-length-requires : tie.Need-trimmed-length-requires
+trimmed-length-requires c κs = tt
+
+array-share-prefix-bytes-2 : tie.Need-array-share-prefix-bytes-2
+array-share-prefix-bytes-2 c = let l : length (c .before .before .before .before .before .before .args .line .bytes) ≡ 255 = simp length-map at (c .before .before .before .before .before .before .good .1 .1 .0 .1 .1 .0 .1 .0 .1) in let h = c .before .before .before .held-length .ensures in let t = c .before .trimmed-length .ensures in omega (arith, l, h .0, trim-few (c .before .before .before .before .before .before .args .line) (c .before .before .before .held-length .result) (c .before .trimmed-length .result) l (h .0) (h .1) (t .0) (t .1))
+
+slice-aggregate-put-bytes : tie.Need-slice-aggregate-put-bytes
+slice-aggregate-put-bytes c = let l : length (c .before .before .before .before .before .before .before .args .line .bytes) ≡ 255 = simp length-map at (c .before .before .before .before .before .before .before .good .1 .1 .0 .1 .1 .0 .1 .0 .1) in let h = c .before .before .before .before .held-length .ensures in let t = c .before .before .trimmed-length .ensures in sym (length-take-le (c .before .before .trimmed-length .result) (c .before .before .before .before .before .before .before .args .line .bytes) (omega (arith, l, h .0, trim-few (c .before .before .before .before .before .before .before .args .line) (c .before .before .before .before .held-length .result) (c .before .before .trimmed-length .result) l (h .0) (h .1) (t .0) (t .1))))
+
+put-bytes-requires : tie.Need-put-bytes-requires
+put-bytes-requires c κs = let l : length (c .before .before .before .before .before .before .before .args .line .bytes) ≡ 255 = simp length-map at (c .before .before .before .before .before .before .before .good .1 .1 .0 .1 .1 .0 .1 .0 .1) in let h = c .before .before .before .before .held-length .ensures in let t = c .before .before .trimmed-length .ensures in let e = trim-few (c .before .before .before .before .before .before .before .args .line) (c .before .before .before .before .held-length .result) (c .before .before .trimmed-length .result) l (h .0) (h .1) (t .0) (t .1) in omega (arith, l, h .0, e, length-take-le (c .before .before .trimmed-length .result) (c .before .before .before .before .before .before .before .args .line .bytes) (omega (arith, l, h .0, e)), c .before .before .before .before .before .before .before .pre)
+
+same-length : tie.Need-same-length
+same-length c = search needs
+
+returns : tie.Need-returns
+returns c = let l : length (c .before .before .before .before .before .before .before .before .before .before .args .line .bytes) ≡ 255 = simp length-map at (c .before .before .before .before .before .before .before .before .before .before .good .1 .1 .0 .1 .1 .0 .1 .0 .1) in let h = c .before .before .before .before .before .before .before .held-length .ensures in let t = c .before .before .before .before .before .trimmed-length .ensures in put-trimmed (c .before .before .before .before .before .before .before .before .before .before .args .line) (c .before .before .before .before .before .before .before .held-length .result) (c .before .before .before .before .before .trimmed-length .result) l (h .0) (h .1) (t .0) (t .1) _ _ _ _ (c .before .before .put-bytes .ensures)
+
+pub put-held-spec : {M : Type 1} → statement M
+put-held-spec =
+    tie.close
+    (tie.spec
+    held-length-requires
+    array-share-prefix-bytes
+    slice-aggregate-trimmed-length
+    trimmed-length-requires
+    array-share-prefix-bytes-2
+    slice-aggregate-put-bytes
+    put-bytes-requires
+    same-length
+    returns)

@@ -1,0 +1,172 @@
+// The answers of `query` to all lines that end in a part of its input, and to a last line that no line feed ends.
+use delivery_items::LongLine;
+use delivery_notices::Taken;
+use years::FileCalendar;
+ghost use mathlib.Core.Path.{_≡_};
+ghost use mathlib.Core.Bool.{true};
+ghost use Prim.Native.Nat.{_<_};
+ghost use lib.ListN.{length};
+ghost use Rattle.printing.specs.Buffer.{roomy};
+ghost use Rattle.sessions.specs.Parts.{another};
+ghost use Rattle.delivery_queries.specs.Queries.{nextNumber, standingIn};
+ghost use Rattle.delivery_sessions.specs.Parts.{LineFed, Next, Answers, LastAnswer};
+
+// A line, the place in the part after it, and whether a line feed ended it.
+pub struct LineEnd {
+    pub line: LongLine,
+    pub next: usize,
+    pub ended: bool,
+}
+
+// The number of the line that is begun, its bytes so far, the place in the part of the input, and how many bytes of answers stand in the buffer.
+pub struct Progress {
+    pub number: u64,
+    pub line: LongLine,
+    pub at: usize,
+    pub length: usize,
+}
+
+// The number of the next line.
+fn next_number(k: u64) -> u64
+    ensures { λ r. ⌜ r ≡ nextNumber k ⌝ }
+{
+    if k < 18446744073709551615 {
+        return k + 1;
+    }
+    k
+}
+
+// A line begun with its bytes from a place of a part on, up to its line feed or to the end of the part.
+pub fn line_from(line: LongLine, part: &[u8], from: usize) -> LineEnd
+    ensures { λ r. ⌜ LineFed line (now (part .entry)) from r ⌝ }
+{
+    let mut l = line;
+    let mut i = from;
+    while i < part.len() {
+        let byte = part[i];
+        i += 1;
+        if byte == b'\n' {
+            return LineEnd {
+                line: l,
+                next: i,
+                ended: true,
+            };
+        }
+        l = delivery_items::extend(l, byte);
+    }
+    LineEnd {
+        line: l,
+        next: i,
+        ended: false,
+    }
+}
+
+// The answer to the line that goes on at a place, if it ends in the part; else the line with all the rest of the part.
+fn answer_next(
+    file: &[u8],
+    judged: FileCalendar,
+    t: Taken,
+    calls: &[u32],
+    ids: &[u8],
+    refusals: &mut [u8],
+    s: Progress,
+    part: &[u8],
+    out: &mut [u8],
+) -> Progress
+    requires { ⌜ (s .at < length (now part)) × (roomy (now out) (s .length) ≡ true) ⌝ }
+    ensures { λ r. ⌜ Next (standingIn judged (now (file .entry)) t (now (calls .entry)) (now (ids .entry)) (length (now (refusals .entry)))) (now (part .entry)) (now (out .entry)) (now (out .exit)) s r ⌝ }
+{
+    let begun = s.line;
+    let number = s.number;
+    let e = line_from(begun, part, s.at);
+    let line = e.line;
+    if !e.ended {
+        return Progress {
+            number,
+            line,
+            at: e.next,
+            length: s.length,
+        };
+    }
+    let length = delivery_queries::answer_line(
+        file,
+        judged,
+        t,
+        calls,
+        ids,
+        refusals,
+        number,
+        line,
+        out,
+        s.length,
+    );
+    let empty = delivery_items::empty_line();
+    let next = next_number(number);
+    Progress {
+        number: next,
+        line: empty,
+        at: e.next,
+        length,
+    }
+}
+
+// Whether the part goes on at a place, and the buffer has room for another answer.
+fn goes_on(part: &[u8], at: usize, out: &[u8], n: usize) -> bool
+    ensures { λ r. ⌜ r ≡ another (now (part .entry)) at (now (out .entry)) n ⌝ }
+{
+    if part.len() <= at {
+        return false;
+    }
+    if out.len() < 512 {
+        return false;
+    }
+    n <= out.len() - 512
+}
+
+// The answers to the lines that end in a part of the input from a place on, in a lent buffer from its start, as long as it has room for another answer of 512 bytes. A buffer of fewer bytes, and a place past the part, leave all as it is. The verdict on the file and the notices of two lists are at hand.
+pub fn answer_part(
+    file: &[u8],
+    judged: FileCalendar,
+    t: Taken,
+    calls: &[u32],
+    ids: &[u8],
+    refusals: &mut [u8],
+    number: u64,
+    line: LongLine,
+    part: &[u8],
+    from: usize,
+    out: &mut [u8],
+) -> Progress
+    ensures { λ r. ⌜ Answers (standingIn judged (now (file .entry)) t (now (calls .entry)) (now (ids .entry)) (length (now (refusals .entry)))) number line (now (part .entry)) from (now (out .entry)) (now (out .exit)) r ⌝ }
+{
+    let mut s = Progress {
+        number,
+        line,
+        at: from,
+        length: 0,
+    };
+    while goes_on(part, s.at, out, s.length) {
+        s = answer_next(file, judged, t, calls, ids, refusals, s, part, out);
+    }
+    s
+}
+
+// The answer to a last line that no line feed ends, in a lent buffer from its start, and its length. A line with no bytes has none, and a buffer of fewer than 512 bytes stays as it is.
+pub fn answer_last(
+    file: &[u8],
+    judged: FileCalendar,
+    t: Taken,
+    calls: &[u32],
+    ids: &[u8],
+    refusals: &mut [u8],
+    number: u64,
+    line: LongLine,
+    out: &mut [u8],
+) -> usize
+    ensures { λ r. ⌜ LastAnswer (standingIn judged (now (file .entry)) t (now (calls .entry)) (now (ids .entry)) (length (now (refusals .entry)))) number line (now (out .entry)) (now (out .exit)) r ⌝ }
+{
+    if line.length == 0 {
+        return 0;
+    }
+    delivery_queries::answer_line(file, judged, t, calls, ids, refusals, number, line, out, 0)
+}
