@@ -167,7 +167,7 @@ def tearDownModule():
 # What a program prints on an input in a folder; where its status is not 0, that and what it said last.
 def printed(command, folder, data, **ways):
     ran = subprocess.run(command, cwd=folder, input=data, stdout=subprocess.PIPE, stderr=subprocess.PIPE,
-                         timeout=SECONDS, **{'env': BUILT.environment, **ways})
+                         timeout=SECONDS, **(ways if 'env' in ways else {'env': BUILT.environment, **ways}))
     said = ran.stderr.strip().split(b'\n')[-1]
     return ran.stdout + (b'status %d: %s\n' % (ran.returncode, said) if ran.returncode else b'')
 

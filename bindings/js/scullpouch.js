@@ -1,0 +1,692 @@
+// Contract terms of stock futures and stock options: the proved calls, for JavaScript, in node and in browsers.
+//
+//     import * as scullpouch from './scullpouch.js';
+//     await scullpouch.start();
+//     const table = scullpouch.open(file, 'AXA', '2008-03-20');
+//     table.roll('2008-03-21');
+//
+// A day is a number from 0, 1 January 2000; where one is asked for, a text as 2008-03-20 is taken too. A month is a
+// number from 0, January 2000. The key of a maturity is its month, or the day of a weekly option's Friday. A call gives
+// its value or throws Refused; a refused call leaves the table, queue or load as it was. A number that does not fit its C
+// type, a map or a stored table of another length is a RangeError, a value of another type a TypeError. Files, records,
+// blocks, maps and stored tables are the bytes of an ArrayBuffer or of any view of one.
+//
+// The calls are in scullpouch.wasm, which start reads; it imports nothing, and keeps nothing from call to call.
+
+export const INTERFACE = 2;
+export const FILE_AT_MOST = 65536;
+export const BLOCK = 512;
+export const RECORD = 32;
+export const PLACES = 15;
+export const MAP = 736;
+export const YEAR_MAP = 46;
+export const TABLES = 200;
+export const WEEKLY = 5; // the kind whose keys are days
+
+export const QUESTIONS = Object.freeze({
+  1: 'Is the length a multiple of 512, from 1,024 to 65,536?',
+  2: 'Is every check right?',
+  3: 'Is every header right?',
+  4: 'Do 1 to 16 calendar blocks of consecutive rising years come first, then at least one product block and no other kind?',
+  5: 'Is every calendar block clean?',
+  6: 'Does every run of seven days in the cover hold a trading day?',
+  7: 'Is every record as stated, and all that must be zero zero?',
+  8: 'Do the ids strictly rise over the file?',
+  9: 'Is the id there?',
+  10: 'Is the table sound?',
+  11: 'Is the day in the cover?',
+  12: "Is it not before the table's date?",
+  13: "Is it after the table's date?",
+  14: 'Is it a trading day?',
+  15: 'With it closed, does every seven-day run still hold a trading day?',
+  16: 'Are all months of the fresh listing in the cover?',
+  17: 'Is the due day in the cover?',
+  18: 'Is the month listed?',
+  19: 'Is the order or agreed price 1 to 999,999,999?',
+  20: 'Is it a multiple of the tick?',
+  21: 'Is it a future?',
+  22: 'Is the final price 0 to 999,999,999 and are the contracts 1 to 100,000?',
+  23: 'Is it a date, or day number, of 2000–2099?',
+  24: "Is the date at least seven days after the cover's first day?",
+  25: 'Is the buffer long enough for the file, and the file at most 65,536 bytes?',
+  26: 'Is the day a closed Monday to Friday?',
+  27: 'Does the front maturity stay the same month or Friday, whatever its day?',
+  28: 'Are p and q in range?',
+  29: 'Are the new size, 1 ten-thousandth to 65,535.9999 shares, and the new price, 1 to 999,999,999, in range?',
+  30: 'Is b from 1 to 200 and the table number 0 to 199?',
+  31: 'For joining, is it not yet queued, and for leaving, is it queued?',
+});
+
+/** The first question that was answered no: its number, and the question in words. */
+export class Refused extends Error {
+  constructor(number) {
+    const question = QUESTIONS[number] ?? '';
+    super(`refusal ${number}: ${question}`);
+    this.name = 'Refused';
+    this.number = number;
+    this.question = question;
+  }
+}
+
+// ---- The structs, as bindings/include/scullpouch.h has them ----
+
+const NUMBERS = { u8: 1, bool: 1, u16: 2, u32: 4, u64: 8, usize: 8 };
+const STRUCTS = {
+  id: { bytes: 'u8[4]' },
+  record_bytes: { bytes: 'u8[32]' },
+  product: { id: 'u8[4]', group: 'u8[4]', market: 'u8[4]', kind: 'u8', currency: 'u8[3]', size: 'u32', tick: 'u16' },
+  cover: { first_year: 'u16', years: 'u16' },
+  calendar: { cover: 'cover', closed: 'u8[736]', exchange: 'u8[736]' },
+  maturity: { key: 'u16', day: 'u16', back: 'u16', number: 'u16' },
+  table: { product: 'product', calendar: 'calendar', date: 'u16', given: 'u16', maturities: 'maturity[15]' },
+  outcome: { refusal: 'u8', entered: 'u16', left: 'u16', table: 'table' },
+  measured: { refusal: 'u8', price: 'u32', table: 'table' },
+  day_reply: { refusal: 'u8', day: 'u16' },
+  date_reply: { refusal: 'u8', year: 'u16', month: 'u16', day: 'u16' },
+  last_day_reply: { refusal: 'u8', day: 'u16', back: 'u16' },
+  amount: { negative: 'bool', amount: 'u64', rest: 'u16' },
+  cash_reply: { refusal: 'u8', cash: 'amount' },
+  counts: { years: 'u16', records: 'u16' },
+  loaded: { refusal: 'u8', counts: 'counts' },
+  file_calendar: { refusal: 'u8', calendar: 'calendar' },
+  written: { refusal: 'u8', length: 'usize' },
+  intake: {
+    announced: 'u16', taken: 'u16', lowest: 'u16', first_year: 'u16', years: 'u16', idle: 'u16', records: 'u16', last_id: 'u8[4]',
+  },
+  taken: { refusal: 'u8', state: 'intake' },
+  finished: { refusal: 'u8', counts: 'counts', state: 'intake' },
+  verdict: { refusal: 'u8', same: 'bool', key: 'u16' },
+  round: { tables: 'u16[200]', count: 'u16' },
+  handled: { refusal: 'u8', taken: 'round', queue: 'round' },
+  changed: { refusal: 'u8', queue: 'round' },
+  made: { refusal: 'u8', calendar: 'calendar' },
+};
+
+/** The layout, which every language must share: the size of each struct, and where each field stands. */
+export const LAYOUT = {
+  id: [4, { bytes: 0 }],
+  record_bytes: [32, { bytes: 0 }],
+  product: [24, { id: 0, group: 4, market: 8, kind: 12, currency: 13, size: 16, tick: 20 }],
+  cover: [4, { first_year: 0, years: 2 }],
+  calendar: [1476, { cover: 0, closed: 4, exchange: 740 }],
+  maturity: [8, { key: 0, day: 2, back: 4, number: 6 }],
+  table: [1624, { product: 0, calendar: 24, date: 1500, given: 1502, maturities: 1504 }],
+  outcome: [1632, { refusal: 0, entered: 2, left: 4, table: 8 }],
+  measured: [1632, { refusal: 0, price: 4, table: 8 }],
+  day_reply: [4, { refusal: 0, day: 2 }],
+  date_reply: [8, { refusal: 0, year: 2, month: 4, day: 6 }],
+  last_day_reply: [6, { refusal: 0, day: 2, back: 4 }],
+  amount: [24, { negative: 0, amount: 8, rest: 16 }],
+  cash_reply: [32, { refusal: 0, cash: 8 }],
+  counts: [4, { years: 0, records: 2 }],
+  loaded: [6, { refusal: 0, counts: 2 }],
+  file_calendar: [1478, { refusal: 0, calendar: 2 }],
+  written: [16, { refusal: 0, length: 8 }],
+  intake: [18, { announced: 0, taken: 2, lowest: 4, first_year: 6, years: 8, idle: 10, records: 12, last_id: 14 }],
+  taken: [20, { refusal: 0, state: 2 }],
+  finished: [24, { refusal: 0, counts: 2, state: 6 }],
+  verdict: [4, { refusal: 0, same: 1, key: 2 }],
+  round: [402, { tables: 0, count: 400 }],
+  handled: [806, { refusal: 0, taken: 2, queue: 404 }],
+  changed: [404, { refusal: 0, queue: 2 }],
+  made: [1478, { refusal: 0, calendar: 2 }],
+};
+
+// What each call answers and takes. 'bytes' and 'numbers' are lent: a place and a count; 'buffer' is written too.
+const SIGNATURES = {
+  interface: ['u32'],
+  day: ['day_reply', 'u16', 'u16', 'u16'],
+  date: ['date_reply', 'u16'],
+  load: ['loaded', 'bytes'],
+  open: ['outcome', 'bytes', 'id', 'u16'],
+  judge_file: ['file_calendar', 'bytes'],
+  open_in: ['outcome', 'file_calendar', 'bytes', 'id', 'u16'],
+  roll: ['outcome', 'table', 'u16'],
+  close: ['outcome', 'table', 'u16'],
+  reopen: ['outcome', 'table', 'u16'],
+  measure: ['measured', 'table', 'u16', 'u16', 'u32'],
+  last_trading_day: ['last_day_reply', 'table', 'u16'],
+  due: ['day_reply', 'table', 'u16'],
+  tick: ['u8', 'table', 'u32'],
+  cash: ['cash_reply', 'table', 'u32', 'u32', 'u32'],
+  judge: ['verdict', 'table', 'numbers'],
+  write: ['written', 'calendar', 'bytes', 'buffer'],
+  record: ['record_bytes', 'product'],
+  announce: ['taken', 'u16'],
+  take: ['taken', 'intake', 'bytes'],
+  finish: ['finished', 'intake'],
+  queue: ['round'],
+  handle: ['handled', 'round', 'u16'],
+  join: ['changed', 'round', 'u16'],
+  leave: ['changed', 'round', 'u16'],
+  make: ['made', 'u32', 'cover'],
+};
+
+// The size and the alignment of a type by C's rules.
+function size_of(type) {
+  const array = /^(\w+)\[(\d+)\]$/.exec(type);
+  if (array) {
+    const [size, alignment] = size_of(array[1]);
+    return [size * Number(array[2]), alignment];
+  }
+  return type in NUMBERS ? [NUMBERS[type], NUMBERS[type]] : layout_of(type);
+}
+
+// The size, the alignment and the offsets of a struct.
+function layout_of(name) {
+  const offsets = {};
+  let end = 0, widest = 1;
+  for (const [field, type] of Object.entries(STRUCTS[name])) {
+    const [size, alignment] = size_of(type);
+    offsets[field] = Math.ceil(end / alignment) * alignment;
+    end = offsets[field] + size;
+    widest = Math.max(widest, alignment);
+  }
+  return [Math.ceil(end / widest) * widest, widest, offsets];
+}
+
+// Every field's place, length and whether it is a number.
+const FIELDS = {};
+for (const [name, [size, offsets]] of Object.entries(LAYOUT)) {
+  const [found, , places] = layout_of(name);
+  if (found !== size || JSON.stringify(places) !== JSON.stringify(offsets)) throw new Error(`scullpouch: the layout of ${name}`);
+  FIELDS[name] = {};
+  for (const [field, type] of Object.entries(STRUCTS[name])) FIELDS[name][field] = [offsets[field], size_of(type)[0], type in NUMBERS];
+}
+const SIZE = Object.fromEntries(Object.entries(LAYOUT).map(([name, [size]]) => [name, size]));
+
+function number_at(bytes, at, size) {
+  if (size > 4) return new DataView(bytes.buffer, bytes.byteOffset + at).getBigUint64(0, true);
+  let number = 0;
+  for (let i = at + size; i-- > at;) number = number * 256 + bytes[i];
+  return number;
+}
+
+// A field of a struct that stands in bytes from a place on: a number, of eight bytes a BigInt, or a part of the bytes.
+function get(bytes, struct, field, from = 0) {
+  const [offset, size, is_number] = FIELDS[struct][field];
+  return is_number ? number_at(bytes, from + offset, size) : bytes.subarray(from + offset, from + offset + size);
+}
+
+// A struct of these fields, numbers or bytes.
+function made_of(struct, values) {
+  const bytes = new Uint8Array(SIZE[struct]);
+  for (const [field, value] of Object.entries(values)) {
+    const [offset, size, is_number] = FIELDS[struct][field];
+    if (is_number) for (let i = 0, rest = value; i < size; i++, rest = Math.floor(rest / 256)) bytes[offset + i] = rest % 256;
+    else bytes.set(value, offset);
+  }
+  return bytes;
+}
+
+// ---- The module ----
+
+const STEP = 16; // what is placed begins at a multiple of this
+const PAGE = 65536;
+const LENT_AT_MOST = 16 * 1024 * 1024;
+let held = null; // its functions, its memory, the first free place, the kit that made it
+
+/** Reads the module of the calls: its bytes, or a compiled one; without an argument scullpouch.wasm beside this file. */
+export async function start(source) {
+  const module = source instanceof WebAssembly.Module ? source : await WebAssembly.compile(source === undefined ? await beside() : bytes_of(source));
+  const { exports } = await WebAssembly.instantiate(module, {});
+  const calls = {};
+  for (const name of Object.keys(SIGNATURES)) {
+    calls[name] = exports[`scullpouch_${name}`];
+    if (!calls[name]) throw new Error(`scullpouch: the module has no scullpouch_${name}`);
+  }
+  if (calls.interface() !== INTERFACE) throw new Error(`scullpouch: the module has another interface than ${INTERFACE}`);
+  const [section] = WebAssembly.Module.customSections(module, 'kit');
+  if (!section) throw new Error('scullpouch: the module does not say which kit made it');
+  held = { calls, memory: exports.memory, free: placed_from(exports.__heap_base.value), kit: new TextDecoder().decode(section) };
+}
+
+async function beside() {
+  const url = new URL('scullpouch.wasm', import.meta.url);
+  if (url.protocol === 'file:' && globalThis.process?.versions?.node) return (await import('node:fs/promises')).readFile(url);
+  return new Uint8Array(await (await fetch(url)).arrayBuffer());
+}
+
+function started() {
+  if (!held) throw new Error('scullpouch: call start() first, and wait for it');
+  return held;
+}
+
+const placed_from = at => Math.ceil(at / STEP) * STEP;
+
+// The module's memory, long enough for so many bytes. It may stand elsewhere after it was made longer.
+function memory_of(bytes) {
+  const { memory } = held;
+  const more = Math.ceil((bytes - memory.buffer.byteLength) / PAGE);
+  if (more > 0) memory.grow(more);
+  return new Uint8Array(memory.buffer);
+}
+
+// An integer of so many bytes to them, and back.
+const as_bytes = (word, size) => Uint8Array.from({ length: size }, (_, i) => Number(BigInt(word) >> BigInt(8 * i) & 255n));
+const as_word = bytes => {
+  const word = bytes.reduceRight((sum, byte) => sum << 8n | BigInt(byte), 0n);
+  return bytes.length > 4 ? word : Number(word);
+};
+
+// A call. Each argument is copied into the module's memory, since a callee may change what it is handed by value: a
+// struct of up to eight bytes is a number, another a place; what is lent is a place and a count. The answer comes as they
+// do, a longer one at the place that is handed over first. A buffer is copied back.
+function call(name, ...values) {
+  const { calls, free } = started();
+  const [answer, ...kinds] = SIGNATURES[name];
+  const room = SIZE[answer] ?? 0, words = [];
+  let top = free + placed_from(room), buffer = null;
+  if (room > 8) words.push(free);
+  const put = bytes => {
+    if (bytes.length > LENT_AT_MOST) throw new RangeError(`${bytes.length} bytes are more than ${LENT_AT_MOST}`);
+    const at = top;
+    top = placed_from(at + bytes.length);
+    memory_of(top + STEP).set(bytes, at);
+    return at;
+  };
+  kinds.forEach((kind, i) => {
+    const value = values[i];
+    if (kind in NUMBERS) words.push(value);
+    else if (SIZE[kind] <= 8) words.push(as_word(value));
+    else if (kind in SIZE) words.push(put(value));
+    else {
+      const at = put(new Uint8Array(value.buffer, value.byteOffset, value.byteLength));
+      words.push(at, BigInt(value.length));
+      if (kind === 'buffer') buffer = [value, at];
+    }
+  });
+  memory_of(top + STEP);
+  const word = calls[name](...words);
+  if (buffer) buffer[0].set(new Uint8Array(held.memory.buffer, buffer[1], buffer[0].length));
+  if (room === 0) return word >>> 0 & (answer === 'u8' ? 255 : ~0);
+  return room > 8 ? new Uint8Array(held.memory.buffer, free, room).slice() : as_bytes(word, room);
+}
+
+// ---- Arguments and answers ----
+
+// WebAssembly would cut a number that does not fit, so each is held to its range.
+function fit(number, bits = 16) {
+  if (!Number.isInteger(number)) throw new TypeError(`${String(number)} is not an integer`);
+  if (number < 0 || number >= 2 ** bits) throw new RangeError(`${number} does not fit ${bits} bits`);
+  return number;
+}
+
+// The day of a number, or of a text as 2008-03-20.
+function day_of(value) {
+  if (typeof value !== 'string') return fit(value);
+  const match = /^(\d{4})-(\d\d)-(\d\d)$/.exec(value);
+  if (!match) throw new RangeError(`${JSON.stringify(value)} is not a date as 2008-03-20`);
+  return day(...match.slice(1).map(Number));
+}
+
+const getter = (prototype, name) => Object.getOwnPropertyDescriptor(prototype, name).get;
+const measures_of = prototype => ['buffer', 'byteOffset', 'byteLength'].map(name => getter(prototype, name));
+const TYPED = Object.getPrototypeOf(Uint8Array.prototype);
+const MEASURES = { typed: measures_of(TYPED), view: measures_of(DataView.prototype) };
+const type_name = getter(TYPED, Symbol.toStringTag);
+const buffer_length = getter(ArrayBuffer.prototype, 'byteLength');
+
+// The bytes of a view or a buffer, as the engine measures it, whatever the object says of itself.
+function bytes_of(data) {
+  if (ArrayBuffer.isView(data)) return new Uint8Array(...MEASURES[type_name.call(data) ? 'typed' : 'view'].map(measure => measure.call(data)));
+  try {
+    buffer_length.call(data);
+  } catch {
+    throw new TypeError('bytes are a Uint8Array, another view of a buffer, or an ArrayBuffer');
+  }
+  return new Uint8Array(data);
+}
+
+// A file, of which one byte more than the longest file is enough to see that it is too long.
+const file_of = data => bytes_of(data).subarray(0, FILE_AT_MOST + 1);
+
+function sized(data, size, name) {
+  const bytes = bytes_of(data);
+  if (bytes.length !== size) throw new RangeError(`a ${name} has ${size} bytes`);
+  return bytes;
+}
+
+// The bytes of a code, such as an id, filled up with spaces.
+function code_of(text, length = 4) {
+  if (typeof text !== 'string') throw new TypeError('a code is a text');
+  if (text.length > length || /[^\0-\xff]/.test(text)) throw new RangeError(`${JSON.stringify(text)} is not a code of ${length} characters`);
+  return Uint8Array.from(text.padEnd(length), letter => letter.charCodeAt(0));
+}
+
+// The id of a text. One that no record can have is not there, as any other: open refuses it (9).
+function id_of(text) {
+  if (typeof text !== 'string') throw new TypeError('an id is a text');
+  return code_of(text.length > 4 ? '' : text.replace(/[^\0-\x7f]/g, '?'));
+}
+
+const text_of = code => String.fromCharCode(...code).replace(/ +$/, '');
+
+function judged(reply, struct) {
+  const refusal = get(reply, struct, 'refusal');
+  if (refusal) throw new Refused(refusal);
+  return reply;
+}
+
+// The answer of a call that may refuse.
+const asked = (name, ...values) => judged(call(name, ...values), SIGNATURES[name][0]);
+
+function counts_of(reply, struct) {
+  const counts = get(reply, struct, 'counts');
+  return { years: get(counts, 'counts', 'years'), records: get(counts, 'counts', 'records') };
+}
+
+const calendar_of = bytes => new Calendar({
+  first_year: get(bytes, 'cover', 'first_year'), years: get(bytes, 'cover', 'years'),
+  closed: get(bytes, 'calendar', 'closed'), exchange: get(bytes, 'calendar', 'exchange'),
+});
+
+// A name that JavaScript keeps for itself, so it is exported below.
+const interface_number = () => call('interface');
+export { interface_number as interface };
+
+/** The toolchain that proved the calls and made the module, as the module says it. */
+export const kit = () => started().kit;
+
+// ---- Days ----
+
+/** The day of a date. */
+export function day(year, month, day) {
+  return get(asked('day', fit(year), fit(month), fit(day)), 'day_reply', 'day');
+}
+
+/** Year, month and day of the month of a day. */
+export function date(day) {
+  const reply = asked('date', day_of(day));
+  return ['year', 'month', 'day'].map(field => get(reply, 'date_reply', field));
+}
+
+/** A day as 2008-03-20. */
+export function date_text(day) {
+  const [year, month, of_month] = date(day);
+  return `${year}-${String(month).padStart(2, '0')}-${String(of_month).padStart(2, '0')}`;
+}
+
+// ---- Files ----
+
+/** Judges a master file: the counts of years and of records. */
+export const load = file => counts_of(asked('load', file_of(file)), 'loaded');
+
+/** A made-up calendar for load tests. */
+export function make(seed, first_year, years) {
+  const cover = made_of('cover', { first_year: fit(first_year), years: fit(years) });
+  return calendar_of(get(asked('make', fit(seed, 32), cover), 'made', 'calendar'));
+}
+
+/** Writes the master file of a calendar and of records, 32 bytes each, into a buffer: the file's length. What stands
+ * after the file stays; refused, everything does. Days that are marked after the cover's last year are not in the file
+ * (Calendar.marked_after_cover). */
+export function write_into(buffer, calendar, records) {
+  const room = bytes_of(buffer).subarray(0, FILE_AT_MOST); // no file is longer
+  return Number(get(asked('write', calendar_bytes(calendar), bytes_of(records), room), 'written', 'length'));
+}
+
+/** The master file of a calendar and of records, 32 bytes each. Days that are marked after the cover's last year are not
+ * in it (Calendar.marked_after_cover). */
+export function write(calendar, records) {
+  const buffer = new Uint8Array(FILE_AT_MOST);
+  return buffer.slice(0, write_into(buffer, calendar, records));
+}
+
+function calendar_bytes(calendar) {
+  if (!(calendar instanceof Calendar)) throw new TypeError('a Calendar is expected');
+  const cover = made_of('cover', { first_year: fit(calendar.first_year), years: fit(calendar.years) });
+  return made_of('calendar', { cover, closed: sized(calendar.closed, MAP, 'map'), exchange: sized(calendar.exchange, MAP, 'map') });
+}
+
+/** A cover and two maps of 736 bytes: the closed days, and those of them on which payments and deliveries run. Year k of
+ * the cover has the 46 bytes from 46 * k on; its first day is the highest bit of the first of them. */
+export class Calendar {
+  constructor({ first_year, years, closed, exchange }) {
+    Object.assign(this, { first_year: fit(first_year), years: fit(years) });
+    Object.assign(this, { closed: sized(closed, MAP, 'map').slice(), exchange: sized(exchange, MAP, 'map').slice() });
+  }
+
+  /** Whether a map has days marked after the cover's last year, which are in no file that write makes. */
+  marked_after_cover() {
+    const bytes = calendar_bytes(this), after = YEAR_MAP * this.years;
+    return ['closed', 'exchange'].some(map => get(bytes, 'calendar', map).subarray(after).some(byte => byte !== 0));
+  }
+}
+
+/** A product. kind: 0 a future, 1, 2, 3 an option of 12, 24, 60 months, 4 a future of 2005, 5 a weekly option; size in
+ * 1/10,000 of a share, tick in 1/10,000 of the currency. */
+export class Product {
+  constructor({ id, group, market, kind, currency, size, tick }) {
+    Object.assign(this, { id, group, market, kind, currency, size, tick });
+  }
+
+  /** Its 32 bytes in a master file, whatever its fields are; write judges them. */
+  record() {
+    return call('record', made_of('product', {
+      id: code_of(this.id), group: code_of(this.group), market: code_of(this.market), kind: fit(this.kind, 8),
+      currency: code_of(this.currency, 3), size: fit(this.size, 32), tick: fit(this.tick),
+    }));
+  }
+}
+
+/** A load of a file of so many blocks, block by block: take each 512 bytes, then finish. */
+export class Intake {
+  #state;
+
+  constructor(blocks) {
+    this.#state = get(asked('announce', fit(blocks)), 'taken', 'state');
+  }
+
+  /** Takes the next block. */
+  take(block) {
+    const bytes = bytes_of(block).subarray(0, BLOCK + 1); // enough to see that it is too long
+    this.#state = get(asked('take', this.#state, bytes), 'taken', 'state');
+  }
+
+  /** The counts of years and of records, as load gives them. */
+  finish() {
+    return counts_of(asked('finish', this.#state), 'finished');
+  }
+}
+
+// ---- Tables ----
+
+/** The table of a product of a master file on a date. An id that no record can have is not there (9). Master judges the
+ * file once for many. */
+export const open = (file, id, date) => new Table(asked('open', file_of(file), id_of(id), day_of(date)));
+
+/** A master file that was judged once, for many opens. It keeps the bytes that were judged. */
+export class Master {
+  #file;
+  #said;
+
+  constructor(file) {
+    this.#file = file_of(file).slice();
+    this.#said = asked('judge_file', this.#file);
+  }
+
+  /** The file's calendar. */
+  get calendar() {
+    return calendar_of(get(this.#said, 'file_calendar', 'calendar'));
+  }
+
+  /** The table of a product of the file on a date: what open answers. */
+  open(id, date) {
+    return new Table(asked('open_in', this.#said, this.#file, id_of(id), day_of(date)));
+  }
+}
+
+/** A table of listed maturities. moved: how many entered and left in the last call that moved it. */
+export class Table {
+  #held;
+
+  constructor(outcome) {
+    this.#take(outcome);
+  }
+
+  #take(outcome) {
+    this.#held = get(sized(outcome, SIZE.outcome, 'table with its counts'), 'outcome', 'table');
+    this.moved = { entered: get(outcome, 'outcome', 'entered'), left: get(outcome, 'outcome', 'left') };
+    return this.moved;
+  }
+
+  /** A table that was stored, and how many maturities entered and left before. Calls refuse one that is not sound (10). */
+  static from_bytes(data, { entered, left } = { entered: 0, left: 0 }) {
+    return new Table(made_of('outcome', { entered: fit(entered), left: fit(left), table: sized(data, SIZE.table, 'table') }));
+  }
+
+  /** The table as C holds it, to be stored; its unused bytes are zeros. */
+  to_bytes() {
+    const bytes = this.#held.slice();
+    bytes.fill(0, FIELDS.product.tick[0] + 2, FIELDS.table.calendar[0]);
+    return bytes;
+  }
+
+  /** A table of its own that is as this one is now. */
+  copy() {
+    return Table.from_bytes(this.#held, this.moved);
+  }
+
+  /** Whether another table is as this one is; the counts of the last call play no part. */
+  equals(other) {
+    return other instanceof Table && other.to_bytes().every((byte, i) => byte === this.#byte(i));
+  }
+
+  #byte(i) {
+    return i >= FIELDS.product.tick[0] + 2 && i < FIELDS.table.calendar[0] ? 0 : this.#held[i];
+  }
+
+  /** Sets the date: how many maturities entered and left. */
+  roll(date) {
+    return this.#take(asked('roll', this.#held, day_of(date)));
+  }
+
+  /** Closes a day: how many maturities entered and left. */
+  close(day) {
+    return this.#take(asked('close', this.#held, day_of(day)));
+  }
+
+  /** Opens a closed day again: how many maturities entered and left. */
+  reopen(day) {
+    return this.#take(asked('reopen', this.#held, day_of(day)));
+  }
+
+  /** A capital measure on a future, p for q, with the settlement price before it: the price after it. */
+  measure(p, q, price) {
+    const reply = asked('measure', this.#held, fit(p), fit(q), fit(price, 32));
+    this.#held = get(reply, 'measured', 'table');
+    return get(reply, 'measured', 'price');
+  }
+
+  /** The last trading day of a listed maturity, and how many days it was moved back. */
+  last_trading_day(key) {
+    const reply = asked('last_trading_day', this.#held, fit(key));
+    return { day: get(reply, 'last_day_reply', 'day'), back: get(reply, 'last_day_reply', 'back') };
+  }
+
+  /** The due day of a day of the cover. */
+  due(day) {
+    return get(asked('due', this.#held, day_of(day)), 'day_reply', 'day');
+  }
+
+  /** Throws Refused where a price, in 1/10,000 of the currency, does not pass. */
+  tick(price) {
+    const refusal = call('tick', this.#held, fit(price, 32));
+    if (refusal) throw new Refused(refusal);
+  }
+
+  /** The cash of a future: whether the buyer pays the seller, the amount in 1/10,000 of the currency, a BigInt, and the
+   * rest, 0 to 9,999, in 1/100,000,000. */
+  cash(contracts, agreed, final_price) {
+    const cash = get(asked('cash', this.#held, fit(contracts, 32), fit(agreed, 32), fit(final_price, 32)), 'cash_reply', 'cash');
+    return { negative: get(cash, 'amount', 'negative') !== 0, amount: get(cash, 'amount', 'amount'), rest: get(cash, 'amount', 'rest') };
+  }
+
+  /** Whether keys and last trading days, in turn, are the table's listing, and the smallest key that differs, null where
+   * they are. */
+  judge(numbers) {
+    const list = Uint16Array.from(Array.from(numbers, number => fit(number)));
+    const reply = asked('judge', this.#held, list);
+    const same = get(reply, 'verdict', 'same') !== 0;
+    return { same, key: same ? null : get(reply, 'verdict', 'key') };
+  }
+
+  get product() {
+    const bytes = get(this.#held, 'table', 'product'), field = name => get(bytes, 'product', name);
+    return new Product({
+      id: text_of(field('id')), group: text_of(field('group')), market: text_of(field('market')), kind: field('kind'),
+      currency: text_of(field('currency')), size: field('size'), tick: field('tick'),
+    });
+  }
+
+  get calendar() {
+    return calendar_of(get(this.#held, 'table', 'calendar'));
+  }
+
+  get date() {
+    return get(this.#held, 'table', 'date');
+  }
+
+  /** How many listing numbers were given since the opening. */
+  get given() {
+    return get(this.#held, 'table', 'given');
+  }
+
+  /** The listed maturities by rising key. */
+  get maturities() {
+    const places = get(this.#held, 'table', 'maturities'), found = [];
+    for (let from = 0; from < places.length; from += SIZE.maturity) {
+      const [key, day, back, number] = ['key', 'day', 'back', 'number'].map(field => get(places, 'maturity', field, from));
+      if (number === 0) break;
+      found.push({ key, day, back, number });
+    }
+    return found;
+  }
+}
+
+// ---- The morning round ----
+
+/** A queue of tables, by their numbers 0 to 199. */
+export class Queue {
+  #held = call('queue');
+
+  /** A queue that was stored. Calls refuse one that is not sound (10). */
+  static from_bytes(data) {
+    const queue = new Queue();
+    queue.#held = sized(data, SIZE.round, 'queue').slice();
+    return queue;
+  }
+
+  /** The queue as C holds it, to be stored. */
+  to_bytes() {
+    return this.#held.slice();
+  }
+
+  /** The numbers of the first b tables, or of all if fewer, which then stand at the end. */
+  handle(b) {
+    const reply = asked('handle', this.#held, fit(b));
+    this.#held = get(reply, 'handled', 'queue');
+    return waiting(get(reply, 'handled', 'taken'));
+  }
+
+  /** A table joins at the end. */
+  join(table) {
+    this.#held = get(asked('join', this.#held, fit(table)), 'changed', 'queue');
+  }
+
+  /** A table leaves, wherever it stands. */
+  leave(table) {
+    this.#held = get(asked('leave', this.#held, fit(table)), 'changed', 'queue');
+  }
+
+  /** The numbers of the tables, the first first. */
+  get tables() {
+    return waiting(this.#held);
+  }
+}
+
+function waiting(round) {
+  const tables = get(round, 'round', 'tables');
+  return Array.from({ length: Math.min(TABLES, get(round, 'round', 'count')) }, (_, i) => number_at(tables, 2 * i, 2));
+}
