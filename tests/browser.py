@@ -31,7 +31,7 @@ class Browser:
             pass_fds=(read_by_browser, written_by_browser), stdout=subprocess.DEVNULL, stderr=subprocess.DEVNULL)
         os.close(read_by_browser)
         os.close(written_by_browser)
-        self.held, self.events, self.number = b'', [], 0
+        self.held, self.events, self.told, self.number = b'', [], [], 0
         target = self.call('Target.createTarget', {'url': 'about:blank'}, session=None)['targetId']
         self.session = self.call('Target.attachToTarget', {'targetId': target, 'flatten': True}, session=None)['sessionId']
         self.call('Page.enable')
@@ -69,26 +69,43 @@ class Browser:
                 if 'error' in answer:
                     raise RuntimeError(f'{method}: {answer["error"]["message"]}')
                 return answer['result']
-            self.events.append(answer.get('method'))
+            self.keep(answer)
 
-    def width(self, pixels, medium='screen'):
-        """The width of the page, on the screen or as it is laid out for print."""
-        self.call('Emulation.setDeviceMetricsOverride', {'width': pixels, 'height': 900, 'deviceScaleFactor': 1, 'mobile': False})
-        self.call('Emulation.setEmulatedMedia', {'media': medium})
+    def keep(self, event):
+        """Keeps what the browser tells unasked."""
+        self.events.append(event.get('method'))
+        self.told.append(event)
+
+    def width(self, pixels, medium='screen', scheme='light', height=900):
+        """The width of the page, on the screen or as it is laid out for print, in light or dark."""
+        self.call('Emulation.setDeviceMetricsOverride', {'width': pixels, 'height': height, 'deviceScaleFactor': 1, 'mobile': False})
+        self.call('Emulation.setEmulatedMedia', {'media': medium, 'features': [{'name': 'prefers-color-scheme', 'value': scheme}]})
 
     def open(self, path):
         """Opens a file and waits until it is there."""
         self.events.clear()
+        self.told.clear()
         self.call('Page.navigate', {'url': path.resolve().as_uri()})
         while 'Page.loadEventFired' not in self.events:
-            self.events.append(self.message().get('method'))
+            self.keep(self.message())
 
     def evaluate(self, text):
-        """The value of a text of JavaScript on the page."""
-        answer = self.call('Runtime.evaluate', {'expression': text, 'returnByValue': True})
+        """The value of a text of JavaScript on the page, or of its promise."""
+        answer = self.call('Runtime.evaluate', {'expression': text, 'returnByValue': True, 'awaitPromise': True})
         if 'exceptionDetails' in answer:
             raise RuntimeError(answer['exceptionDetails'].get('text', 'the page could not be measured'))
         return answer['result'].get('value')
+
+    def choose(self, selector, *paths):
+        """Puts files into an input of the page."""
+        root = self.call('DOM.getDocument')['root']['nodeId']
+        node = self.call('DOM.querySelector', {'nodeId': root, 'selector': selector})['nodeId']
+        self.call('DOM.setFileInputFiles', {'nodeId': node, 'files': [str(path) for path in paths]})
+
+    def picture(self, whole=False, clip=None):
+        """The page as a PNG: what the window shows, all of it, or a part of it."""
+        asked = {'format': 'png', 'captureBeyondViewport': whole, **({'clip': {**clip, 'scale': 1}} if clip else {})}
+        return base64.b64decode(self.call('Page.captureScreenshot', asked)['data'])
 
     def printed(self):
         """The page as a PDF on paper of the size that its style sheet says."""

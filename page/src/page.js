@@ -1,0 +1,65 @@
+// The page: what was put in, what follows from it, and who is told when something changes.
+
+import { kit, start } from '../../bindings/js/scullpouch.js';
+import { by_id, fill } from './elements.js';
+import { tables_of } from './judge.js';
+import { EXAMPLE, WASM } from './packed.js';
+import * as part_delivery from './part_delivery.js';
+import * as part_file from './part_file.js';
+import * as part_notices from './part_notices.js';
+import * as part_product from './part_product.js';
+
+const unpacked = text => Uint8Array.from(atob(text), letter => letter.charCodeAt(0));
+
+// What was put in: the master file, the calls of the notices, the delivery; and what follows: the tables, the differences.
+// What is put in later makes work that is under way worthless, so each run has a number.
+const state = { file: null, notices: null, delivery: null, tables: null, product: null, found: [], filter: { why: '', product: '' }, order: { by: null, down: false } };
+let run = 0;
+
+function told(words) {
+  by_id('working').hidden = false;
+  by_id('working-words').textContent = words;
+  return share => { by_id('progress').value = share; };
+}
+
+async function follow(what) {
+  const mine = ++run, current = () => mine === run;
+  if (what === 'file') {
+    part_product.list_products(state);
+    part_delivery.guess_again(state);
+  }
+  if (what === 'file' || what === 'notices') {
+    state.tables = null;
+    part_product.show(state, null);
+  }
+  if (!state.tables && state.file && state.notices) {
+    const { tables, done } = await tables_of(state.file, state.notices, told('Working out the tables'));
+    if (!current()) return;
+    state.tables = tables;
+    part_notices.show_done(done);
+    part_product.show(state, by_id('product').value || state.file.products[0].id);
+  }
+  await part_delivery.judge(state, told('Judging the delivery'), current);
+  if (current()) by_id('working').hidden = true;
+}
+
+state.changed = what => follow(what);
+state.show = (id, maturity) => {
+  part_product.show(state, id, maturity);
+  by_id('part-product').scrollIntoView();
+  by_id('product').focus();
+};
+
+function example() {
+  part_file.take_file(state, { name: 'the example’s master.bin', bytes: unpacked(EXAMPLE.master) });
+  part_notices.take_text(state, new TextDecoder().decode(unpacked(EXAMPLE.notices)));
+  part_delivery.take_text(state, 'the example’s wrong.csv', new TextDecoder().decode(unpacked(EXAMPLE.delivery)));
+}
+
+await start(unpacked(WASM));
+fill(by_id('kit'), kit());
+for (const part of [part_file, part_notices, part_delivery, part_product]) part.set_up(state);
+by_id('example').addEventListener('click', example);
+// A file that is dropped beside the parts is not opened in place of the page.
+for (const name of ['dragover', 'drop']) document.addEventListener(name, event => event.preventDefault());
+document.documentElement.dataset.ready = 'yes';
