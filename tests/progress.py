@@ -3,18 +3,23 @@ prints a line for each crate and each must-fail edit that is done, of how many.
 
 rt ci 2>&1 | python3 tests/progress.py
 rt check NAME.. 2>&1 | python3 tests/progress.py NAME..
+rt check NAME.. 2>&1 | python3 tests/progress.py --new NAME..
 
 A crate's own lines (its functions, its errors) are left out. rt's other lines are
-printed as they are.
+printed as they are. With --new a line is printed only for a crate that is proved now,
+with the time so far and how many crates are left, and for what went wrong: nothing
+where all was proved before.
 """
 
 import glob
 import os
 import re
 import sys
+import time
 
 ROOT = os.path.dirname(os.path.dirname(os.path.abspath(__file__)))
 CRATE = re.compile(r'rt: (\w+ (?:proved \(|NOT PROVED).*)')
+UNCHANGED = 'unchanged since it was last proved'
 EDIT = re.compile(r'rt: must-fail ([^:]+): (.*)')
 REFUSED = re.compile(r'refused, as it must be \((?:.*; )?(\d+ s)\)')
 
@@ -64,11 +69,32 @@ def shown(lines, crate_count, edit_count):
             yield line.rstrip('\n')
 
 
-def main(names):
+# Seconds as minutes and seconds.
+def minutes(seconds):
+    return '%d:%02d' % divmod(int(seconds), 60)
+
+
+# The lines to show for the lines of rt where only what is new is shown; clock tells the time.
+def shown_new(lines, crate_count, clock=time.monotonic):
+    begun, done = clock(), 0
+    for line in lines:
+        crate = CRATE.match(line)
+        if crate:
+            done += 1
+            if UNCHANGED not in crate[1]:
+                left = crate_count - done
+                yield f'{done} of {crate_count} crates: {crate[1]}; {minutes(clock() - begun)} so far, {left} left'
+        elif line.startswith('rt: ') and 'FAILED' in line:
+            yield line.rstrip('\n')
+
+
+def main(arguments):
     sys.stdin.reconfigure(errors='replace')
     sys.stdout.reconfigure(errors='replace')
-    wanted = reached(names)
-    for line in shown(sys.stdin, len(wanted), edits(wanted)):
+    new = '--new' in arguments
+    wanted = reached([name for name in arguments if name != '--new'])
+    lines = shown_new(sys.stdin, len(wanted)) if new else shown(sys.stdin, len(wanted), edits(wanted))
+    for line in lines:
         print(line, flush=True)
 
 
