@@ -36,7 +36,7 @@ pub fn is_open(sent: Sent) -> bool
     sent.open
 }
 
-// Writes bytes to standard error; one line is one call. Where it does not take them there is no other place to tell it.
+// Writes bytes to standard error. Where it does not take them there is no other place to tell it.
 pub fn tell(text: &[u8]) {
     let mut done: usize = 0;
     while done < text.len() {
