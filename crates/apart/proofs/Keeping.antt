@@ -131,7 +131,8 @@ module _ (verdict : Answer Calendar) (f id : List ℕ) (date : ℕ) (l : Listed)
       ap (λ (x : Outcome). x .refusal)
       (in-refused verdict f id date (refusedOpening (l .refusal)) (refused-listed verdict f id date l is n) n)
 
-  pub open-accepted : l .refusal ≡ 0 → openedWith (l .product) (verdict .value) date (take (placesOfKind (l .product .kind)) (l .fresh)) ≡ openIn verdict f id date
+  pub open-accepted : l .refusal ≡ 0
+      → openedWith (l .product) (verdict .value) date (take (placesOfKind (l .product .kind)) (l .fresh)) ≡ openIn verdict f id date
   open-accepted z =
       in-accepted verdict f id date
       (record { refusal = 0; product = l .product; calendar = verdict .value; fresh = l .fresh })

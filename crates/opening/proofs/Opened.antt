@@ -126,11 +126,13 @@ module _ (verdict : Answer Calendar) (f id : List ℕ) (date : ℕ) where
           in-yes d = let z : firstNo (asksIn verdict f id date) ≡ 0 = rest-in ∙ rw (b, c, w, d) in rw z
 
   -- what is listed is the opening but for its calendar
-  pub listed-no : (number : ℕ) → refusedOpening number ≡ openingIn verdict f id date → record { refusal = number; product = zeroProduct; fresh = replicate 15 unused } ≡ listingIn verdict f id date
+  pub listed-no : (number : ℕ) → refusedOpening number ≡ openingIn verdict f id date
+      → record { refusal = number; product = zeroProduct; fresh = replicate 15 unused } ≡ listingIn verdict f id date
   unfolding listingIn
   listed-no number e = ap (λ (o : Opening). record { refusal = o .refusal; product = o .product; fresh = o .fresh }) e
 
-  pub listed-yes : {o : Opening} → o ≡ openingIn verdict f id date → record { refusal = o .refusal; product = o .product; fresh = o .fresh } ≡ listingIn verdict f id date
+  pub listed-yes : {o : Opening} → o ≡ openingIn verdict f id date
+      → record { refusal = o .refusal; product = o .product; fresh = o .fresh } ≡ listingIn verdict f id date
   unfolding listingIn
   listed-yes e = ap (λ (o : Opening). record { refusal = o .refusal; product = o .product; fresh = o .fresh }) e
 
@@ -146,11 +148,13 @@ module _ (verdict : Answer Calendar) (f id : List ℕ) (date : ℕ) where
             let r : l .refusal ≡ suc n = ap (λ (x : Listed). x .refusal) is ∙ rw (q, eqb·suc-zero n) in
             rw r (sym (in-no n q))
 
-    pub accepted-listed : l .refusal ≡ 0 → record { refusal = 0; product = l .product; calendar = verdict .value; fresh = l .fresh } ≡ openingIn verdict f id date
+    pub accepted-listed : l .refusal ≡ 0
+        → record { refusal = 0; product = l .product; calendar = verdict .value; fresh = l .fresh } ≡ openingIn verdict f id date
     unfolding listingIn openingIn
     accepted-listed h = go (firstNo (asksIn verdict f id date)) refl
       where
-        go : (n : ℕ) → firstNo (asksIn verdict f id date) ≡ n → record { refusal = 0; product = l .product; calendar = verdict .value; fresh = l .fresh } ≡ openingIn verdict f id date
+        go : (n : ℕ) → firstNo (asksIn verdict f id date) ≡ n
+            → record { refusal = 0; product = l .product; calendar = verdict .value; fresh = l .fresh } ≡ openingIn verdict f id date
         go zero q = rw (is, q) refl
         go (suc n) q =
             let r : l .refusal ≡ suc n = ap (λ (x : Listed). x .refusal) is ∙ rw (q, eqb·suc-zero n) in

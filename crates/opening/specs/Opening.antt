@@ -83,7 +83,7 @@ openingIn verdict f id date =
     })
     (refusedOpening (firstNo (asksIn verdict f id date)))
 
--- the same but for the calendar, which the verdict has: a caller to which it is lent need not copy it
+-- the same but for the calendar, which is the verdict's
 unfoldable pub listingIn : Answer Calendar → List ℕ → List ℕ → ℕ → Listed
 listingIn verdict f id date =
     let o = openingIn verdict f id date in

@@ -70,7 +70,7 @@ fn none_listed(number: u8) -> Listed
     }
 }
 
-// The product with an id, and the fresh listing on a date under the calendar of a verdict, of which no map is copied. The file's verdict by `judge` is at hand, so questions 1 to 8 are not asked again.
+// The product with an id, and the fresh listing on a date under the calendar of a verdict, whose first map is lent. The file's verdict by `judge` is at hand, so questions 1 to 8 are not asked again.
 pub fn listed_in(file: &[u8], judged: FileCalendar, id: [u8; 4], date: u16) -> Listed
     ensures { λ r. ⌜ r ≡ listingIn (calendarAnswer judged) (now (file .entry)) id date ⌝ }
 {

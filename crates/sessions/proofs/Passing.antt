@@ -115,12 +115,14 @@ put before after at next text r p =
 -- ---- the bytes of a part, as long as 512 bytes are free
 
 module _ (opening : List ℕ → ℕ → Outcome) (size : ℕ) (h : Kept) where
-  passed-byte : (text : List ℕ) (l : Line) (byte : ℕ) (rest : List ℕ) → (byte ≡ 10 → ⊥) → passed opening size h l text (byte ∷ rest) ≡ passed opening size h (extended l byte) text rest
+  passed-byte : (text : List ℕ) (l : Line) (byte : ℕ) (rest : List ℕ) → (byte ≡ 10 → ⊥)
+      → passed opening size h l text (byte ∷ rest) ≡ passed opening size h (extended l byte) text rest
   unfolding passed
   passed-byte text l byte rest n = rw (ne-eqb byte 10 n) refl
 
   passed-line : (text : List ℕ) (l : Line) (byte : ℕ) (rest : List ℕ) → byte ≡ 10
-      → passed opening size h l text (byte ∷ rest) ≡ passedOn opening size (keptAfter opening h (lineCommand l)) emptyLine (text ++ answerText opening h (lineCommand l)) rest
+      → passed opening size h l text (byte ∷ rest)
+      ≡ passedOn opening size (keptAfter opening h (lineCommand l)) emptyLine (text ++ answerText opening h (lineCommand l)) rest
   unfolding passed passedOn
   passed-line text l byte rest e = rw (eq-eqb byte 10 e) refl
 
@@ -134,7 +136,8 @@ module _ (opening : List ℕ → ℕ → Outcome) (size : ℕ) (h : Kept) where
     unfolding passedOn
     on-none = go (leb (length text + 512) size)
       where
-        go : (b : Bool) → cond b (passed opening size h l text []) (record { kept = h; line = l; text = text; left = [] }) ≡ record { kept = h; line = l; text = text; left = [] }
+        go : (b : Bool) → cond b (passed opening size h l text []) (record { kept = h; line = l; text = text; left = [] })
+            ≡ record { kept = h; line = l; text = text; left = [] }
         go true = passed-none
         go false = refl
 
@@ -178,10 +181,12 @@ module _ (opening : List ℕ → ℕ → Outcome) (part before : List ℕ) (s : 
   kept-on rest = to-end part (s .at) end e (restKept opening (s .kept)) (kept-byte opening (s .kept)) (s .line) rest ∙ ap (λ (k : Line). restKept opening (s .kept) k (drop end part ++ rest)) (sym f)
 
   -- the bytes of the part, from the line's end on
-  ahead-on : (text : List ℕ) → passed opening (length before) (s .kept) (s .line) text (drop (s .at) part) ≡ passed opening (length before) (s .kept) l text (drop end part)
+  ahead-on : (text : List ℕ) → passed opening (length before) (s .kept) (s .line) text (drop (s .at) part)
+      ≡ passed opening (length before) (s .kept) l text (drop end part)
   ahead-on text =
       ap (passed opening (length before) (s .kept) (s .line) text) (sym (append-nil (drop (s .at) part)))
-      ∙ to-end part (s .at) end e (λ (k : Line) (bytes : List ℕ). passed opening (length before) (s .kept) k text bytes) (passed-byte opening (length before) (s .kept) text) (s .line) []
+      ∙ to-end part (s .at) end e (λ (k : Line) (bytes : List ℕ). passed opening (length before) (s .kept) k text bytes)
+      (passed-byte opening (length before) (s .kept) text) (s .line) []
       ∙ ap (passed opening (length before) (s .kept) (fed (s .line) (slice (s .at) end part)) text) (append-nil (drop end part))
       ∙ ap (λ (k : Line). passed opening (length before) (s .kept) k text (drop end part)) (sym f)
 
@@ -200,10 +205,12 @@ module _ (opening : List ℕ → ℕ → Outcome) (part before : List ℕ) (s : 
         ahead = ahead-on (take (s .length) before) ∙ none-left;
       }
     where
-      none-left : passed opening (length before) (s .kept) l (take (s .length) before) (drop end part) ≡ passedOn opening (length before) (s .kept) l (take (s .length) before) (drop end part)
+      none-left : passed opening (length before) (s .kept) l (take (s .length) before) (drop end part)
+          ≡ passedOn opening (length before) (s .kept) l (take (s .length) before) (drop end part)
       none-left =
           rw (drop-of-length-le part h)
-          (passed-none opening (length before) (s .kept) l (take (s .length) before) ∙ sym (on-none opening (length before) (s .kept) l (take (s .length) before)))
+          (passed-none opening (length before) (s .kept) l (take (s .length) before)
+          ∙ sym (on-none opening (length before) (s .kept) l (take (s .length) before)))
 
   -- a line feed ends it
   pub is-answered : (after : List ℕ) (kept : Kept) (next : ℕ) (empty : Line) → end < length part → empty ≡ emptyLine
@@ -232,8 +239,11 @@ module _ (opening : List ℕ → ℕ → Outcome) (part before : List ℕ) (s : 
       cut : drop end part ≡ getD part end 0 ∷ drop (end + 1) part
       cut = drop-cons part end 0 h ∙ ap (λ (k : ℕ). getD part end 0 ∷ drop k part) (sym (add-one end))
 
-      ahead-ends : passed opening (length before) (s .kept) l (take (s .length) before) (drop end part) ≡ passedOn opening (length before) kept empty (take next after) (drop (end + 1) part)
-      ahead-ends = rw (cut, k, n, w .head) (passed-line opening (length before) (s .kept) (take (s .length) before) l (getD part end 0) (drop (end + 1) part) (e .feed h))
+      ahead-ends : passed opening (length before) (s .kept) l (take (s .length) before) (drop end part)
+          ≡ passedOn opening (length before) kept empty (take next after) (drop (end + 1) part)
+      ahead-ends =
+          rw (cut, k, n, w .head)
+          (passed-line opening (length before) (s .kept) (take (s .length) before) l (getD part end 0) (drop (end + 1) part) (e .feed h))
 
       text-ends : (rest : List ℕ) → restText opening (s .kept) l (drop end part ++ rest) ≡ answer ++ restText opening (kept) empty (drop (end + 1) part ++ rest)
       text-ends rest = rw (cut, k, n) (text-line opening (s .kept) l (getD part end 0) (drop (end + 1) part ++ rest) (e .feed h))
@@ -255,11 +265,22 @@ pub record Going (opening : List ℕ → ℕ → Outcome) (h : Kept) (l : Line) 
   pub long : length after ≡ length before
   pub within : from ≤ length part → r .at ≤ length part
   pub on : ((r ≡ record { kept = h; line = l; at = from; length = 0 }) × (after ≡ before)) ⊎ ((512 ≤ length before) × (from < length part) × (from < r .at))
-  pub ahead : passedOn opening (length before) h l [] (drop from part) ≡ passedOn opening (length before) (r .kept) (r .line) (take (r .length) after) (drop (r .at) part)
+  pub ahead : passedOn opening (length before) h l [] (drop from part)
+      ≡ passedOn opening (length before) (r .kept) (r .line) (take (r .length) after) (drop (r .at) part)
 
 module _ (opening : List ℕ → ℕ → Outcome) (h : Kept) (l : Line) (part : List ℕ) (from : ℕ) (before : List ℕ) where
   pub begins : Going opening h l part from before before (record { kept = h; line = l; at = from; length = 0 })
-  begins = record { text = λ rest. refl; state = λ rest. refl; fits = omega arith; unchanged = refl; long = refl; within = λ k. k; on = inl (refl, refl); ahead = refl }
+  begins =
+      record {
+        text = λ rest. refl;
+        state = λ rest. refl;
+        fits = omega arith;
+        unchanged = refl;
+        long = refl;
+        within = λ k. k;
+        on = inl (refl, refl);
+        ahead = refl;
+      }
 
   module _ (out : List ℕ) (s : Progress) (g : Going opening h l part from before out s) where
     pub goes : (after : List ℕ) (r : Progress) {b : Bool} → b ≡ another part (s .at) out (s .length) → b ≡ true → Next opening part out after s r → Going opening h l part from before after r
@@ -357,7 +378,8 @@ module _ (opening : List ℕ → ℕ → Outcome) (h : Kept) (l : Line) (part : 
         stopped : (s .at < length part) ⊎ (length part ≤ s .at)
             → passedOn opening (length before) (s .kept) (s .line) (take (s .length) out) (drop (s .at) part)
             ≡ record { kept = s .kept; line = s .line; text = take (s .length) out; left = drop (s .at) part }
-        stopped (inl i) = on-full opening (length before) (s .kept) (s .line) (take (s .length) out) (drop (s .at) part) (omega (arith, count, no-more i, g .long))
+        stopped (inl i) =
+            on-full opening (length before) (s .kept) (s .line) (take (s .length) out) (drop (s .at) part) (omega (arith, count, no-more i, g .long))
         stopped (inr i) = rw (drop-of-length-le part i) (on-none opening (length before) (s .kept) (s .line) (take (s .length) out))
 
         stays : (length before < 512) ⊎ (length part ≤ from) → Start ⊎ Moved → Start

@@ -13,7 +13,8 @@ number-opened-requires c κs = tt
 returns : tie.Need-returns
 returns c =
     let e = c .before .places-of-kind .ensures in
-    let l = length-take-le (c .before .places-of-kind .result) (c .before .before .args .fresh) (omega (arith, c .before .before .good .1 .1 .1 .0 .1 .0 .1, e .1)) in
+    let start = c .before .before in
+    let l = length-take-le (c .before .places-of-kind .result) (start .args .fresh) (omega (arith, start .good .1 .1 .1 .0 .1 .0 .1, e .1)) in
     rw (c .number-opened .ensures, ← e .0, l)
 
 pub opened-rest-spec : {M : Type 1} → statement M
