@@ -84,7 +84,7 @@ pub struct VerdictReply {
 }
 
 // The product that a flat one stands for; one of zeros where its kind number is no kind.
-fn unflat_product(p: FlatProduct) -> Product
+pub fn unflat_product(p: FlatProduct) -> Product
     ensures { λ r. ⌜ r ≡ unflatProduct p ⌝ }
 {
     if !product::kind_right(p.kind) {
@@ -123,7 +123,7 @@ pub fn unflat_table(t: FlatTable) -> Table
 }
 
 // A product, flat.
-fn flat_product(p: Product) -> FlatProduct
+pub fn flat_product(p: Product) -> FlatProduct
     ensures { λ r. ⌜ r ≡ flatProduct p ⌝ }
 {
     let id = p.id;
@@ -144,7 +144,7 @@ fn flat_product(p: Product) -> FlatProduct
 }
 
 // A table, flat.
-fn flat_table(t: Table) -> FlatTable
+pub fn flat_table(t: Table) -> FlatTable
     ensures { λ r. ⌜ r ≡ flatTable t ⌝ }
 {
     let product = flat_product(t.product);

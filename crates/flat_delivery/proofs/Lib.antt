@@ -1,0 +1,3 @@
+mod Reading
+mod Delivering
+pub mod Demand

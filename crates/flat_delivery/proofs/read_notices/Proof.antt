@@ -1,0 +1,25 @@
+-- The library's promise on the lists, said of the answer: what was read is the text's date, opening and count, or its bad line.
+use Rattle.flat_delivery.proofs.Reading.{read-in}
+use borrow.Author.Needs.{needs}
+use Rattle.flat_delivery.proofs.read_notices.Statement.{statement}
+use Rattle.flat_delivery.proofs.read_notices.Tie as tie
+
+read-notices-requires : tie.Need-read-notices-requires
+read-notices-requires c κs = tt
+
+notices-of-requires : tie.Need-notices-of-requires
+notices-of-requires c κs = tt
+
+same-length : tie.Need-same-length
+same-length c = search needs
+
+same-length-2 : tie.Need-same-length-2
+same-length-2 c = search needs
+
+returns : tie.Need-returns
+returns c = read-in _ _ _ _ _ _ (c .before .before .before .before .before .read-notices .ensures) _ (c .notices-of .ensures)
+
+pub read-notices-spec : {M : Type 1} → statement M
+read-notices-spec =
+    tie.close
+    (tie.spec read-notices-requires notices-of-requires same-length same-length-2 returns)

@@ -1,0 +1,3 @@
+mod Rows
+mod Finding
+pub mod Whole
