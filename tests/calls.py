@@ -9,10 +9,11 @@ import sys
 from types import SimpleNamespace
 
 from mornings import listed, placed, queue_words
-from runs import files
+from runs import files, mornings
 from runs.case import Chance, write
 from runs.histories import ITEMS
-from second import dates, generated, intake, listing, master, product, rounds, table, trading, vendor, writing
+from second import (dates, deliver, generated, intake, listing, master, notices, product, reconcile, replay, rounds,
+                    rows, table, trading, vendor, writing)
 from second.trading import Calendar
 from tables import damages, moments
 from tables.files import FRACTIONS, by_id, clustered, clustered_weekly
@@ -38,6 +39,21 @@ def marked_after_cover(calendar):
     return any(calendar.to_map()[after:] + calendar.to_second_map()[after:])
 
 
+# A text by its length and its sum.
+def text_words(text):
+    return len(text), map_sum(text)
+
+
+# The product at a place of an accepted file; None where there is none.
+def product_at(file, place):
+    blocks = master.blocks_of(file)
+    if place // master.RECORDS_AT_MOST >= len(blocks):
+        return None
+    block = blocks[place // master.RECORDS_AT_MOST]
+    held = block[0] == master.PRODUCTS and place % master.RECORDS_AT_MOST < master.number_of(block)
+    return master.product_of(master.record_at(block, place % master.RECORDS_AT_MOST)) if held else None
+
+
 # The lines written so far, the answers to them, and what they leave.
 class Script:
 
@@ -52,6 +68,7 @@ class Script:
         self.calendar = table.ZERO_TABLE.calendar
         self.state = None
         self.places, self.count = placed([]), 0
+        self.notices = b''
 
     # A line that is answered with nothing.
     def say(self, *words):
@@ -207,6 +224,56 @@ class Script:
     def take_calendar(self):
         self.calendar = self.table.calendar
         self.say('calendar')
+
+    # ---- A delivery ----
+
+    # Place p is record p % 15 of block p / 15.
+    def product(self, place):
+        refusal = master.file_refusal(self.file)
+        item = None if refusal else product_at(self.file, place)
+        codes = (item.id + item.group + item.market + item.currency).hex() if item else bytes(15).hex()
+        numbers = (item.kind, item.size, item.tick) if item else (0, 0, 0)
+        return self.ask(('product', place), refusal or (0 if item else 9), codes, *numbers)
+
+    def read_notices(self, text):
+        bad, said = notices.read(text)
+        self.notices = self.notices if bad else text
+        opening = (0, 0, 0) if bad else (said[0][1][1], said[0][0], len(said) - 1)
+        self.say('notices', self.name_of(text))
+        self.answers.append(words_of(bad, *opening))
+        self.seen.add(('notices', bad != 0))
+        return bad
+
+    # The table of a product of the judged file after the notices.
+    def deliver(self, code):
+        standing = next((one for one in self.morning().products if one.item.id == code.ljust(4)), None)
+        refusal = standing.opening if standing else 9
+        refused = standing.refused if standing and not refusal else []
+        self.table = self.table if refusal else standing.held
+        return self.ask(('deliver', code.decode('ascii')), refusal, len(refused),
+                        *(number for one in refused for number in one))
+
+    def morning(self):
+        return replay.begin(self.judged, self.notices)[1]
+
+    def rows(self):
+        refusal = 0 if table.is_sound(self.table) else 10
+        printed = [] if refusal else [deliver.row(self.table.product, one) for one in table.maturities(self.table)]
+        return self.ask(('rows',), refusal, *text_words(b''.join(printed)))
+
+    def delivery(self):
+        printed, told = deliver.deliver(self.judged, self.notices)
+        self.say('delivery')
+        self.answers.append(words_of(*text_words(printed), *text_words(told)))
+
+    def differences(self, text):
+        printed, _ = reconcile.reconcile(self.judged, self.notices, text)
+        read = rows.read(text, reconcile.kinds_of(self.morning()))
+        differ = max(0, printed.count(b'\n') - 1)
+        self.say('differences', self.name_of(text))
+        self.answers.append(words_of(len(read.good), differ, read.too_many, *text_words(printed), *read.bad))
+        self.seen.update(('differs', line.split(b',')[2].decode()) for line in printed.splitlines()[1:])
+        self.seen.add(('over', read.too_many))
 
     # ---- The round ----
 
@@ -418,6 +485,7 @@ def every_call(script, now):
     script.cash(3, 123400, 125000)
     script.judge([number for place in table.maturities(now) for number in place[:2]])
     script.record()
+    script.rows()
 
 
 # Every call on tables that no call gave back.
@@ -498,10 +566,51 @@ def some_rounds(script):
             script.show_round()
 
 
-PARTS = (some_days, some_files, some_histories, some_writings, some_rounds)
+# Places of a file: the first, the last, and some that hold nothing.
+def some_places(script):
+    places = master.RECORDS_AT_MOST * (len(script.file) // master.BLOCK)
+    chance = script.chance
+    for place in {0, 14, places - 16, places - 15, places - 1, places, 2**63, chance.below(places + 1)}:
+        script.product(max(0, place))
 
-# What the scripts of a set must have: every refusal of every call, both verdicts on a list, and files written from
-# calendars with and without days after their cover.
+
+# As many rows as there may be, and more.
+def too_many_rows(script):
+    one = mornings.many_rows(script.chance)
+    script.use(one.file)
+    script.judge_file()
+    script.read_notices(one.notices)
+    script.differences(one.rows)
+
+
+# Mornings: the products of a file by their places, notices, tables after them with their rows, the whole delivery, and
+# rows from elsewhere.
+def some_deliveries(script):
+    chance = script.chance
+    makers = (mornings.history, mornings.history, mornings.history_with_others, mornings.slip, mornings.odd_lines,
+              mornings.every_byte)
+    for make in (*makers, *chance.sample([mornings.stored_file(number) for number in range(9)], 2)):
+        one = make(chance)
+        script.use(one.file)
+        some_places(script)
+        if script.judge_file() or script.read_notices(one.notices):
+            continue
+        items = [item.id.rstrip() for item in master.read_products(one.file)]
+        for code in (*chance.sample(items, min(3, len(items))), b'NONE'):
+            script.deliver(code)
+            script.show()
+            script.rows()
+        script.delivery()
+        for text in (one.rows, deliver.deliver(one.file, one.notices)[0]):
+            script.differences(text)
+    if chance.below(12) == 0:
+        too_many_rows(script)
+
+
+PARTS = (some_days, some_files, some_histories, some_writings, some_deliveries, some_rounds)
+
+# What the scripts of a set must have: every refusal of every call, both verdicts on a list, files written from calendars
+# with and without days after their cover, notices with and without a bad line, and differences.
 ANSWERS = {
     'day': (0, 23), 'date': (0, 23), 'load': range(9), 'open': (*range(10), 11, 16, 24),
     'judge_file': range(9), 'open_in': (0, 9, 11, 16, 24), 'roll': (0, 10, 11, 12, 16),
@@ -509,9 +618,11 @@ ANSWERS = {
     'last': (0, 10, 18), 'due': (0, 10, 11, 17), 'tick': (0, 10, 19, 20), 'cash': (0, 10, 19, 20, 21, 22),
     'judge': (0, 10), 'announce': (0, 1), 'take': (0, 1), 'finish': range(9), 'make': (0, 4),
     'write': (0, *range(3, 9), 25), 'handle': (0, 10, 30), 'join': (0, 10, 30, 31), 'leave': (0, 10, 30, 31),
+    'product': range(10), 'deliver': (0, 9, 11, 16), 'rows': (0, 10),
 }
 WANTED = frozenset((name, number) for name, numbers in ANSWERS.items() for number in numbers) | {
-    ('verdict', True), ('verdict', False), ('written', True), ('written', False)}
+    ('verdict', True), ('verdict', False), ('written', True), ('written', False), ('notices', True), ('notices', False),
+    *(('differs', why) for why in ('missing', 'extra', 'twice', 'day', 'number', 'product'))}
 
 
 # A script of a seed: every part of it.

@@ -13,7 +13,7 @@ from array import array
 
 import scullpouch
 from runs import files
-from second import dates, generated, master, table
+from second import dates, deliver, generated, master, notices, reconcile, table
 
 ROOT = os.path.dirname(os.path.dirname(os.path.abspath(__file__)))
 DATE = dates.day_of(2008, 3, 20)
@@ -220,6 +220,38 @@ def marks():
         last = bytearray(MAP)
         last[-1] = 1
         expect(kept._replace(exchange=last).marked_after_cover(), years < 16, years)
+
+
+# Notices and rows of every size, texts that say they are longer or fewer than they are, and ids that no record can have.
+def deliveries():
+    file, said, given = (read('examples', 'morning', name) for name in ('master.bin', 'notices.txt', 'wrong.csv'))
+    judged, held = scullpouch.Master(file), scullpouch.Notices(said)
+    right = held.differences(judged, given)
+    expect(right.text.encode(), reconcile.reconcile(file, said, given)[0])
+    for lying in (Longer, Shorter, bytearray):
+        expect(scullpouch.Notices(lying(said)).rows(judged).encode(), deliver.deliver(file, said)[0], lying)
+        expect(held.differences(judged, lying(given)), right, lying)
+    for text in (b'', b'\n', b'\xef\xbb\xbf', b'\xff', bytes(65536), bytes(65537), said + b'#' * 1_000_000, said * 3,
+                 said + b'\nM AXA 3 2'):
+        expect(number_of_bad(text), notices.read(text)[0], text[-20:])
+    row = b'AXA,2008-04,2008-04-18\n'
+    for text in (b'', b'\n', b'\xef\xbb\xbf', b'\xef\xbb\xbfXXXX,2008-04,2008-04-18', b'A' * 1_000_000,
+                 bytes(range(256)) * 40, row * 65536, row * 65537):
+        expect(held.differences(judged, text).text.encode(), reconcile.reconcile(file, said, text)[0], text[-20:])
+    for text in ('ŻYW', '\ud800', '', ' AXA', 'AXAAX'):
+        expect(came(held.table, judged, text), ('refused', 9), text)
+    for place in (-1, 2**64):
+        expect(came(scullpouch.product_at, file, place), 'ValueError', place)
+    expect(came(scullpouch.product_at, file, 2**64 - 1), ('refused', 9))
+
+
+# The first bad line of a text of notices, 0 where there is none.
+def number_of_bad(text):
+    try:
+        scullpouch.Notices(text)
+    except scullpouch.BadLine as bad:
+        return bad.number
+    return 0
 
 
 if __name__ == '__main__':

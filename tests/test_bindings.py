@@ -282,7 +282,9 @@ class Words(unittest.TestCase):
 
 # Structs of the crates whose name in C is another.
 NAMES = {'FlatProduct': 'product', 'FlatTable': 'table', 'FlatOutcome': 'outcome', 'FlatMeasured': 'measured',
-         'FlatRecord': 'record_bytes', 'VerdictReply': 'verdict', 'WrittenFile': 'written', 'Queue': 'round'}
+         'FlatRecord': 'record_bytes', 'VerdictReply': 'verdict', 'WrittenFile': 'written', 'Queue': 'round',
+         'FlatDelivered': 'delivered', 'TextReply': 'text', 'TextLine': 'line', 'FlatReceipt': 'receipt',
+         'FoundLines': 'found', 'SaidNotices': 'notices'}
 NUMBERS = {'u8': 1, 'bool': 1, 'u16': 2, 'u32': 4, 'u64': 8, 'usize': 8}
 
 
@@ -458,6 +460,8 @@ ATTEMPTS = {
     'locks': ('del lent', 'pass'),
     'verdicts': ('return self.same', 'return bool(self.key)'),
     'marks': ('after = YEAR_MAP * held.cover.years', 'after = MAP'),
+    'deliveries': ("_call['read_notices'](*_lent(text), *self._lists)",
+                   "_call['read_notices'](bytes(text), len(text), *self._lists)"),
 }
 
 
@@ -481,6 +485,10 @@ FAULTS = (
     ('python', 'scullpouch.py', 'Moved(outcome.entered, outcome.left)', 'Moved(outcome.left, outcome.entered)'),
     ('python', 'scullpouch.py', 'Verdict(reply.same, None', 'Verdict(True, None'),
     ('python', 'scullpouch.py', "_call['open_in'](self._said,", "_call['open_in'](_FileCalendar(),"),
+    ('include', 'scullpouch.h', '(size_t)SCULLPOUCH_PLACES * (length / SCULLPOUCH_BLOCK)',
+     '(size_t)SCULLPOUCH_PLACES * (length / SCULLPOUCH_BLOCK - 1)'),
+    ('rust', 'src/delivery.rs', '(self.calls[5 * i], *number)', '(self.calls[5 * i + 1], *number)'),
+    ('python', 'scullpouch.py', 'for i in range(self._said.count + 1)', 'for i in range(self._said.count)'),
 )
 
 
@@ -565,6 +573,21 @@ class Readme(unittest.TestCase):
                 environment = {**os.environ, 'CARGO_TARGET_DIR': BUILT.path('cargo')}
                 found = run('bash', '-euc', exports + part, cwd=folder, env=environment)
                 self.assertEqual(found.decode(), expected, language)
+
+
+    # A delivery and its differences in Python, in the folder of examples/morning.
+    def test_delivery(self):
+        [program] = re.findall(r'^  ```python\n(.*?)^  ```$', section(), re.M | re.S)
+        folder = os.path.join(EXAMPLES, 'morning')
+        lines = '\n'.join(line[2:] for line in program.splitlines())
+        environment = {**BUILT.environment, 'PYTHONPATH': BUILT.source('python')}
+        found = run(sys.executable, '-c', lines, cwd=folder, env=environment).decode()
+        names = ('delivery.csv', 'differences.csv', 'refused.txt')
+        delivery, differences, refused = (read(folder, name) for name in names)
+        products = sum(line.startswith('P ') for line in read(folder, 'master.txt').splitlines())
+        told = refused or 'nothing refused'
+        last = f"{differences.count(chr(10)) - 1} differ, 0 bad\n"
+        self.assertEqual(found, f"{delivery.count(chr(10))} lines of {products} products; {told}\n{differences}{last}")
 
 
 def main(arguments):

@@ -20,6 +20,8 @@ static scullpouch_table table, kept;
 static scullpouch_calendar calendar;
 static scullpouch_intake state;
 static scullpouch_round queue;
+static scullpouch_notices_lists notices;
+static scullpouch_rows_lists rows;
 
 /* The words of the line after the command: a text, where it has one, and numbers. */
 static char *word;
@@ -374,6 +376,175 @@ static void call_write(void) {
 
 static void print_marked(void) { printf("%d\n", scullpouch_marked_after_cover(&calendar)); }
 
+/* ---- A delivery ---- */
+
+static void print_product(const scullpouch_product *p) {
+    print_hex(p->id, 4);
+    print_hex(p->group, 4);
+    print_hex(p->market, 4);
+    print_hex(p->currency, 3);
+    printf(" %d %lu %d", p->kind, (unsigned long)p->size, p->tick);
+}
+
+static void call_product(void) {
+    scullpouch_product into = {{0}, {0}, {0}, 0, {0}, 0, 0};
+    uint8_t *bytes = lent(file, file_length);
+    scullpouch_product_reply r = scullpouch_product_at(bytes, file_length, number[0]);
+    unsigned refusal = scullpouch_product_at_into(&into, bytes, file_length, number[0]);
+    free(bytes);
+    agree(r.refusal == refusal && same_product(&r.product, &into));
+    printf("%d ", r.refusal);
+    print_product(&r.product);
+    putchar('\n');
+}
+
+/* The notices are kept where no line is bad. Lists that are one element too short get nothing. */
+static void call_notices(void) {
+    static scullpouch_notices_lists into;
+    size_t length;
+    uint8_t *text = read_whole(word, &length);
+    uint32_t *calls = (uint32_t *)(void *)room_of(SCULLPOUCH_CALLS * sizeof *calls);
+    uint8_t *ids = room_of(SCULLPOUCH_NOTICE_IDS);
+    memset(calls, 165, SCULLPOUCH_CALLS * sizeof *calls);
+    memset(ids, 165, SCULLPOUCH_NOTICE_IDS);
+    scullpouch_notices few =
+        scullpouch_read_notices(text, length, calls, SCULLPOUCH_CALLS - 1, ids, SCULLPOUCH_NOTICE_IDS);
+    agree(!few.fits && few.bad == 0 && few.date == 0 && few.opened == 0 && few.count == 0 && ids[0] == 165);
+    scullpouch_notices n = scullpouch_read_notices(text, length, calls, SCULLPOUCH_CALLS, ids, SCULLPOUCH_NOTICE_IDS);
+    uint32_t bad = scullpouch_read_notices_into(&into, text, length);
+    agree(n.fits && n.bad == bad && n.date == into.said.date && n.opened == into.said.opened &&
+          n.count == into.said.count && memcmp(calls, into.calls, 5 * n.count * sizeof *calls) == 0);
+    if (bad == 0) notices = into;
+    free(text);
+    free(calls);
+    free(ids);
+    printf("%lu %d %lu %lu\n", (unsigned long)bad, n.date, (unsigned long)n.opened, (unsigned long)n.count);
+}
+
+/* A buffer of one byte for each notice is enough, and one byte fewer too few. */
+static void call_deliver(void) {
+    static const scullpouch_table zeros;
+    size_t room = notices.said.count, refused = 0;
+    uint8_t *refusals = room_of(room);
+    scullpouch_id id = scullpouch_id_of(word);
+    scullpouch_delivered into;
+    unsigned refusal = scullpouch_deliver_into(&into, &judged, judged_file, judged_length, &notices, id);
+    scullpouch_delivered d =
+        scullpouch_deliver(judged, judged_file, judged_length, notices.said, notices.calls, SCULLPOUCH_CALLS,
+                           notices.ids, SCULLPOUCH_NOTICE_IDS, id, refusals, room);
+    agree(d.fits && d.refusal == refusal && same_table(&d.table, &into.table) &&
+          memcmp(refusals, notices.refusals, room) == 0 && (refusal == 0 || same_table(&d.table, &zeros)));
+    if (room != 0) {
+        scullpouch_delivered few =
+            scullpouch_deliver(judged, judged_file, judged_length, notices.said, notices.calls, SCULLPOUCH_CALLS,
+                               notices.ids, SCULLPOUCH_NOTICE_IDS, id, refusals, room - 1);
+        agree(!few.fits && few.refusal == 0 && same_table(&few.table, &zeros));
+    }
+    if (refusal == 0) table = d.table;
+    for (size_t i = 0; i < room && refusal == 0; i++) refused += refusals[i] != 0;
+    printf("%u %zu", refusal, refused);
+    for (size_t i = 0; i < room && refusal == 0; i++)
+        if (refusals[i] != 0) printf(" %lu %d", (unsigned long)notices.calls[5 * i], refusals[i]);
+    putchar('\n');
+    free(refusals);
+}
+
+static void call_rows(void) {
+    uint8_t *buffer = room_of(SCULLPOUCH_TABLE_TEXT);
+    memset(buffer, 165, SCULLPOUCH_TABLE_TEXT);
+    scullpouch_text few = scullpouch_rows(table, buffer, SCULLPOUCH_TABLE_TEXT - 1);
+    agree(!few.fits && few.length == 0 && buffer[0] == 165);
+    scullpouch_text t = scullpouch_rows(table, buffer, SCULLPOUCH_TABLE_TEXT);
+    agree(t.refusal == few.refusal && t.fits == (t.refusal == 0) && buffer[t.length] == 165);
+    printf("%d %zu %lu\n", t.refusal, t.length, sum_of(buffer, t.length));
+    free(buffer);
+}
+
+/* A text that is printed by its length and its sum. */
+struct summed {
+    size_t length;
+    unsigned long sum;
+};
+
+static void add(struct summed *text, const uint8_t *bytes, size_t length) {
+    for (size_t i = 0; i < length; i++)
+        text->sum = (text->sum + (++text->length) % SUM_MODULUS * bytes[i]) % SUM_MODULUS;
+}
+
+static void add_line(struct summed *text, scullpouch_line line) { add(text, line.bytes, line.length); }
+
+/* The rows and the refused calls of one product. */
+static void deliver_place(size_t place, struct summed *text, struct summed *told) {
+    static uint8_t buffer[SCULLPOUCH_TABLE_TEXT];
+    scullpouch_product_reply p = scullpouch_product_at(judged_file, judged_length, place);
+    if (p.refusal != 0) return;
+    scullpouch_id id;
+    memcpy(id.bytes, p.product.id, 4);
+    scullpouch_delivered d;
+    unsigned refusal = scullpouch_deliver_into(&d, &judged, judged_file, judged_length, &notices, id);
+    add(text, buffer, scullpouch_rows(d.table, buffer, sizeof buffer).length);
+    for (uint32_t i = 0; i <= notices.said.count; i++)
+        add_line(told, scullpouch_refused_call(id, notices.said, (uint8_t)refusal, notices.calls, SCULLPOUCH_CALLS,
+                                               notices.refusals, SCULLPOUCH_NOTICES, i));
+}
+
+/* Both texts of the judged file's products after the notices. */
+static void call_delivery(void) {
+    struct summed text = {0, 0}, told = {0, 0};
+    add_line(&text, scullpouch_rows_heading());
+    for (size_t place = 0; place < scullpouch_places(judged_length); place++) deliver_place(place, &text, &told);
+    for (uint32_t i = 0; i < notices.said.count; i++)
+        add_line(&told, scullpouch_unknown_measure(judged_file, judged_length, notices.calls, SCULLPOUCH_CALLS,
+                                                   notices.ids, SCULLPOUCH_NOTICE_IDS, i));
+    printf("%zu %lu %zu %lu\n", text.length, text.sum, told.length, told.sum);
+}
+
+/* The lines of one product, in a buffer that has room for few of them: how many. */
+static size_t differ_place(size_t place, struct summed *text) {
+    static uint8_t buffer[2 * SCULLPOUCH_LINE];
+    scullpouch_product_reply p = scullpouch_product_at(judged_file, judged_length, place);
+    if (p.refusal != 0) return 0;
+    scullpouch_id id;
+    memcpy(id.bytes, p.product.id, 4);
+    scullpouch_delivered d;
+    size_t lines = 0;
+    scullpouch_deliver_into(&d, &judged, judged_file, judged_length, &notices, id);
+    for (uint32_t key = 0; key < SCULLPOUCH_KEYS;) {
+        scullpouch_found f = scullpouch_differences_into(&rows, &p.product, &d, key, buffer, sizeof buffer);
+        add(text, buffer, f.length);
+        key = f.next;
+        lines += f.lines;
+    }
+    return lines;
+}
+
+/* Rows from a file, judged by the tables after the notices: good rows, lines, whether there was a row too many, the
+ * text, and the bad lines. */
+static void call_differences(void) {
+    static uint32_t bad[NUMBERS_AT_MOST];
+    static const scullpouch_receipt start;
+    struct summed text = {0, 0};
+    size_t length, bads = 0, lines = 0;
+    uint8_t *bytes = read_whole(word, &length);
+    rows.state = start;
+    while (rows.state.next < length && !rows.state.over)
+        if (scullpouch_receive_into(&rows, judged_file, judged_length, bytes, length) != 0 && bads < NUMBERS_AT_MOST)
+            bad[bads++] = rows.state.bad;
+    free(bytes);
+    if (!rows.state.over) {
+        add_line(&text, scullpouch_differences_heading());
+        for (size_t place = 0; place < scullpouch_places(judged_length); place++) lines += differ_place(place, &text);
+        for (uint32_t i = 0; i < rows.state.rows; i++) {
+            scullpouch_line l = scullpouch_unknown_product(judged_file, judged_length, rows.ids, SCULLPOUCH_ROW_IDS, i);
+            add_line(&text, l);
+            lines += l.length != 0;
+        }
+    }
+    printf("%lu %zu %d %zu %lu", (unsigned long)rows.state.rows, lines, rows.state.over, text.length, text.sum);
+    for (size_t i = 0; i < bads; i++) printf(" %lu", (unsigned long)bad[i]);
+    putchar('\n');
+}
+
 /* ---- The round ---- */
 
 /* A queue of any numbers: its count, then its places from the first on. */
@@ -471,6 +642,8 @@ static const struct {
     {"announce", false, call_announce}, {"take", false, call_take}, {"finish", false, call_finish},
     {"numbers", false, set_queue}, {"queue", false, call_queue}, {"round", false, print_round},
     {"handle", false, call_handle}, {"join", false, call_join}, {"leave", false, call_leave},
+    {"product", false, call_product}, {"notices", true, call_notices}, {"deliver", true, call_deliver},
+    {"rows", false, call_rows}, {"delivery", false, call_delivery}, {"differences", true, call_differences},
     {"time", false, time_rolls},
 };
 

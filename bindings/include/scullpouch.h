@@ -2,10 +2,10 @@
  *
  * A day is a number from 0, 1 January 2000, to 36,524, 31 December 2099; a month is a number
  * from 0, January 2000. The key of a maturity is its month, or the day of a weekly option's
- * Friday. Every call but interface, record and queue answers with a refusal: 0 for accepted,
- * else the number of the first question that is answered no, which scullpouch_question has in
- * words. No call keeps, allocates or frees anything, and none has a state of its own: any
- * number of threads may call at the same time.
+ * Friday. Every call but interface, record, queue and those that give notices, a receipt or a
+ * line answers with a refusal: 0 for accepted, else the number of the first question that is
+ * answered no, which scullpouch_question has in words. No call keeps, allocates or frees
+ * anything, and none has a state of its own: any number of threads may call at the same time.
  *
  * Tables, calendars, queues and states of a load are plain values: copy them by assignment,
  * store them, read their fields. (A product has two unused bytes at its end, so tables are
@@ -43,6 +43,16 @@ extern "C" {
 #define SCULLPOUCH_YEAR_MAP 46
 #define SCULLPOUCH_TABLES 200
 #define SCULLPOUCH_WEEKLY 5 /* the kind whose keys are days */
+
+/* Of a delivery. The lists and buffers that a call fills have room for so many elements, or more. */
+#define SCULLPOUCH_NOTICES 6554     /* the most notices of a text: the bytes of their refusals */
+#define SCULLPOUCH_CALLS 32770      /* the numbers of their calls, 5 for each */
+#define SCULLPOUCH_NOTICE_IDS 26216 /* the bytes of their ids, 4 for each */
+#define SCULLPOUCH_ROWS 65536       /* the most rows that are read */
+#define SCULLPOUCH_ROW_IDS 262144   /* the bytes of their ids, 4 for each */
+#define SCULLPOUCH_TABLE_TEXT 1024  /* room for the rows of any table */
+#define SCULLPOUCH_LINE 64          /* room for a line of a text */
+#define SCULLPOUCH_KEYS 65536       /* after the last key */
 
 /* ---- Values ---- */
 
@@ -127,6 +137,37 @@ typedef struct {
     uint16_t years;
     uint16_t records;
 } scullpouch_counts;
+
+/* What a text of notices says. fits: both lists had room; else nothing was read and all is 0. bad: the number of the
+ * first bad line, from 1, or 0; with one the next three are 0. opened, date: the number of the line of the O, and its
+ * day. count: the notices in the lists. Of each the list of calls has the number of its line, its kind (0 a roll, 1 a
+ * close, 2 a reopening, 3 a measure), the day or p, q and the price; and the list of ids the four bytes of a measure's
+ * product. */
+typedef struct {
+    bool fits;
+    uint16_t date;
+    uint32_t opened;
+    uint32_t count;
+    uint32_t bad;
+} scullpouch_notices;
+
+/* How far rows were read; all zeros before the first line. next: the place in the text from which the next line is
+ * read; rows: the good rows in the lists; lines: the lines so far; bad: the number of the last line where it is bad,
+ * else 0; begun: a line was there that is not empty; over: there was a good row too many, and reading has ended. */
+typedef struct {
+    size_t next;
+    uint32_t rows;
+    uint32_t lines;
+    uint32_t bad;
+    bool begun;
+    bool over;
+} scullpouch_receipt;
+
+/* A line of a text with its line feed; no bytes where there is nothing to tell. */
+typedef struct {
+    uint8_t bytes[SCULLPOUCH_LINE];
+    size_t length;
+} scullpouch_line;
 
 /* ---- Answers. With a refusal the table, state or queue is the one that was given, and every other value is 0 ---- */
 
@@ -220,6 +261,36 @@ typedef struct {
     scullpouch_calendar calendar;
 } scullpouch_made;
 
+typedef struct {
+    uint8_t refusal;
+    scullpouch_product product;
+} scullpouch_product_reply;
+
+/* fits: the notices were read, none of them bad, and there was room for their refusals; else nothing was done, and the
+ * table is all zeros, which every call refuses (10). refusal: open's; the table is then all zeros too. */
+typedef struct {
+    bool fits;
+    uint8_t refusal;
+    scullpouch_table table;
+} scullpouch_delivered;
+
+/* fits: the buffer had room; else, and with a refusal, nothing was written. */
+typedef struct {
+    uint8_t refusal;
+    bool fits;
+    size_t length;
+} scullpouch_text;
+
+/* fits: there was room for the places; else, and with a refusal, nothing was looked for. next: the key from which the
+ * next call goes on; SCULLPOUCH_KEYS where there is no more, and with a refusal. lines, length: what was written. */
+typedef struct {
+    uint8_t refusal;
+    bool fits;
+    uint32_t next;
+    uint32_t lines;
+    size_t length;
+} scullpouch_found;
+
 /* ---- The proved calls, with the questions that each asks, in this order ---- */
 
 uint32_t scullpouch_interface(void);
@@ -234,9 +305,9 @@ scullpouch_loaded scullpouch_load(const uint8_t *file, size_t length);
 /* Opens a table of a master file's product. 1-9, 11, of a weekly option 24, 16 */
 scullpouch_outcome scullpouch_open(const uint8_t *file, size_t length, scullpouch_id id, uint16_t date);
 
-/* The same for many opens of one file, which is judged once: 1-8. Then open_in, handed what was said of the file and the
- * file, answers what open answers. What was said of another file is taken as it is, refusal and calendar, and the id is
- * looked for in the file that is handed in: judged.refusal, 9, 11, of a weekly option 24, 16 */
+/* The same for many opens of one file, which is judged once: 1-8. Then open_in, handed what was said of the file and
+ * the file, answers what open answers. What was said of another file is taken as it is, refusal and calendar, and the
+ * id is looked for in the file that is handed in: judged.refusal, 9, 11, of a weekly option 24, 16 */
 scullpouch_file_calendar scullpouch_judge_file(const uint8_t *file, size_t length);
 scullpouch_outcome scullpouch_open_in(scullpouch_file_calendar judged, const uint8_t *file, size_t length,
                                       scullpouch_id id, uint16_t date);
@@ -286,6 +357,65 @@ scullpouch_changed scullpouch_leave(scullpouch_round queue, uint16_t table);
 
 /* A made-up calendar for load tests. 4 */
 scullpouch_made scullpouch_make(uint32_t seed, scullpouch_cover cover);
+
+/* The product at a place of a master file: place p is record p % 15 of block p / 15, so a file has 15 * (length / 512)
+ * places, rising in the file's order; those that hold no record get 9. 1-9. The calendar of a file:
+ * scullpouch_judge_file */
+scullpouch_product_reply scullpouch_product_at(const uint8_t *file, size_t length, size_t place);
+
+/* ---- A delivery: the tables of a file's products after a text of notices (docs/DELIVERY.md) ---- */
+
+/* Reads a text of notices, whatever its bytes are, into two lists. */
+scullpouch_notices scullpouch_read_notices(const uint8_t *text, size_t length, uint32_t *calls, size_t calls_room,
+                                           uint8_t *ids, size_t ids_room);
+
+/* The table of the product with an id, opened on the notices' date, after all of them; judged is what
+ * scullpouch_judge_file said of the file. refusals gets a byte for each notice: 0 where it was accepted or is no call
+ * of this product, else its refusal; of a refused opening, after which no call is made, they say nothing.
+ * judged.refusal, 9, 11, of a weekly option 24, 16 */
+scullpouch_delivered scullpouch_deliver(scullpouch_file_calendar judged, const uint8_t *file, size_t length,
+                                        scullpouch_notices notices, const uint32_t *calls, size_t calls_length,
+                                        const uint8_t *ids, size_t ids_length, scullpouch_id id, uint8_t *refusals,
+                                        size_t room);
+
+/* The rows of a table, as `deliver` prints them, at the start of a buffer of SCULLPOUCH_TABLE_TEXT bytes: 10. Their
+ * heading */
+scullpouch_text scullpouch_rows(scullpouch_table table, uint8_t *buffer, size_t room);
+scullpouch_line scullpouch_rows_heading(void);
+
+/* Line i, 0 to notices.count, of a product's refused calls, `notices.txt:K: NO n ID`: 0 is that of the opening, alone,
+ * i that of notice i - 1; no bytes of one that was accepted. refusal: delivered.refusal */
+scullpouch_line scullpouch_refused_call(scullpouch_id id, scullpouch_notices notices, uint8_t refusal,
+                                        const uint32_t *calls, size_t calls_length, const uint8_t *refusals,
+                                        size_t refusals_length, uint32_t i);
+
+/* The line of notice i where it is a measure of an id that is not in the file (9); else no bytes. */
+scullpouch_line scullpouch_unknown_measure(const uint8_t *file, size_t length, const uint32_t *calls,
+                                           size_t calls_length, const uint8_t *ids, size_t ids_length, uint32_t i);
+
+/* Takes the next line of a text of rows, from state.next on; called until state.next is the text's length, or
+ * state.over. A good row goes to six lists; where one of them has not its length, the first good row is one too many. */
+scullpouch_receipt scullpouch_receive(scullpouch_receipt state, const uint8_t *file, size_t length, const uint8_t *text,
+                                      size_t text_length, uint8_t *ids, size_t ids_room, uint16_t *keys,
+                                      size_t keys_room, uint16_t *days, size_t days_room, uint8_t *fulls,
+                                      size_t fulls_room, uint16_t *numbers, size_t numbers_room, uint16_t *backs,
+                                      size_t backs_room);
+
+/* The lines of one product's differences, of the keys from one on, at the start of a buffer, as long as it has room
+ * for another of SCULLPOUCH_LINE bytes. product: that of a place; delivered: that of its id; rows: state.rows. places
+ * has room for a number for each row, which the call writes. 10 where the product's kind is no kind or its table is
+ * not sound. Their heading */
+scullpouch_found scullpouch_differences(scullpouch_product product, scullpouch_delivered delivered, uint32_t rows,
+                                        const uint8_t *ids, size_t ids_length, const uint16_t *keys, size_t keys_length,
+                                        const uint16_t *days, size_t days_length, const uint8_t *fulls,
+                                        size_t fulls_length, const uint16_t *numbers, size_t numbers_length,
+                                        const uint16_t *backs, size_t backs_length, uint16_t *places,
+                                        size_t places_room, uint32_t from, uint8_t *buffer, size_t room);
+scullpouch_line scullpouch_differences_heading(void);
+
+/* The line of row i where it is the first with its id and that is not in the file, `XXXX,,product,,`; else no bytes. */
+scullpouch_line scullpouch_unknown_product(const uint8_t *file, size_t length, const uint8_t *ids, size_t ids_length,
+                                           uint32_t i);
 
 /* ---- Refusals in words ---- */
 
@@ -447,6 +577,76 @@ static inline unsigned scullpouch_make_into(scullpouch_calendar *calendar, uint3
     return m.refusal;
 }
 
+/* ---- A delivery by pointers ---- */
+
+/* The notices of a text, 165 KB. */
+typedef struct {
+    scullpouch_notices said;
+    uint32_t calls[SCULLPOUCH_CALLS];
+    uint8_t ids[SCULLPOUCH_NOTICE_IDS];
+    uint8_t refusals[SCULLPOUCH_NOTICES];
+} scullpouch_notices_lists;
+
+/* The rows of a text, 984 KB. state is all zeros before the first line. */
+typedef struct {
+    scullpouch_receipt state;
+    uint8_t ids[SCULLPOUCH_ROW_IDS];
+    uint16_t keys[SCULLPOUCH_ROWS];
+    uint16_t days[SCULLPOUCH_ROWS];
+    uint8_t fulls[SCULLPOUCH_ROWS];
+    uint16_t numbers[SCULLPOUCH_ROWS];
+    uint16_t backs[SCULLPOUCH_ROWS];
+    uint16_t places[SCULLPOUCH_ROWS];
+} scullpouch_rows_lists;
+
+/* How many places a file of so many bytes has. */
+static inline size_t scullpouch_places(size_t length) {
+    return (size_t)SCULLPOUCH_PLACES * (length / SCULLPOUCH_BLOCK);
+}
+
+static inline unsigned scullpouch_product_at_into(scullpouch_product *product, const uint8_t *file, size_t length,
+                                                  size_t place) {
+    scullpouch_product_reply r = scullpouch_product_at(file, length, place);
+    if (r.refusal == 0) *product = r.product;
+    return r.refusal;
+}
+
+/* 0, or the number of the first bad line. */
+static inline uint32_t scullpouch_read_notices_into(scullpouch_notices_lists *lists, const uint8_t *text,
+                                                    size_t length) {
+    lists->said =
+        scullpouch_read_notices(text, length, lists->calls, SCULLPOUCH_CALLS, lists->ids, SCULLPOUCH_NOTICE_IDS);
+    return lists->said.bad;
+}
+
+/* Writes all of the answer. 10 where the notices have a bad line. */
+static inline unsigned scullpouch_deliver_into(scullpouch_delivered *delivered, const scullpouch_file_calendar *judged,
+                                               const uint8_t *file, size_t length, scullpouch_notices_lists *lists,
+                                               scullpouch_id id) {
+    *delivered = scullpouch_deliver(*judged, file, length, lists->said, lists->calls, SCULLPOUCH_CALLS, lists->ids,
+                                    SCULLPOUCH_NOTICE_IDS, id, lists->refusals, SCULLPOUCH_NOTICES);
+    return delivered->fits ? delivered->refusal : 10u;
+}
+
+/* Takes the next line: its number where it is bad, else 0. */
+static inline uint32_t scullpouch_receive_into(scullpouch_rows_lists *lists, const uint8_t *file, size_t length,
+                                               const uint8_t *text, size_t text_length) {
+    lists->state = scullpouch_receive(lists->state, file, length, text, text_length, lists->ids, SCULLPOUCH_ROW_IDS,
+                                      lists->keys, SCULLPOUCH_ROWS, lists->days, SCULLPOUCH_ROWS, lists->fulls,
+                                      SCULLPOUCH_ROWS, lists->numbers, SCULLPOUCH_ROWS, lists->backs, SCULLPOUCH_ROWS);
+    return lists->state.bad;
+}
+
+static inline scullpouch_found scullpouch_differences_into(scullpouch_rows_lists *lists,
+                                                           const scullpouch_product *product,
+                                                           const scullpouch_delivered *delivered, uint32_t from,
+                                                           uint8_t *buffer, size_t room) {
+    return scullpouch_differences(*product, *delivered, lists->state.rows, lists->ids, SCULLPOUCH_ROW_IDS, lists->keys,
+                                  SCULLPOUCH_ROWS, lists->days, SCULLPOUCH_ROWS, lists->fulls, SCULLPOUCH_ROWS,
+                                  lists->numbers, SCULLPOUCH_ROWS, lists->backs, SCULLPOUCH_ROWS, lists->places,
+                                  SCULLPOUCH_ROWS, from, buffer, room);
+}
+
 /* ---- The layout, which every language must share ---- */
 
 #if defined(__cplusplus) && __cplusplus >= 201103L
@@ -562,6 +762,39 @@ SCULLPOUCH_AT(changed, queue, 2);
 SCULLPOUCH_SIZE(made, 1478);
 SCULLPOUCH_AT(made, refusal, 0);
 SCULLPOUCH_AT(made, calendar, 2);
+SCULLPOUCH_SIZE(product_reply, 28);
+SCULLPOUCH_AT(product_reply, refusal, 0);
+SCULLPOUCH_AT(product_reply, product, 4);
+SCULLPOUCH_SIZE(notices, 16);
+SCULLPOUCH_AT(notices, fits, 0);
+SCULLPOUCH_AT(notices, date, 2);
+SCULLPOUCH_AT(notices, opened, 4);
+SCULLPOUCH_AT(notices, count, 8);
+SCULLPOUCH_AT(notices, bad, 12);
+SCULLPOUCH_SIZE(delivered, 1628);
+SCULLPOUCH_AT(delivered, fits, 0);
+SCULLPOUCH_AT(delivered, refusal, 1);
+SCULLPOUCH_AT(delivered, table, 4);
+SCULLPOUCH_SIZE(text, 16);
+SCULLPOUCH_AT(text, refusal, 0);
+SCULLPOUCH_AT(text, fits, 1);
+SCULLPOUCH_AT(text, length, 8);
+SCULLPOUCH_SIZE(line, 72);
+SCULLPOUCH_AT(line, bytes, 0);
+SCULLPOUCH_AT(line, length, 64);
+SCULLPOUCH_SIZE(receipt, 24);
+SCULLPOUCH_AT(receipt, next, 0);
+SCULLPOUCH_AT(receipt, rows, 8);
+SCULLPOUCH_AT(receipt, lines, 12);
+SCULLPOUCH_AT(receipt, bad, 16);
+SCULLPOUCH_AT(receipt, begun, 20);
+SCULLPOUCH_AT(receipt, over, 21);
+SCULLPOUCH_SIZE(found, 24);
+SCULLPOUCH_AT(found, refusal, 0);
+SCULLPOUCH_AT(found, fits, 1);
+SCULLPOUCH_AT(found, next, 4);
+SCULLPOUCH_AT(found, lines, 8);
+SCULLPOUCH_AT(found, length, 16);
 
 #undef SCULLPOUCH_AT
 #undef SCULLPOUCH_SIZE

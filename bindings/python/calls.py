@@ -13,7 +13,8 @@ import scullpouch  # noqa: E402
 LOOPS = 50
 SUM_MODULUS = 65521
 PRODUCT = ('id', 'group', 'market', 'kind', 'currency', 'size', 'tick')
-TEXTS = ('file', 'open', 'open_in', 'set', 'write')  # the commands whose first word is a text
+# The commands whose first word is a text.
+TEXTS = ('file', 'open', 'open_in', 'set', 'write', 'notices', 'deliver', 'differences')
 ZERO_TABLE = scullpouch.Table.from_bytes(bytes(1624))
 
 
@@ -35,6 +36,11 @@ def asked(call, *arguments, refused=None):
         return no.number, refused
 
 
+# A text by its length and its sum.
+def text_words(text):
+    return len(text), sum_of(text.encode('ascii'))
+
+
 def calendar_words(calendar):
     return calendar.first_year, calendar.years, sum_of(calendar.closed), sum_of(calendar.exchange)
 
@@ -51,7 +57,7 @@ class Calls:
 
     def __init__(self):
         self.bytes = b''
-        self.master = None
+        self.master = self.said = None
         self.held = self.kept = ZERO_TABLE
         self.days = ZERO_TABLE.calendar
         self.load_state = None
@@ -194,6 +200,39 @@ class Calls:
 
     def calendar(self):
         self.days = self.held.calendar
+
+    # ---- A delivery ----
+
+    def product(self, place):
+        refusal, p = asked(scullpouch.product_at, self.bytes, place)
+        if refusal:
+            return refusal, bytes(15).hex(), 0, 0, 0
+        codes = [p.id.ljust(4), p.group.ljust(4), p.market.ljust(4), p.currency.ljust(3)]
+        return refusal, ''.join(codes).encode('latin-1').hex(), p.kind, p.size, p.tick
+
+    def notices(self, name):
+        try:
+            self.said = scullpouch.Notices(read(name))
+        except scullpouch.BadLine as bad:
+            return bad.number, 0, 0, 0
+        return 0, self.said.date, self.said.opened, self.said.count
+
+    def deliver(self, code):
+        refusal, delivered = asked(self.said.table, self.master, code, refused=(self.held, []))
+        self.held, refused = delivered
+        return (refusal, len(refused), *(number for one in refused for number in one))
+
+    def rows(self):
+        refusal, text = asked(self.held.rows, refused='')
+        return (refusal, *text_words(text))
+
+    def delivery(self):
+        assert len(self.master.products) == scullpouch.load(self.bytes).records
+        return (*text_words(self.said.rows(self.master)), *text_words(self.said.refused(self.master)))
+
+    def differences(self, name):
+        found = self.said.differences(self.master, read(name))
+        return (found.rows, found.differ, int(found.over), *text_words(found.text), *found.bad)
 
     # ---- The round ----
 

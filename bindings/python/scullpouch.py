@@ -27,6 +27,14 @@ MAP = 736
 YEAR_MAP = 46
 TABLES = 200
 WEEKLY = 5  # the kind whose keys are days
+BLOCK = 512
+NOTICES = 6554  # the most notices of a text
+CALLS = 5 * NOTICES
+NOTICE_IDS = 4 * NOTICES
+ROWS = 65536  # the most rows that are read
+ROW_IDS = 4 * ROWS
+TABLE_TEXT = 1024  # room for the rows of any table
+KEYS = 65536  # after the last key
 
 QUESTIONS = {
     1: 'Is the length a multiple of 512, from 1,024 to 65,536?',
@@ -74,6 +82,17 @@ class Refused(Exception):
 
     def __str__(self):
         return f'refusal {self.number}: {self.question}'
+
+
+class BadLine(Exception):
+    """The number, from 1, of the first line of a text of notices that is none."""
+
+    def __init__(self, number):
+        super().__init__(number)
+        self.number = number
+
+    def __str__(self):
+        return f'notices.txt:{self.number}: BAD'
 
 
 # ---- The structs, as bindings/include/scullpouch.h has them ----
@@ -185,6 +204,35 @@ class _Made(ctypes.Structure):
     _fields_ = [('refusal', c_uint8), ('calendar', _Calendar)]
 
 
+class _ProductReply(ctypes.Structure):
+    _fields_ = [('refusal', c_uint8), ('product', _Product)]
+
+
+class _Notices(ctypes.Structure):
+    _fields_ = [('fits', c_bool), ('date', c_uint16), ('opened', c_uint32), ('count', c_uint32), ('bad', c_uint32)]
+
+
+class _Delivered(ctypes.Structure):
+    _fields_ = [('fits', c_bool), ('refusal', c_uint8), ('table', _Table)]
+
+
+class _Text(ctypes.Structure):
+    _fields_ = [('refusal', c_uint8), ('fits', c_bool), ('length', c_size_t)]
+
+
+class _Line(ctypes.Structure):
+    _fields_ = [('bytes', c_uint8 * 64), ('length', c_size_t)]
+
+
+class _Receipt(ctypes.Structure):
+    _fields_ = [('next', c_size_t), ('rows', c_uint32), ('lines', c_uint32), ('bad', c_uint32), ('begun', c_bool),
+                ('over', c_bool)]
+
+
+class _Found(ctypes.Structure):
+    _fields_ = [('refusal', c_uint8), ('fits', c_bool), ('next', c_uint32), ('lines', c_uint32), ('length', c_size_t)]
+
+
 # The layout, which every language must share: the size, and where each field stands.
 _LAYOUT = {
     _Id: (4, dict(bytes=0)),
@@ -213,9 +261,20 @@ _LAYOUT = {
     _Handled: (806, dict(refusal=0, taken=2, queue=404)),
     _Changed: (404, dict(refusal=0, queue=2)),
     _Made: (1478, dict(refusal=0, calendar=2)),
+    _ProductReply: (28, dict(refusal=0, product=4)),
+    _Notices: (16, dict(fits=0, date=2, opened=4, count=8, bad=12)),
+    _Delivered: (1628, dict(fits=0, refusal=1, table=4)),
+    _Text: (16, dict(refusal=0, fits=1, length=8)),
+    _Line: (72, dict(bytes=0, length=64)),
+    _Receipt: (24, dict(next=0, rows=8, lines=12, bad=16, begun=20, over=21)),
+    _Found: (24, dict(refusal=0, fits=1, next=4, lines=8, length=16)),
 }
 
 _BYTES = (ctypes.c_char_p, c_size_t)
+_BYTE_LIST = (ctypes.POINTER(c_uint8), c_size_t)
+_SHORT_LIST = (ctypes.POINTER(c_uint16), c_size_t)
+_CALL_LIST = (ctypes.POINTER(c_uint32), c_size_t)
+_ROW_LISTS = (*_BYTE_LIST, *_SHORT_LIST, *_SHORT_LIST, *_BYTE_LIST, *_SHORT_LIST, *_SHORT_LIST)
 _SIGNATURES = {
     'interface': (c_uint32,),
     'day': (_DayReply, c_uint16, c_uint16, c_uint16),
@@ -243,6 +302,17 @@ _SIGNATURES = {
     'join': (_Changed, _Round, c_uint16),
     'leave': (_Changed, _Round, c_uint16),
     'make': (_Made, c_uint32, _Cover),
+    'product_at': (_ProductReply, *_BYTES, c_size_t),
+    'read_notices': (_Notices, *_BYTES, *_CALL_LIST, *_BYTE_LIST),
+    'deliver': (_Delivered, _FileCalendar, *_BYTES, _Notices, *_CALL_LIST, *_BYTE_LIST, _Id, *_BYTE_LIST),
+    'rows': (_Text, _Table, *_BYTE_LIST),
+    'rows_heading': (_Line,),
+    'refused_call': (_Line, _Id, _Notices, c_uint8, *_CALL_LIST, *_BYTE_LIST, c_uint32),
+    'unknown_measure': (_Line, *_BYTES, *_CALL_LIST, *_BYTE_LIST, c_uint32),
+    'receive': (_Receipt, _Receipt, *_BYTES, *_BYTES, *_ROW_LISTS),
+    'differences': (_Found, _Product, _Delivered, c_uint32, *_ROW_LISTS, *_SHORT_LIST, c_uint32, *_BYTE_LIST),
+    'differences_heading': (_Line,),
+    'unknown_product': (_Line, *_BYTES, *_BYTE_LIST, c_uint32),
 }
 
 
@@ -349,11 +419,13 @@ class Product(namedtuple('Product', 'id group market kind currency size tick')):
     """A product. kind: 0 a future, 1, 2, 3 an option of 12, 24, 60 months, 4 a future of 2005, 5 a weekly option;
     size in 1/10,000 of a share, tick in 1/10,000 of the currency."""
 
+    def _held(self):
+        return _Product(_code(self.id), _code(self.group), _code(self.market), _fit(self.kind, 8),
+                        _code(self.currency, 3), _fit(self.size, 32), _fit(self.tick))
+
     def record(self):
         """Its 32 bytes in a master file, whatever its fields are; write judges them."""
-        held = _Product(_code(self.id), _code(self.group), _code(self.market), _fit(self.kind, 8),
-                        _code(self.currency, 3), _fit(self.size, 32), _fit(self.tick))
-        return bytes(_call['record'](held).bytes)
+        return bytes(_call['record'](self._held()).bytes)
 
 
 class Calendar(namedtuple('Calendar', 'first_year years closed exchange')):
@@ -387,7 +459,18 @@ def date(day):
     return reply.year, reply.month, reply.day
 
 
+def _product_of(held):
+    return Product(_text(held.id), _text(held.group), _text(held.market), held.kind, _text(held.currency), held.size,
+                   held.tick)
+
+
 # ---- Files ----
+
+def product_at(file, place):
+    """The product at a place of a master file: place p is record p % 15 of block p // 15, and one that holds no record
+    gets 9. Master.products has all of them."""
+    return _product_of(_judged(_call['product_at'](*_lent(file), _fit(place, 64))).product)
+
 
 def load(file):
     """Judges a master file, bytes: the counts of years and of records."""
@@ -457,6 +540,16 @@ class Master:
         """The file's calendar."""
         return _calendar_of(self._said.calendar)
 
+    # The products as the calls have them.
+    def _products(self):
+        replies = (_call['product_at'](*self._lent, place) for place in range(PLACES * (self._lent[1] // BLOCK)))
+        return [reply.product for reply in replies if reply.refusal == 0]
+
+    @property
+    def products(self):
+        """The file's products, in its order."""
+        return [_product_of(product) for product in self._products()]
+
     def open(self, id, date):  # noqa: A002
         """The table of a product of the file on a date: what open answers."""
         return Table(_judged(_call['open_in'](self._said, *self._lent, _id(id), _fit(date))))
@@ -523,11 +616,14 @@ class Table:
         reply = _judged(_call['judge'](self._held, (c_uint16 * len(numbers))(*numbers), len(numbers)))
         return Verdict(reply.same, None if reply.same else reply.key)
 
+    def rows(self):
+        """Its rows, as deliver prints them."""
+        buffer = (c_uint8 * TABLE_TEXT)()
+        return _said(buffer, _judged(_call['rows'](self._held, buffer, TABLE_TEXT)).length)
+
     @property
     def product(self):
-        held = self._held.product
-        return Product(_text(held.id), _text(held.group), _text(held.market), held.kind, _text(held.currency),
-                       held.size, held.tick)
+        return _product_of(self._held.product)
 
     @property
     def calendar(self):
@@ -565,6 +661,130 @@ class Table:
         return isinstance(other, Table) and bytes(self) == bytes(other)
 
     __hash__ = None
+
+
+# ---- A delivery ----
+
+Delivered = namedtuple('Delivered', 'table refused')
+
+
+class Differences(namedtuple('Differences', 'text differ rows bad over')):
+    """What differs from rows that came from elsewhere. text: the heading and the lines under it, as reconcile prints
+    them, '' where there was a row too many; differ: how many lines stand under the heading; rows: how many good rows
+    there were; bad: the numbers of the bad lines; over: whether there was a good row too many."""
+
+    __slots__ = ()
+
+
+# The text of a line, or of a part of a buffer.
+def _said(held, length):
+    return bytes(held[:length]).decode('ascii')
+
+
+def _line(line):
+    return _said(line.bytes, line.length)
+
+
+class _Rows:
+    """Good rows in six lists, and a seventh for the places of a product's."""
+
+    def __init__(self, master, text):
+        self.state, self.bad = _Receipt(), []
+        lists = ((c_uint8, ROW_IDS), (c_uint16, ROWS), (c_uint16, ROWS), (c_uint8, ROWS), (c_uint16, ROWS),
+                 (c_uint16, ROWS))
+        self.lists = [part for kind, room in lists for part in ((kind * room)(), room)]
+        self.places = (c_uint16 * ROWS)()
+        lent = _lent(text)
+        while self.state.next < lent[1] and not self.state.over:
+            self.state = _call['receive'](self.state, *master._lent, *lent, *self.lists)
+            if self.state.bad:
+                self.bad.append(self.state.bad)
+
+    # The lines of a product's differences.
+    def differences(self, product, delivered):
+        buffer, key, lines, count = (c_uint8 * TABLE_TEXT)(), 0, [], 0
+        while key < KEYS:
+            found = _call['differences'](product, delivered, self.state.rows, *self.lists, self.places, ROWS, key,
+                                         buffer, TABLE_TEXT)
+            lines.append(_said(buffer, found.length))
+            key, count = found.next, count + found.lines
+        return ''.join(lines), count
+
+    # Those of the ids that are not in the file.
+    def unknown(self, master):
+        lines = [_line(_call['unknown_product'](*master._lent, *self.lists[:2], i)) for i in range(self.state.rows)]
+        return ''.join(lines), sum(map(bool, lines))
+
+
+class Notices:
+    """A text of notices, bytes, that was read once, for many tables. One with a bad line raises BadLine."""
+
+    def __init__(self, text):
+        self._lists = (c_uint32 * CALLS)(), CALLS, (c_uint8 * NOTICE_IDS)(), NOTICE_IDS
+        self._said = _call['read_notices'](*_lent(text), *self._lists)
+        if self._said.bad:
+            raise BadLine(self._said.bad)
+
+    @property
+    def date(self):
+        """The day of the opening."""
+        return self._said.date
+
+    @property
+    def opened(self):
+        """The number of the line of the opening."""
+        return self._said.opened
+
+    @property
+    def count(self):
+        """How many notices there are after the opening."""
+        return self._said.count
+
+    # The table of the product with an id, and the number of each notice's refusal.
+    def _deliver(self, master, id):  # noqa: A002
+        refusals = (c_uint8 * NOTICES)()
+        delivered = _call['deliver'](master._said, *master._lent, self._said, *self._lists, id, refusals, NOTICES)
+        return delivered, refusals
+
+    def table(self, master, id):  # noqa: A002
+        """The table of a product of the file after the notices, and what was refused: the number of the line and of the
+        refusal of each such call. A product whose opening is refused has none."""
+        delivered, refusals = self._deliver(master, _id(id))
+        held = Table.from_bytes(bytes(_judged(delivered).table))
+        numbers = enumerate(refusals[:self._said.count])
+        return Delivered(held, [(self._lists[0][5 * i], number) for i, number in numbers if number])
+
+    def rows(self, master):
+        """The rows of all products of the file, under their heading, as deliver prints them."""
+        buffer, lines = (c_uint8 * TABLE_TEXT)(), [_line(_call['rows_heading']())]
+        for product in master._products():
+            delivered, _ = self._deliver(master, _Id(product.id))
+            written = _call['rows'](delivered.table, buffer, TABLE_TEXT)
+            lines.append(_said(buffer, written.length))
+        return ''.join(lines)
+
+    def refused(self, master):
+        """What was refused, a line for each call, as deliver tells it."""
+        lines = []
+        for product in master._products():
+            id = _Id(product.id)  # noqa: A001
+            delivered, refusals = self._deliver(master, id)
+            lines += [_call['refused_call'](id, self._said, delivered.refusal, *self._lists[:2], refusals, NOTICES, i)
+                      for i in range(self._said.count + 1)]
+        lines += [_call['unknown_measure'](*master._lent, *self._lists, i) for i in range(self._said.count)]
+        return ''.join(map(_line, lines))
+
+    def differences(self, master, text):
+        """What differs between the tables after the notices and rows that came from elsewhere, bytes in the form that
+        reconcile reads."""
+        rows = _Rows(master, text)
+        if rows.state.over:
+            return Differences('', 0, rows.state.rows, rows.bad, True)
+        found = [rows.differences(product, self._deliver(master, _Id(product.id))[0]) for product in master._products()]
+        found.append(rows.unknown(master))
+        heading = _line(_call['differences_heading']())
+        return Differences(heading + ''.join(lines for lines, _ in found), sum(count for _, count in found),
+                           rows.state.rows, rows.bad, False)
 
 
 # ---- The morning round ----

@@ -1,7 +1,8 @@
 //! A line of input for each call of the crate, a line of output for each answer (bindings/README.md).
 
 use scullpouch::{
-    load, Calendar, Counts, Cover, Day, Intake, Master, Maturity, Moved, Product, Queue, Refusal, Table, Verdict,
+    load, product_at, Calendar, Counts, Cover, Day, Intake, Master, Maturity, Moved, Notices, Product, Queue, Refusal,
+    Table, Verdict,
 };
 use std::fmt::Display;
 use std::io::{self, BufRead, Write};
@@ -14,6 +15,7 @@ const SUM_MODULUS: u64 = 65521;
 struct Held {
     file: Vec<u8>,
     master: Option<Master<'static>>,
+    notices: Option<Notices>,
     table: Table,
     kept: Table,
     calendar: Calendar,
@@ -116,7 +118,16 @@ impl Held {
         let calendar = Calendar { cover, closed: [0; 736], exchange: [0; 736] };
         let unused = Maturity { key: 0, day: Day(0), back: 0, number: 0 };
         let table = Table { product, calendar: calendar.clone(), date: Day(0), given: 0, maturities: [unused; 15] };
-        Held { file: Vec::new(), master: None, kept: table.clone(), table, calendar, state: None, queue: Queue::new() }
+        Held {
+            file: Vec::new(),
+            master: None,
+            notices: None,
+            kept: table.clone(),
+            table,
+            calendar,
+            state: None,
+            queue: Queue::new(),
+        }
     }
 
     fn open(&mut self, id: &str, date: Day) -> Result<Moved, Refusal> {
@@ -135,6 +146,60 @@ impl Held {
         let (table, moved) = self.master.as_ref().unwrap().open(id, date)?;
         self.table = table;
         Ok(moved)
+    }
+
+    // A text by its length and its sum.
+    fn text_words(text: &str) -> String {
+        line(&[&text.len(), &sum_of(text.as_bytes())])
+    }
+
+    fn product(&self, place: usize) -> String {
+        let answer = product_at(&self.file, place);
+        let refusal = refusal_of(&answer);
+        let none = Product { id: [0; 4], group: [0; 4], market: [0; 4], kind: 0, currency: [0; 3], size: 0, tick: 0 };
+        let p = answer.unwrap_or(none);
+        let codes = hex(&p.id) + &hex(&p.group) + &hex(&p.market) + &hex(&p.currency);
+        line(&[&refusal, &codes, &p.kind, &p.size, &p.tick])
+    }
+
+    fn notices(&mut self, name: &str) -> String {
+        match Notices::read(&std::fs::read(name).unwrap()) {
+            Err(bad) => line(&[&bad.0, &0, &0, &0]),
+            Ok(read) => {
+                let words = line(&[&0, &read.date().0, &read.opened(), &read.count()]);
+                self.notices = Some(read);
+                words
+            }
+        }
+    }
+
+    fn deliver(&mut self, id: &str) -> String {
+        match self.notices.as_ref().unwrap().table(self.master.as_ref().unwrap(), id) {
+            Err(refusal) => line(&[&refusal.number(), &0]),
+            Ok(delivered) => {
+                self.table = delivered.table;
+                let refused: String = delivered.refused.iter().map(|(at, number)| format!(" {at} {number}")).collect();
+                format!("0 {}{refused}", delivered.refused.len())
+            }
+        }
+    }
+
+    fn rows(&self) -> String {
+        let answer = self.table.rows();
+        line(&[&refusal_of(&answer), &Held::text_words(&answer.unwrap_or_default())])
+    }
+
+    fn delivery(&self) -> String {
+        let (notices, master) = (self.notices.as_ref().unwrap(), self.master.as_ref().unwrap());
+        assert_eq!(master.products().len(), usize::from(load(master.file()).unwrap().records));
+        line(&[&Held::text_words(&notices.rows(master)), &Held::text_words(&notices.refused(master))])
+    }
+
+    fn differences(&self, name: &str) -> String {
+        let text = std::fs::read(name).unwrap();
+        let d = self.notices.as_ref().unwrap().differences(self.master.as_ref().unwrap(), &text);
+        let bad: String = d.bad.iter().map(|at| format!(" {at}")).collect();
+        format!("{} {} {} {}{bad}", d.rows, d.differ, u8::from(d.over), Held::text_words(&d.text))
     }
 
     fn announce(&mut self, blocks: u16) -> Result<(), Refusal> {
@@ -302,6 +367,12 @@ impl Held {
             }
             "write" => self.write(w.text(), w.number(1) as usize),
             "marked" => u8::from(self.calendar.marked_after_cover()).to_string(),
+            "product" => self.product(w.number(0) as usize),
+            "notices" => self.notices(w.text()),
+            "deliver" => self.deliver(w.text()),
+            "rows" => self.rows(),
+            "delivery" => self.delivery(),
+            "differences" => self.differences(w.text()),
             "round" => queue_text(&self.queue),
             "handle" => self.handle(w.short(0)),
             "join" => line(&[&refusal_of(&self.queue.join(w.short(0)))]),

@@ -113,6 +113,63 @@ pub struct Made {
     pub calendar: Calendar,
 }
 
+#[repr(C)]
+pub struct ProductReply {
+    pub refusal: u8,
+    pub product: Product,
+}
+
+#[derive(Clone, Copy, Debug)]
+#[repr(C)]
+pub struct SaidNotices {
+    pub fits: bool,
+    pub date: u16,
+    pub opened: u32,
+    pub count: u32,
+    pub bad: u32,
+}
+
+#[derive(Clone, Debug)]
+#[repr(C)]
+pub struct FlatDelivered {
+    pub fits: bool,
+    pub refusal: u8,
+    pub table: Table,
+}
+
+#[repr(C)]
+pub struct Text {
+    pub refusal: u8,
+    pub fits: bool,
+    pub length: usize,
+}
+
+#[repr(C)]
+pub struct Line {
+    pub bytes: [u8; 64],
+    pub length: usize,
+}
+
+#[derive(Clone, Copy, Debug)]
+#[repr(C)]
+pub struct Receipt {
+    pub next: usize,
+    pub rows: u32,
+    pub lines: u32,
+    pub bad: u32,
+    pub begun: bool,
+    pub over: bool,
+}
+
+#[repr(C)]
+pub struct Found {
+    pub refusal: u8,
+    pub fits: bool,
+    pub next: u32,
+    pub lines: u32,
+    pub length: usize,
+}
+
 extern "C" {
     pub fn scullpouch_interface() -> u32;
     pub fn scullpouch_day(year: u16, month: u16, day: u16) -> DayReply;
@@ -146,4 +203,96 @@ extern "C" {
     pub fn scullpouch_join(queue: Queue, table: u16) -> Changed;
     pub fn scullpouch_leave(queue: Queue, table: u16) -> Changed;
     pub fn scullpouch_make(seed: u32, cover: Cover) -> Made;
+    pub fn scullpouch_product_at(file: *const u8, length: usize, place: usize) -> ProductReply;
+    pub fn scullpouch_read_notices(
+        text: *const u8,
+        length: usize,
+        calls: *mut u32,
+        calls_room: usize,
+        ids: *mut u8,
+        ids_room: usize,
+    ) -> SaidNotices;
+    pub fn scullpouch_deliver(
+        judged: FileCalendar,
+        file: *const u8,
+        length: usize,
+        notices: SaidNotices,
+        calls: *const u32,
+        calls_length: usize,
+        ids: *const u8,
+        ids_length: usize,
+        id: Id,
+        refusals: *mut u8,
+        room: usize,
+    ) -> FlatDelivered;
+    pub fn scullpouch_rows(table: Table, buffer: *mut u8, room: usize) -> Text;
+    pub fn scullpouch_rows_heading() -> Line;
+    pub fn scullpouch_refused_call(
+        id: Id,
+        notices: SaidNotices,
+        refusal: u8,
+        calls: *const u32,
+        calls_length: usize,
+        refusals: *const u8,
+        refusals_length: usize,
+        i: u32,
+    ) -> Line;
+    pub fn scullpouch_unknown_measure(
+        file: *const u8,
+        length: usize,
+        calls: *const u32,
+        calls_length: usize,
+        ids: *const u8,
+        ids_length: usize,
+        i: u32,
+    ) -> Line;
+    pub fn scullpouch_receive(
+        state: Receipt,
+        file: *const u8,
+        length: usize,
+        text: *const u8,
+        text_length: usize,
+        ids: *mut u8,
+        ids_room: usize,
+        keys: *mut u16,
+        keys_room: usize,
+        days: *mut u16,
+        days_room: usize,
+        fulls: *mut u8,
+        fulls_room: usize,
+        numbers: *mut u16,
+        numbers_room: usize,
+        backs: *mut u16,
+        backs_room: usize,
+    ) -> Receipt;
+    pub fn scullpouch_differences(
+        product: Product,
+        delivered: FlatDelivered,
+        rows: u32,
+        ids: *const u8,
+        ids_length: usize,
+        keys: *const u16,
+        keys_length: usize,
+        days: *const u16,
+        days_length: usize,
+        fulls: *const u8,
+        fulls_length: usize,
+        numbers: *const u16,
+        numbers_length: usize,
+        backs: *const u16,
+        backs_length: usize,
+        places: *mut u16,
+        places_room: usize,
+        from: u32,
+        buffer: *mut u8,
+        room: usize,
+    ) -> Found;
+    pub fn scullpouch_differences_heading() -> Line;
+    pub fn scullpouch_unknown_product(
+        file: *const u8,
+        length: usize,
+        ids: *const u8,
+        ids_length: usize,
+        i: u32,
+    ) -> Line;
 }

@@ -6,9 +6,11 @@
 //! refuses one that is not sound (10).
 
 mod calls;
+mod delivery;
 mod layout;
 mod refusals;
 
+pub use delivery::{BadLine, Delivered, Differences, Notices};
 use refusals::judged;
 pub use refusals::Refusal;
 use std::fmt;
@@ -154,6 +156,13 @@ pub fn load(file: &[u8]) -> Result<Counts, Refusal> {
     judged(r.refusal, r.counts)
 }
 
+/// The product at a place of a master file: place p is record p % 15 of block p / 15, and a place that
+/// holds no record gets 9. [`Master::products`] has all of them.
+pub fn product_at(file: &[u8], place: usize) -> Result<Product, Refusal> {
+    let r = unsafe { calls::scullpouch_product_at(file.as_ptr(), file.len(), place) };
+    judged(r.refusal, r.product)
+}
+
 impl Product {
     /// Its bytes in a master file, whatever its fields are; `Calendar::write` judges them.
     pub fn record(&self) -> [u8; RECORD] {
@@ -255,6 +264,16 @@ impl<'a> Master<'a> {
     /// The file's calendar.
     pub fn calendar(&self) -> &Calendar {
         &self.judged.calendar
+    }
+
+    /// The file.
+    pub fn file(&self) -> &'a [u8] {
+        self.file
+    }
+
+    /// The products of the file, in its order.
+    pub fn products(&self) -> Vec<Product> {
+        (0..15 * (self.file.len() / BLOCK)).filter_map(|place| product_at(self.file, place).ok()).collect()
     }
 
     /// The table of a product of the file on a date: what `Table::open` answers.

@@ -10,6 +10,13 @@ use flat::FlatRecord;
 use flat::FlatTable;
 use flat::Id;
 use flat::VerdictReply;
+use flat_delivery::FlatDelivered;
+use flat_delivery::Notices;
+use flat_delivery::ProductReply;
+use flat_delivery::TextLine;
+use flat_delivery::TextReply;
+use flat_differences::FlatReceipt;
+use flat_differences::FoundLines;
 use generated::Made;
 use intake::Finished;
 use intake::Intake;
@@ -24,6 +31,7 @@ use values::LastDayReply;
 use writing::WrittenFile;
 use years::FileCalendar;
 ghost use mathlib.Core.Path.{_≡_};
+ghost use mathlib.Core.Bool.{cond};
 ghost use mathlib.Core.List.{[]};
 ghost use lib.ListN.{length};
 ghost use Rattle.days.specs.Dates.{dayCall, dateCall};
@@ -38,6 +46,15 @@ ghost use Rattle.rounds.specs.Rounds.{queueOf, handleCall, joinCall, leaveCall}
 ghost use Rattle.generated.specs.Generated.{madeAnswer, madeCall};
 ghost use Rattle.measures.specs.Measures.{measureCall};
 ghost use Rattle.vendor.specs.Vendor.{vendorCall};
+ghost use Rattle.lines.specs.Lines.{emptyLine, fed};
+ghost use Rattle.delivery_products.specs.Products.{placeCall};
+ghost use Rattle.delivery_notices.specs.Lists.{noticesTo};
+ghost use Rattle.delivery_rows.specs.Delivery.{headingText};
+ghost use Rattle.delivery_refusals.specs.Refusals.{refusalLine, unknownLine};
+ghost use Rattle.delivery_receipts.specs.Receiving.{idIn, receivedTo, firstUnknown};
+ghost use Rattle.delivery_reports.specs.Reports.{unknownText, differencesHeading};
+ghost use Rattle.flat_differences.specs.Found.{ReceivedIn, DifferencesIn};
+ghost use Rattle.flat_delivery.specs.Delivered.{productReply, NoticesIn, DeliveredIn, RowsWritten, textLine};
 ghost use Rattle.flat.specs.Flat.{unflatTable, flatOutcome, outcomeOn, measuredOn, dateReply, verdictReply, recordFlat};
 
 // The number of this interface: it changes when a struct, a function or the meaning of an answer does.
@@ -267,4 +284,148 @@ pub extern "C" fn scullpouch_make(seed: u32, cover: Cover) -> Made
     ensures { λ r. ⌜ madeAnswer r ≡ madeCall seed cover ⌝ }
 {
     generated::make(seed, cover)
+}
+
+// The product at a place of a master file: questions 1 to 8, and 9 of the place.
+#[no_mangle]
+pub extern "C" fn scullpouch_product_at(file: &[u8], place: usize) -> ProductReply
+    ensures { λ r. ⌜ r ≡ productReply (placeCall (now (file .entry)) place) ⌝ }
+{
+    flat_delivery::product_at(file, place)
+}
+
+// Reads a text of notices into two lent lists.
+#[no_mangle]
+pub extern "C" fn scullpouch_read_notices(text: &[u8], calls: &mut [u32], ids: &mut [u8]) -> Notices
+    ensures { λ r. ⌜ NoticesIn (now (text .entry)) (now (calls .entry)) (now (calls .exit)) (now (ids .entry)) (now (ids .exit)) r ⌝ }
+{
+    flat_delivery::read_notices(text, calls, ids)
+}
+
+// The table of a product after the notices, by what was said of the file, and the number of each notice's refusal.
+#[no_mangle]
+pub extern "C" fn scullpouch_deliver(
+    judged: FileCalendar,
+    file: &[u8],
+    notices: Notices,
+    calls: &[u32],
+    ids: &[u8],
+    id: Id,
+    refusals: &mut [u8],
+) -> FlatDelivered
+    ensures { λ r. ⌜ DeliveredIn (openIn (calendarAnswer judged) (now (file .entry))) (id .bytes) notices (noticesTo (now (calls .entry)) (now (ids .entry)) (notices .count)) (now (refusals .entry)) (now (refusals .exit)) r ⌝ }
+{
+    flat_delivery::deliver(file, judged, notices, calls, ids, id, refusals)
+}
+
+// The rows of a table.
+#[no_mangle]
+pub extern "C" fn scullpouch_rows(t: FlatTable, buffer: &mut [u8]) -> TextReply
+    ensures { λ r. ⌜ RowsWritten (unflatTable t) (now (buffer .entry)) (now (buffer .exit)) r ⌝ }
+{
+    flat_delivery::rows(t, buffer)
+}
+
+// The heading of the rows.
+#[no_mangle]
+pub extern "C" fn scullpouch_rows_heading() -> TextLine
+    ensures { λ r. ⌜ r ≡ textLine (fed emptyLine headingText) ⌝ }
+{
+    flat_delivery::rows_heading()
+}
+
+// Line i of a product's refused calls: 0 is that of the opening, and i that of notice i - 1.
+#[no_mangle]
+pub extern "C" fn scullpouch_refused_call(
+    id: Id,
+    notices: Notices,
+    refusal: u8,
+    calls: &[u32],
+    refusals: &[u8],
+    i: u32,
+) -> TextLine
+    ensures { λ r. ⌜ r ≡ textLine (fed emptyLine (refusalLine (id .bytes) (notices .opened) refusal (now (calls .entry)) (now (refusals .entry)) i)) ⌝ }
+{
+    flat_delivery::refused_call(id, notices, refusal, calls, refusals, i)
+}
+
+// Line i of the measures of ids that the file has not.
+#[no_mangle]
+pub extern "C" fn scullpouch_unknown_measure(
+    file: &[u8],
+    calls: &[u32],
+    ids: &[u8],
+    i: u32,
+) -> TextLine
+    ensures { λ r. ⌜ r ≡ textLine (fed emptyLine (unknownLine (now (file .entry)) (now (calls .entry)) (now (ids .entry)) i)) ⌝ }
+{
+    flat_delivery::unknown_measure(file, calls, ids, i)
+}
+
+// Takes the next line of a text of rows into six lent lists.
+#[no_mangle]
+pub extern "C" fn scullpouch_receive(
+    state: FlatReceipt,
+    file: &[u8],
+    text: &[u8],
+    ids: &mut [u8],
+    keys: &mut [u16],
+    days: &mut [u16],
+    fulls: &mut [u8],
+    numbers: &mut [u16],
+    backs: &mut [u16],
+) -> FlatReceipt
+    ensures { λ r. ⌜ ReceivedIn (now (file .entry)) state (now (text .entry)) (record { ids = now (ids .entry); keys = now (keys .entry); days = now (days .entry); fulls = now (fulls .entry); numbers = now (numbers .entry); backs = now (backs .entry) }) (record { ids = now (ids .exit); keys = now (keys .exit); days = now (days .exit); fulls = now (fulls .exit); numbers = now (numbers .exit); backs = now (backs .exit) }) r ⌝ }
+{
+    flat_differences::receive(file, state, text, ids, keys, days, fulls, numbers, backs)
+}
+
+// The lines of one product's differences, from a key on.
+#[no_mangle]
+pub extern "C" fn scullpouch_differences(
+    product: FlatProduct,
+    delivered: FlatDelivered,
+    rows: u32,
+    ids: &[u8],
+    keys: &[u16],
+    days: &[u16],
+    fulls: &[u8],
+    numbers: &[u16],
+    backs: &[u16],
+    places: &mut [u16],
+    from: u32,
+    buffer: &mut [u8],
+) -> FoundLines
+    ensures { λ r. ⌜ DifferencesIn product delivered (receivedTo (record { ids = now (ids .entry); keys = now (keys .entry); days = now (days .entry); fulls = now (fulls .entry); numbers = now (numbers .entry); backs = now (backs .entry) }) rows) rows from (now (places .entry)) (now (places .exit)) (now (buffer .entry)) (now (buffer .exit)) r ⌝ }
+{
+    flat_differences::differences(
+        product,
+        delivered,
+        rows,
+        ids,
+        keys,
+        days,
+        fulls,
+        numbers,
+        backs,
+        places,
+        from,
+        buffer,
+    )
+}
+
+// The heading of the differences.
+#[no_mangle]
+pub extern "C" fn scullpouch_differences_heading() -> TextLine
+    ensures { λ r. ⌜ r ≡ textLine (fed emptyLine differencesHeading) ⌝ }
+{
+    flat_differences::differences_heading()
+}
+
+// The line of row i where it is the first with its id, and the file has no such id.
+#[no_mangle]
+pub extern "C" fn scullpouch_unknown_product(file: &[u8], ids: &[u8], i: u32) -> TextLine
+    ensures { λ r. ⌜ r ≡ textLine (fed emptyLine (cond (firstUnknown (now (file .entry)) (now (ids .entry)) i) (unknownText (idIn (now (ids .entry)) i)) [])) ⌝ }
+{
+    flat_differences::unknown_product(file, ids, i)
 }
