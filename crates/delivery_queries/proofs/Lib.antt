@@ -1,4 +1,5 @@
 pub mod Long
 pub mod Answering
 pub mod Standings
+pub mod Notices
 pub mod Tables

@@ -23,7 +23,7 @@ use Rattle.delivery_queries.specs.Queries.{standingOf, linesText, queryText}
 use Rattle.lines.specs.Lines.{linesFrom}
 use Rattle.delivery_sessions.specs.declared.Progress.{Progress}
 use Rattle.delivery_sessions.specs.Parts.{restText, Answers, LastAnswer}
-use Rattle.delivery_sessions.specs.Runs.{Handed, Run, ended, goes-on, Ran}
+use Rattle.delivery_sessions.specs.Runs.{Handed, Run, ended, goes-on, Ran, Came, RanOn}
 use Rattle.delivery_sessions.proofs.Feeding.{whole-input}
 
 -- counted twice
@@ -77,14 +77,6 @@ unfolding unmarked
 unmarked-more p rest h = sym (ap (λ (n : ℕ). drop n (p ++ rest)) (mark-same p rest h) ∙ drop-append-le (markLength p) p rest (mark-most p h))
 
 -- ---- from part to part
-
--- on the way: whatever a run from here writes, it is the rest of a run from the first line on
-pub record Came (of : List ℕ → Standing) (k : ℕ) (l : LongLine) (n : ℕ) : Type 0 where
-  pub input : List ℕ
-  pub parts : List (List ℕ)
-  pub cut : (later : List (List ℕ)) → inOne (parts ++ later) ≡ unmarked (input ++ inOne later)
-  pub text : List ℕ
-  pub on : (later : List (List ℕ)) (t : List ℕ) (n′ : ℕ) → Run of k l n later t n′ → Run of 1 emptyLong 0 (parts ++ later) (text ++ t) n′
 
 in-one : (part : List ℕ) (parts : List (List ℕ)) → inOne (part ∷ parts) ≡ part ++ inOne parts
 unfolding inOne
@@ -160,13 +152,11 @@ unfolding queryText
 accepted-text f notices input a b = rw (eq-eqb (firstNo (loadAsks f)) 0 a, eq-eqb (textTold notices .bad) 0 b) refl
 
 -- for every file that is accepted, all notices without a bad line, every input and every way in which it arrives in parts, it is the text of the definition
-pub query-text : (f notices : List ℕ) (n : ℕ) → firstNo (loadAsks f) ≡ 0 → textTold notices .bad ≡ 0
-    → (r : Ran (standingOf f (textTold notices .date) (textTold notices .notices)) n) → r .text ≡ queryText f notices (r .input)
-query-text f notices n a b r =
-    sym (run-text (r .run)) ∙ ap (restText (standingOf f (textTold notices .date) (textTold notices .notices)) 1 emptyLong) (r .cut)
-    ∙ whole-input (standingOf f (textTold notices .date) (textTold notices .notices)) (unmarked (r .input)) ∙ accepted-text f notices (r .input) a b
+pub query-text : (f notices : List ℕ) (n : ℕ) (r : RanOn f notices n) → r .ran .text ≡ queryText f notices (r .ran .input)
+query-text f notices n r =
+    sym (run-text (r .ran .run)) ∙ ap (restText (standingOf f (textTold notices .date) (textTold notices .notices)) 1 emptyLong) (r .ran .cut)
+    ∙ whole-input (standingOf f (textTold notices .date) (textTold notices .notices)) (unmarked (r .ran .input)) ∙ accepted-text f notices (r .ran .input) (r .accepted) (r .good)
 
 -- and so many bytes were written
-pub query-count : (f notices : List ℕ) (n : ℕ) → firstNo (loadAsks f) ≡ 0 → textTold notices .bad ≡ 0
-    → (r : Ran (standingOf f (textTold notices .date) (textTold notices .notices)) n) → n ≡ counted 0 (length (queryText f notices (r .input)))
-query-count f notices n a b r = run-count (r .run) ∙ ap (λ (t : List ℕ). counted 0 (length t)) (query-text f notices n a b r)
+pub query-count : (f notices : List ℕ) (n : ℕ) (r : RanOn f notices n) → n ≡ counted 0 (length (queryText f notices (r .ran .input)))
+query-count f notices n r = run-count (r .ran .run) ∙ ap (λ (t : List ℕ). counted 0 (length t)) (query-text f notices n r)

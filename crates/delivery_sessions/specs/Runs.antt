@@ -4,6 +4,8 @@ use Prim.Native.Nat.{ℕ}
 use mathlib.Core.Path.{_≡_}
 use mathlib.Core.List.{List, [], _∷_, _++_}
 use lib.ListN.{length, drop}
+use Rattle.questions.specs.Questions.{firstNo}
+use Rattle.master.specs.Load.{loadAsks}
 use Rattle.sessions.specs.Parts.{counted, inOne}
 use Rattle.delivery_lines.specs.NoticeLines.{unmarked}
 use Rattle.delivery_notices.specs.Notices.{textTold}
@@ -43,3 +45,17 @@ pub record Ran (of : List ℕ → Standing) (n : ℕ) : Type 0 where
   pub cut : inOne parts ≡ unmarked input
   pub text : List ℕ
   pub run : Run of 1 emptyLong 0 parts text n
+
+-- only the code needs it: between two reads, whatever a run from here writes, it is the rest of a run from the first line on
+pub record Came (of : List ℕ → Standing) (k : ℕ) (l : LongLine) (n : ℕ) : Type 0 where
+  pub input : List ℕ
+  pub parts : List (List ℕ)
+  pub cut : (later : List (List ℕ)) → inOne (parts ++ later) ≡ unmarked (input ++ inOne later)
+  pub text : List ℕ
+  pub on : (later : List (List ℕ)) (t : List ℕ) (n′ : ℕ) → Run of k l n later t n′ → Run of 1 emptyLong 0 (parts ++ later) (text ++ t) n′
+
+-- a run on a file and a text of notices: the file is accepted, no notice is bad, and so many bytes were written for an input; then they are `queryText` of the three (proofs, Runs: `query-text`, `query-count`), and nothing is told
+pub record RanOn (f notices : List ℕ) (n : ℕ) : Type 0 where
+  pub accepted : firstNo (loadAsks f) ≡ 0
+  pub good : textTold notices .bad ≡ 0
+  pub ran : Ran (standingOf f (textTold notices .date) (textTold notices .notices)) n

@@ -1,0 +1,95 @@
+-- The first part, then the others; an input of fewer than three bytes is one part.
+use mathlib.Core.Path.{_≡_, refl, sym, _∙_}
+use mathlib.Core.Bool.{true≢false}
+use native.Mathlib.Omega.{arith}
+use lib.Seq.{length-take-le}
+use Rattle.delivery_sessions.proofs.Runs.{came-first, came-short}
+use Rattle.query.proofs.Whole.{neither, three}
+use borrow.Author.Needs.{needs}
+use Rattle.query.proofs.answer_input.Statement.{statement}
+use Rattle.query.proofs.answer_input.Tie as tie
+
+large-buffer-requires : tie.Need-large-buffer-requires
+large-buffer-requires c κs = tt
+
+large-buffer-requires-2 : tie.Need-large-buffer-requires-2
+large-buffer-requires-2 c κs = tt
+
+slice-aggregate-read-first : tie.Need-slice-aggregate-read-first
+slice-aggregate-read-first c = search needs
+
+read-first-requires : tie.Need-read-first-requires
+read-first-requires c κs = tt
+
+array-share-prefix-part : tie.Need-array-share-prefix-part
+array-share-prefix-part c = search needs
+
+slice-aggregate-write-first : tie.Need-slice-aggregate-write-first
+slice-aggregate-write-first c = sym (length-take-le _ _ (c .before .before .before .read-first .ensures))
+
+slice-aggregate-write-first-2 : tie.Need-slice-aggregate-write-first-2
+slice-aggregate-write-first-2 c = search needs
+
+write-first-requires : tie.Need-write-first-requires
+write-first-requires c κs = (omega (arith, c .before .before .before .before .before .before .large-buffer2 .ensures), refl)
+
+is-open-requires : tie.Need-is-open-requires
+is-open-requires c κs = tt
+
+cut-short-requires : tie.Need-cut-short-requires
+cut-short-requires c κs = tt
+
+same-length : tie.Need-same-length
+same-length c = search needs
+
+returns : tie.Need-returns
+returns c = λ e. absurd (true≢false (sym e ∙ c .cut-short .ensures))
+
+slice-aggregate-write-last : tie.Need-slice-aggregate-write-last
+slice-aggregate-write-last c = search needs
+
+write-last-requires : tie.Need-write-last-requires
+write-last-requires c κs = (omega (arith, c .before .before .before .before .before .before .out2 .given), omega arith)
+
+same-length-2 : tie.Need-same-length-2
+same-length-2 c = search needs
+
+returns-2 : tie.Need-returns-2
+returns-2 c = λ e. came-short _ _ _ _ _ _ (c .before .before .before .before .before .before .before .before .before .before .before .before .before .write-first .ensures (sym (c .before .before .before .before .before .before .before .before .before .is-open .ensures) ∙ neither (c .before .before .before .before .before .before .before .before .before .before .before .before .before .before .before .before .before .before .read-first .result .failed) (c .before .before .before .before .before .before .before .before .before .is-open .result) (c .before .before .before .before .before .before .before .if1 .left))) (c .before .before .before .write-last .ensures e)
+
+slice-aggregate-write-rest : tie.Need-slice-aggregate-write-rest
+slice-aggregate-write-rest c = search needs
+
+write-rest-requires : tie.Need-write-rest-requires
+write-rest-requires c κs = (omega (arith, c .before .before .before .before .before .before .out2 .given), omega arith, came-first _ _ _ _ _ (three _ _ (c .before .before .if2 .left) (c .before .before .before .before .before .before .before .before .before .before .before .before .before .before .read-first .ensures)) (c .before .before .before .before .before .before .before .before .before .write-first .ensures (sym (c .before .before .before .before .before .is-open .ensures) ∙ neither (c .before .before .before .before .before .before .before .before .before .before .before .before .before .before .read-first .result .failed) (c .before .before .before .before .before .is-open .result) (c .before .before .before .if1 .left))))
+
+same-length-3 : tie.Need-same-length-3
+same-length-3 c = search needs
+
+returns-3 : tie.Need-returns-3
+returns-3 c = c .before .before .before .write-rest .ensures
+
+pub answer-input-spec : {M : Type 1} → statement M
+answer-input-spec =
+    tie.close
+    (tie.spec
+    large-buffer-requires
+    large-buffer-requires-2
+    slice-aggregate-read-first
+    read-first-requires
+    array-share-prefix-part
+    slice-aggregate-write-first
+    slice-aggregate-write-first-2
+    write-first-requires
+    is-open-requires
+    cut-short-requires
+    same-length
+    returns
+    slice-aggregate-write-last
+    write-last-requires
+    same-length-2
+    returns-2
+    slice-aggregate-write-rest
+    write-rest-requires
+    same-length-3
+    returns-3)

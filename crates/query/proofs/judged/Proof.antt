@@ -1,0 +1,84 @@
+-- A refused file is told; the verdict that is handed on is the file's.
+use mathlib.Core.Path.{sym}
+use lib.Seq.{length-take-le}
+use Rattle.query.proofs.Whole.{master-told}
+use borrow.Author.Needs.{needs}
+use Rattle.query.proofs.judged.Statement.{statement}
+use Rattle.query.proofs.judged.Tie as tie
+
+judge-requires : tie.Need-judge-requires
+judge-requires c κs = tt
+
+master-line-requires : tie.Need-master-line-requires
+master-line-requires c κs = tt
+
+tell-requires : tie.Need-tell-requires
+tell-requires c κs = master-told _ _ _ _ (c .before .before .before .before .judge .ensures) (c .before .before .if1 .taken) (c .master-line .ensures)
+
+same-length : tie.Need-same-length
+same-length c = search needs
+
+returns : tie.Need-returns
+returns c = search needs
+
+slice-aggregate-read-file-or-tell : tie.Need-slice-aggregate-read-file-or-tell
+slice-aggregate-read-file-or-tell c = search needs
+
+slice-aggregate-read-file-or-tell-2 : tie.Need-slice-aggregate-read-file-or-tell-2
+slice-aggregate-read-file-or-tell-2 c = search needs
+
+read-file-or-tell-requires : tie.Need-read-file-or-tell-requires
+read-file-or-tell-requires c κs = tt
+
+same-length-2 : tie.Need-same-length-2
+same-length-2 c = search needs
+
+returns-2 : tie.Need-returns-2
+returns-2 c = search needs
+
+slice-reshare-prefix-answer-notices : tie.Need-slice-reshare-prefix-answer-notices
+slice-reshare-prefix-answer-notices c = search needs
+
+slice-aggregate-answer-notices : tie.Need-slice-aggregate-answer-notices
+slice-aggregate-answer-notices c = sym (length-take-le _ _ (c .before .before .before .before .read-file-or-tell .ensures .0 .0))
+
+answer-notices-requires : tie.Need-answer-notices-requires
+answer-notices-requires c κs = (c .before .before .before .before .before .before .before .before .before .before .before .before .before .judge .ensures, c .before .before .before .before .before .before .before .before .before .before .before .if1 .left, c .before .before .before .before .before .before .before .before .before .before .before .before .before .before .before .before .before .before .before .pre .0, c .before .before .before .before .before .before .before .before .before .before .before .before .before .before .before .before .before .before .before .pre .1, c .before .before .before .before .before .before .before .before .before .before .before .before .before .before .before .before .before .before .before .pre .2)
+
+same-length-3 : tie.Need-same-length-3
+same-length-3 c = search needs
+
+same-length-4 : tie.Need-same-length-4
+same-length-4 c = search needs
+
+same-length-5 : tie.Need-same-length-5
+same-length-5 c = search needs
+
+same-length-6 : tie.Need-same-length-6
+same-length-6 c = search needs
+
+returns-3 : tie.Need-returns-3
+returns-3 c = search needs
+
+pub judged-spec : {M : Type 1} → statement M
+judged-spec =
+    tie.close
+    (tie.spec
+    judge-requires
+    master-line-requires
+    tell-requires
+    same-length
+    returns
+    slice-aggregate-read-file-or-tell
+    slice-aggregate-read-file-or-tell-2
+    read-file-or-tell-requires
+    same-length-2
+    returns-2
+    slice-reshare-prefix-answer-notices
+    slice-aggregate-answer-notices
+    answer-notices-requires
+    same-length-3
+    same-length-4
+    same-length-5
+    same-length-6
+    returns-3)

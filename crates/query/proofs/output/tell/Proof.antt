@@ -1,0 +1,30 @@
+-- A line has at most 64 bytes.
+use mathlib.Core.Path.{sym}
+use native.Mathlib.Omega.{arith}
+use lib.Seq.{length-take-le}
+use Rattle.delivery_queries.specs.Queries.{queryTold}
+use Rattle.query.proofs.Whole.{told-fits}
+use borrow.Author.Needs.{needs}
+use Rattle.query.proofs.output.tell.Statement.{statement}
+use Rattle.query.proofs.output.tell.Tie as tie
+
+array-share-prefix-bytes : tie.Need-array-share-prefix-bytes
+array-share-prefix-bytes c = let f = told-fits (queryTold (c .before .before .before .args .file .now) (c .before .before .before .args .text .now)) (c .before .before .before .args .line) (c .before .before .before .pre) in omega (arith, f .0, f .1)
+
+slice-aggregate-tell : tie.Need-slice-aggregate-tell
+slice-aggregate-tell c = let f = told-fits (queryTold (c .before .before .before .before .args .file .now) (c .before .before .before .before .args .text .now)) (c .before .before .before .before .args .line) (c .before .before .before .before .pre) in sym (length-take-le (c .before .before .before .before .args .line .length) (c .before .before .before .before .args .line .bytes) (omega (arith, f .0, f .1)))
+
+tell-requires : tie.Need-tell-requires
+tell-requires c κs = tt
+
+returns : tie.Need-returns
+returns c = search needs
+
+pub tell-spec : {M : Type 1} → statement M
+tell-spec =
+    tie.close
+    (tie.spec
+    array-share-prefix-bytes
+    slice-aggregate-tell
+    tell-requires
+    returns)

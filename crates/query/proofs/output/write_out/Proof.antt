@@ -1,0 +1,28 @@
+-- All bytes at the start of the buffer are written, or the output is no longer open.
+use mathlib.Core.Path.{sym, _∙_, ap}
+use lib.Seq.{length-take-le}
+use Rattle.sessions.specs.Parts.{counted}
+use borrow.Author.Needs.{needs}
+use Rattle.query.proofs.output.write_out.Statement.{statement}
+use Rattle.query.proofs.output.write_out.Tie as tie
+
+slice-aggregate-write-next : tie.Need-slice-aggregate-write-next
+slice-aggregate-write-next c = search needs
+
+slice-aggregate-write-next-2 : tie.Need-slice-aggregate-write-next-2
+slice-aggregate-write-next-2 c = sym (length-take-le _ _ (c .before .before .before .before .before .before .before .pre .0))
+
+write-next-requires : tie.Need-write-next-requires
+write-next-requires c κs = tt
+
+returns : tie.Need-returns
+returns c = λ e. c .write-next .ensures e .1 ∙ ap (counted (c .before .before .before .before .before .before .before .before .args .sent .bytes)) (length-take-le (c .before .before .before .before .before .before .before .before .args .to .length) (c .before .before .before .before .before .before .before .before .args .out .now) (c .before .before .before .before .before .before .before .before .pre .0))
+
+pub write-out-spec : {M : Type 1} → statement M
+write-out-spec =
+    tie.close
+    (tie.spec
+    slice-aggregate-write-next
+    slice-aggregate-write-next-2
+    write-next-requires
+    returns)

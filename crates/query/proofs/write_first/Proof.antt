@@ -1,0 +1,51 @@
+-- The first part without its mark, from line 1 on.
+use native.Mathlib.Omega.{arith}
+use Rattle.query.proofs.Whole.{first-handed}
+use borrow.Author.Needs.{needs}
+use Rattle.query.proofs.write_first.Statement.{statement}
+use Rattle.query.proofs.write_first.Tie as tie
+
+empty-line-requires : tie.Need-empty-line-requires
+empty-line-requires c κs = tt
+
+nothing-sent-requires : tie.Need-nothing-sent-requires
+nothing-sent-requires c κs = tt
+
+mark-length-requires : tie.Need-mark-length-requires
+mark-length-requires c κs = tt
+
+sub-write-part : tie.Need-sub-write-part
+sub-write-part c = omega (arith, c .before .mark-length .ensures .1)
+
+part-write-part-start : tie.Need-part-write-part-start
+part-write-part-start c = omega (arith, c .before .mark-length .ensures .1)
+
+part-write-part-end : tie.Need-part-write-part-end
+part-write-part-end c = omega (arith, c .before .mark-length .ensures .1)
+
+write-part-requires : tie.Need-write-part-requires
+write-part-requires c κs = (c .before .before .before .before .before .before .before .before .before .before .before .before .pre .0, c .before .before .before .before .before .before .before .before .before .before .before .before .pre .1)
+
+same-length : tie.Need-same-length
+same-length c = search needs
+
+same-length-2 : tie.Need-same-length-2
+same-length-2 c = search needs
+
+returns : tie.Need-returns
+returns c = λ e. first-handed _ _ _ _ _ _ _ _ (c .before .before .before .before .before .before .before .before .before .before .empty-line .ensures) (c .before .before .before .before .before .before .before .before .before .nothing-sent .ensures .1) (c .before .before .before .before .before .before .before .before .mark-length .ensures .0) (c .before .before .before .before .write-part .ensures e)
+
+pub write-first-spec : {M : Type 1} → statement M
+write-first-spec =
+    tie.close
+    (tie.spec
+    empty-line-requires
+    nothing-sent-requires
+    mark-length-requires
+    sub-write-part
+    part-write-part-start
+    part-write-part-end
+    write-part-requires
+    same-length
+    same-length-2
+    returns)

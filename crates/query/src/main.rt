@@ -1,0 +1,339 @@
+// The program `query`: reads master.bin and notices.txt, and answers the questions of standard input by the tables after the notices.
+mod input;
+mod output;
+
+use delivery_items::LongLine;
+use delivery_notices::Taken;
+use delivery_sessions::Progress;
+use streams::Sent;
+use years::FileCalendar;
+ghost use mathlib.Core.Path.{_≡_};
+ghost use mathlib.Core.Bool.{true, false};
+ghost use mathlib.Core.List.{[]};
+ghost use Prim.Native.Nat.{_≤_};
+ghost use lib.ListN.{length};
+ghost use Rattle.years.specs.Calendars.{calendarAnswer};
+ghost use Rattle.master.specs.Load.{judgeCall};
+ghost use Rattle.sessions.specs.Parts.{counted};
+ghost use Rattle.delivery_items.specs.Items.{emptyLong};
+ghost use Rattle.delivery_lines.specs.NoticeLines.{unmarked};
+ghost use Rattle.delivery_queries.specs.Queries.{standingIn};
+ghost use Rattle.delivery_sessions.specs.Parts.{restText};
+ghost use Rattle.delivery_sessions.specs.Runs.{Handed, Came, Ran, RanOn};
+
+// What is kept from one part of the input to the next: the number of the line that is begun, its bytes so far, and what has been written.
+pub struct Carried {
+    pub number: u64,
+    pub line: LongLine,
+    pub sent: Sent,
+}
+
+// Whether the input was read to its end and the output took all answers, and what has been written.
+pub struct Ended {
+    pub whole: bool,
+    pub sent: Sent,
+}
+
+// A run that ends before its input or its output does.
+fn cut_short(k: Carried) -> Ended
+    ensures { λ r. ⌜ r .whole ≡ false ⌝ }
+{
+    let sent = k.sent;
+    Ended { whole: false, sent }
+}
+
+// Writes the answers to all lines that end in a part of the input. A write that fails ends the run.
+fn write_part(
+    k: Carried,
+    file: &[u8],
+    judged: FileCalendar,
+    t: Taken,
+    calls: &[u32],
+    ids: &[u8],
+    refusals: &mut [u8],
+    room: usize,
+    part: &[u8],
+    out: &mut [u8],
+) -> Carried
+    requires { ⌜ (512 ≤ length (now out)) × (length (now refusals) ≡ room) ⌝ }
+    ensures { λ r. ⌜ (r .sent .open ≡ true → Handed (standingIn judged (now (file .entry)) t (now (calls .entry)) (now (ids .entry)) room) (k .number) (k .line) (now (part .entry)) (k .sent .bytes) (r .number) (r .line) [] (r .sent .bytes)) ⌝ }
+{
+    let number = k.number;
+    let line = k.line;
+    let mut sent = k.sent;
+    let mut s = Progress {
+        number,
+        line,
+        at: 0,
+        length: 0,
+    };
+    while s.at < part.len() {
+        let p = delivery_sessions::answer_part(
+            file,
+            judged,
+            t,
+            calls,
+            ids,
+            refusals,
+            s.number,
+            s.line,
+            part,
+            s.at,
+            out,
+        );
+        sent = output::write_out(sent, file, judged, t, calls, ids, room, part, s, p, out);
+        s = p;
+        if !streams::is_open(sent) {
+            return Carried { number, line, sent };
+        }
+    }
+    let after = s.number;
+    let begun = s.line;
+    Carried {
+        number: after,
+        line: begun,
+        sent,
+    }
+}
+
+// Writes the answers to all lines that end in the first part of the input, which is taken without its mark.
+fn write_first(
+    file: &[u8],
+    judged: FileCalendar,
+    t: Taken,
+    calls: &[u32],
+    ids: &[u8],
+    refusals: &mut [u8],
+    room: usize,
+    part: &[u8],
+    out: &mut [u8],
+) -> Carried
+    requires { ⌜ (512 ≤ length (now out)) × (length (now refusals) ≡ room) ⌝ }
+    ensures { λ r. ⌜ (r .sent .open ≡ true → Handed (standingIn judged (now (file .entry)) t (now (calls .entry)) (now (ids .entry)) room) 1 emptyLong (unmarked (now (part .entry))) 0 (r .number) (r .line) [] (r .sent .bytes)) ⌝ }
+{
+    let line = delivery_items::empty_line();
+    let sent = streams::nothing_sent();
+    let k = Carried {
+        number: 1,
+        line,
+        sent,
+    };
+    let mark = delivery_lines::mark_length(part);
+    write_part(
+        k,
+        file,
+        judged,
+        t,
+        calls,
+        ids,
+        refusals,
+        room,
+        &part[mark..],
+        out,
+    )
+}
+
+// Writes the answer to a last line that no line feed ends.
+fn write_last(
+    file: &[u8],
+    judged: FileCalendar,
+    t: Taken,
+    calls: &[u32],
+    ids: &[u8],
+    refusals: &mut [u8],
+    room: usize,
+    k: Carried,
+    out: &mut [u8],
+) -> Ended
+    requires { ⌜ (512 ≤ length (now out)) × (length (now refusals) ≡ room) ⌝ }
+    ensures { λ r. ⌜ (r .whole ≡ true → r .sent .bytes ≡ counted (k .sent .bytes) (length (restText (standingIn judged (now (file .entry)) t (now (calls .entry)) (now (ids .entry)) room) (k .number) (k .line) []))) ⌝ }
+{
+    let number = k.number;
+    let line = k.line;
+    let n = delivery_sessions::answer_last(
+        file,
+        judged,
+        t,
+        calls,
+        ids,
+        refusals,
+        number,
+        line,
+        out,
+    );
+    let from = Progress {
+        number,
+        line,
+        at: 0,
+        length: 0,
+    };
+    let to = Progress {
+        number,
+        line,
+        at: 0,
+        length: n,
+    };
+    let sent = output::write_out(
+        k.sent,
+        file,
+        judged,
+        t,
+        calls,
+        ids,
+        room,
+        file,
+        from,
+        to,
+        out,
+    );
+    let whole = streams::is_open(sent);
+    Ended { whole, sent }
+}
+
+// Reads the input part by part. What is answered is written before the next read. The loop has to be shown to end, so after 2^64 - 1 reads the input counts as ended.
+fn write_rest(
+    file: &[u8],
+    judged: FileCalendar,
+    t: Taken,
+    calls: &[u32],
+    ids: &[u8],
+    refusals: &mut [u8],
+    room: usize,
+    first: Carried,
+    out: &mut [u8],
+) -> Ended
+    requires { ⌜ (512 ≤ length (now out)) × (length (now refusals) ≡ room) × Came (standingIn judged (now file) t (now calls) (now ids) room) (first .number) (first .line) (first .sent .bytes) ⌝ }
+    ensures { λ r. ⌜ (r .whole ≡ true → Ran (standingIn judged (now (file .entry)) t (now (calls .entry)) (now (ids .entry)) room) (r .sent .bytes)) ⌝ }
+{
+    let mut part = io::large_buffer();
+    let mut k = first;
+    let mut turns: u64 = 18446744073709551615;
+    while 0 < turns {
+        let read = input::read_part(&mut part);
+        if read.failed {
+            return cut_short(k);
+        }
+        let n = read.length;
+        if n == 0 {
+            break;
+        }
+        k = write_part(
+            k,
+            file,
+            judged,
+            t,
+            calls,
+            ids,
+            refusals,
+            room,
+            &part[..n],
+            out,
+        );
+        if !streams::is_open(k.sent) {
+            return cut_short(k);
+        }
+        turns -= 1;
+    }
+    write_last(file, judged, t, calls, ids, refusals, room, k, out)
+}
+
+// Answers the questions of standard input.
+fn answer_input(
+    file: &[u8],
+    judged: FileCalendar,
+    t: Taken,
+    calls: &[u32],
+    ids: &[u8],
+    refusals: &mut [u8],
+) -> Ended
+    ensures { λ r. ⌜ (r .whole ≡ true → Ran (standingIn judged (now (file .entry)) t (now (calls .entry)) (now (ids .entry)) (length (now (refusals .entry)))) (r .sent .bytes)) ⌝ }
+{
+    let room = refusals.len();
+    let mut part = io::large_buffer();
+    let mut out = io::large_buffer();
+    let read = input::read_first(&mut part);
+    let n = read.length;
+    let first = write_first(
+        file,
+        judged,
+        t,
+        calls,
+        ids,
+        refusals,
+        room,
+        &part[..n],
+        &mut out,
+    );
+    if read.failed | !streams::is_open(first.sent) {
+        return cut_short(first);
+    }
+    if n < 3 {
+        return write_last(file, judged, t, calls, ids, refusals, room, first, &mut out);
+    }
+    write_rest(file, judged, t, calls, ids, refusals, room, first, &mut out)
+}
+
+// Reads the notices, and answers the questions where none of them is bad.
+fn answer_notices(
+    file: &[u8],
+    judged: FileCalendar,
+    text: &[u8],
+    calls: &mut [u32],
+    ids: &mut [u8],
+    refusals: &mut [u8],
+) -> Ended
+    requires { ⌜ (calendarAnswer judged ≡ judgeCall (now file)) × (judged .refusal ≡ 0) × (32770 ≤ length (now calls)) × (26216 ≤ length (now ids)) × (65538 ≤ length (now refusals)) ⌝ }
+    ensures { λ r. ⌜ (r .whole ≡ true → RanOn (now (file .entry)) (now (text .entry)) (r .sent .bytes)) ⌝ }
+{
+    let t = delivery_notices::read_notices(text, calls, ids);
+    if t.bad != 0 {
+        output::tell(file, text, delivery_refusals::bad_line(t.bad));
+        return nothing_answered();
+    }
+    answer_input(file, judged, t, calls, ids, refusals)
+}
+
+// A run that tells a line on standard error, and answers nothing.
+fn nothing_answered() -> Ended
+    ensures { λ r. ⌜ r .whole ≡ false ⌝ }
+{
+    let sent = streams::nothing_sent();
+    Ended { whole: false, sent }
+}
+
+// The file is judged first, and once; then the notices are read.
+fn judged(file: &[u8], text: &mut [u8], calls: &mut [u32], ids: &mut [u8], refusals: &mut [u8])
+    requires { ⌜ (32770 ≤ length (now calls)) × (26216 ≤ length (now ids)) × (65538 ≤ length (now refusals)) ⌝ }
+{
+    let judged = master::judge(file);
+    if judged.refusal != 0 {
+        output::tell(file, text, delivery_refusals::master_line(judged.refusal));
+        return;
+    }
+    let read = streams::read_file_or_tell(b"query: notices.txt", b"notices.txt", text);
+    if read.failed {
+        return;
+    }
+    let n = read.length;
+    answer_notices(file, judged, &text[..n], calls, ids, refusals);
+}
+
+fn main() {
+    let mut file = [0u8; 65537];
+    let mut text = [0u8; 65537];
+    let mut calls = [0u32; 32770];
+    let mut ids = [0u8; 26216];
+    let mut refusals = [0u8; 65538];
+    let read = streams::read_file_or_tell(b"query: master.bin", b"master.bin", &mut file);
+    if read.failed {
+        return;
+    }
+    let size = read.length;
+    judged(
+        &file[..size],
+        &mut text,
+        &mut calls,
+        &mut ids,
+        &mut refusals,
+    );
+}

@@ -1,0 +1,45 @@
+// What is written to standard output, and told on standard error.
+use delivery_notices::Taken;
+use delivery_sessions::Progress;
+use lines::Line;
+use streams::Sent;
+use years::FileCalendar;
+ghost use mathlib.Core.Path.{_≡_};
+ghost use mathlib.Core.Bool.{true};
+ghost use Prim.Native.Nat.{_≤_};
+ghost use lib.ListN.{length, take};
+ghost use Rattle.lines.specs.Lines.{emptyLine};
+ghost use Rattle.contents.specs.Contents.{LineWith};
+ghost use Rattle.sessions.specs.Parts.{counted};
+ghost use Rattle.delivery_queries.specs.Queries.{standingIn, queryTold};
+ghost use Rattle.delivery_sessions.specs.Runs.{ComesNext};
+
+// Writes the bytes at the start of a buffer, which have to be what comes next of the answers from one place in the input to another; so many refusals have room where what is known of a product is worked out. Where the output does not take them, one line on standard error says why.
+pub(crate) fn write_out(
+    sent: Sent,
+    file: &[u8],
+    judged: FileCalendar,
+    t: Taken,
+    calls: &[u32],
+    ids: &[u8],
+    room: usize,
+    part: &[u8],
+    from: Progress,
+    to: Progress,
+    out: &[u8],
+) -> Sent
+    requires { ⌜ (to .length ≤ length (now out)) × ComesNext (standingIn judged (now file) t (now calls) (now ids) room) (now part) from to (take (to .length) (now out)) ⌝ }
+    ensures { λ r. ⌜ (r .open ≡ true → r .bytes ≡ counted (sent .bytes) (to .length)) ⌝ }
+{
+    let n = to.length;
+    streams::write_next(sent, b"query: standard output", &out[..n])
+}
+
+// Tells a line on standard error, which has to be what is told of a file and of notices.
+pub(crate) fn tell(file: &[u8], text: &[u8], line: Line)
+    requires { ⌜ LineWith emptyLine (queryTold (now file) (now text)) line ⌝ }
+{
+    let bytes = line.bytes;
+    let n = line.length;
+    streams::tell(&bytes[..n]);
+}
