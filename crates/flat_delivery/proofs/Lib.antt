@@ -1,3 +1,4 @@
 mod Reading
 mod Delivering
 pub mod Demand
+pub mod Refused

@@ -7,10 +7,11 @@ use mathlib.Core.List.{List, [], map}
 use lib.Dec.{eqb, leb}
 use lib.ListN.{length, take, drop}
 use Rattle.questions.specs.Questions.{Answer}
+use Rattle.calendar.specs.declared.Calendar.{Calendar}
 use Rattle.product.specs.declared.Product.{Product}
 use Rattle.table.specs.declared.Table.{Table}
 use Rattle.table.specs.declared.Outcome.{Outcome}
-use Rattle.table.specs.Table.{sound, zeroTable, openCall}
+use Rattle.table.specs.Table.{sound, zeroTable, openCall, openIn}
 use Rattle.history.specs.Book.{Call}
 use Rattle.history.specs.History.{tableRun, FromFile}
 use Rattle.lines.specs.declared.Line.{Line}
@@ -83,6 +84,10 @@ pub record DeliveredIn (opening : List ℕ → ℕ → Outcome) (id : List ℕ) 
   pub unchanged : r .fits ≡ true → drop (n .count) after ≡ drop (n .count) before
   pub idle : r .fits ≡ false → after ≡ before
   pub long : length after ≡ length before
+
+-- 'A product whose opening is refused has no table': by any verdict on any file, what is given is a table of zeros
+pub record NoTable (verdict : Answer Calendar) (f id : List ℕ) (n : Notices) (ns : List Notice) (room : ℕ) : Type 0 where
+  pub zeros : (openIn verdict f id (n .date) .refusal ≡ 0 → ⊥) → deliveredBy (openIn verdict f) id n ns room .table ≡ flatTable zeroTable
 
 -- the rows of a table, with its product's id
 abbrev pub rowsOf : Table → List ℕ
