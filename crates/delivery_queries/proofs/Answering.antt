@@ -38,7 +38,8 @@ module _ (l : LongLine) where
   unfolding longAsked askedHeld
   asks-long o e = rw (o, ne-eqb (getD (l .bytes) 0 0) 35 e) refl
 
-  pub asks-short : l .over ≡ false → (n : ℕ) → take n (l .bytes) ≡ take (l .length) (l .bytes) → askedHeld (askedBy (take n (l .bytes))) ≡ askedHeld (longAsked l)
+  pub asks-short : l .over ≡ false → (n : ℕ) → take n (l .bytes) ≡ take (l .length) (l .bytes) → askedHeld (askedBy (take n (l .bytes)))
+      ≡ askedHeld (longAsked l)
   unfolding longAsked
   asks-short o n e = rw (o, e) refl
 
@@ -77,7 +78,8 @@ module _ (of : List ℕ → Standing) (k : ℕ) (line : List ℕ) where
   unfolding askedText heldAnswer
   text-asks id q = rw (misfit-text (of id) id q, reply-text (of id) id q) refl
 
-  text-answer : (a : Asked) → (askedHeld a .letter ≡ 35 → ⊥) → (askedHeld a .letter ≡ 0 → ⊥) → heldAnswer (of (askedHeld a .id)) k line (askedHeld a) ≡ askedText of k line a
+  text-answer : (a : Asked) → (askedHeld a .letter ≡ 35 → ⊥) → (askedHeld a .letter ≡ 0 → ⊥) → heldAnswer (of (askedHeld a .id)) k line (askedHeld a)
+      ≡ askedText of k line a
   unfolding askedHeld
   text-answer nothing m n = absurd (m refl)
   text-answer bad m n = absurd (n refl)
@@ -89,19 +91,22 @@ module _ (of : List ℕ → Standing) (k : ℕ) (line : List ℕ) where
 nothing-written : (out : List ℕ) (at : ℕ) → Written out out at at []
 nothing-written out at = record { is = refl; to = omega arith; long = refl }
 
-module _ (of : List ℕ → Standing) (k : ℕ) (l : LongLine) (q : QuestionLine) (is : q ≡ askedHeld (longAsked l)) (out : List ℕ) (at : ℕ) (room : roomy out at ≡ true) where
+module _ (of : List ℕ → Standing) (k : ℕ) (l : LongLine) (q : QuestionLine) (is : q ≡ askedHeld (longAsked l)) (out : List ℕ) (at : ℕ)
+    (room : roomy out at ≡ true) where
   pub printed-nothing : q .letter ≡ 35 → Printed out out at at (longText of k l)
   unfolding longText
   printed-nothing e =
       rw (← text-nothing of k (trimmed (take (l .length) (l .bytes))) (longAsked l) (rw is at e)) (printed room (nothing-written out at) (omega arith))
 
-  pub printed-bad : q .letter ≡ 0 → (after : List ℕ) (next : ℕ) → Written out after at next (badText k) → next ≤ at + 64 → Printed out after at next (longText of k l)
+  pub printed-bad : q .letter ≡ 0 → (after : List ℕ) (next : ℕ) → Written out after at next (badText k) → next ≤ at + 64
+      → Printed out after at next (longText of k l)
   unfolding longText
   printed-bad e after next w h =
       rw (← text-bad of k (trimmed (take (l .length) (l .bytes))) (longAsked l) (rw is at e)) (printed room w (omega arith))
 
   pub printed-answer : (q .letter ≡ 35 → ⊥) → (q .letter ≡ 0 → ⊥) → (s : Standing) → s ≡ of (q .id)
-      → (after : List ℕ) (next : ℕ) → Written out after at next (heldAnswer s k (trimmed (take (l .length) (l .bytes))) q) → next ≤ at + 512 → Printed out after at next (longText of k l)
+      → (after : List ℕ) (next : ℕ) → Written out after at next (heldAnswer s k (trimmed (take (l .length) (l .bytes))) q) → next ≤ at + 512
+      → Printed out after at next (longText of k l)
   unfolding longText
   printed-answer m n s e after next w h =
       rw (← text-answer of k (trimmed (take (l .length) (l .bytes))) (longAsked l) (λ z. m (rw is z)) (λ z. n (rw is z))) (printed room (rw (e, is) at w) h)
@@ -116,7 +121,8 @@ module _ (text : List ℕ) (l : Line) (made : LineWith emptyLine text l) (h : le
       let c : l .length ≡ length text = rw (made .is) (fed-is text h .0) in
       omega (arith, c)
 
-  pub put-short : (out after : List ℕ) (at next : ℕ) → Written out after at next (take (l .length) (l .bytes)) → Written out after at next text × (next ≤ at + 64)
+  pub put-short : (out after : List ℕ) (at next : ℕ) → Written out after at next (take (l .length) (l .bytes))
+      → Written out after at next text × (next ≤ at + 64)
   put-short out after at next w =
       let e : take (l .length) (l .bytes) ≡ text = rw (made .is) (fed-is text h .1) in
       let v : Written out after at next text = rw e at w in
@@ -136,12 +142,14 @@ module _ (l : LongLine) (n e : ℕ) (room : length (l .bytes) ≡ 255) (h : n �
 
 -- the two answers to a question
 module _ (s : Standing) (k : ℕ) (line : List ℕ) (q : QuestionLine) (out after : List ℕ) (at next : ℕ) where
-  pub answer-bad : heldMisfits s q ≡ true → Written out after at next (badText k) × (next ≤ at + 64) → Written out after at next (heldAnswer s k line q) × (next ≤ at + 512)
+  pub answer-bad : heldMisfits s q ≡ true → Written out after at next (badText k) × (next ≤ at + 64)
+      → Written out after at next (heldAnswer s k line q) × (next ≤ at + 512)
   unfolding heldAnswer
   answer-bad e w = (rw e (w .0), omega (arith, w .1))
 
   pub answer-reply : heldMisfits s q ≡ false → (middle : List ℕ) (from : ℕ) → Written out middle at from line × (from ≤ at + 255)
-      → (l : Line) → LineWith emptyLine (replyLine s q) l → Written middle after from next (take (l .length) (l .bytes)) → Written out after at next (heldAnswer s k line q) × (next ≤ at + 512)
+      → (l : Line) → LineWith emptyLine (replyLine s q) l → Written middle after from next (take (l .length) (l .bytes))
+      → Written out after at next (heldAnswer s k line q) × (next ≤ at + 512)
   unfolding heldAnswer
   answer-reply e middle from w l made v =
       let p = put-short (replyLine s q) l made (reply-short s q) middle after from next v in
@@ -152,7 +160,8 @@ module _ (s : Standing) (k : ℕ) (line : List ℕ) (q : QuestionLine) (out afte
 pub put-none : (out : List ℕ) (at : ℕ) (bytes : List ℕ) → Written out out at (at + 0) (take 0 bytes)
 put-none out at bytes = record { is = refl; to = refl; long = refl }
 
-pub put-more : (out after bytes : List ℕ) (at i : ℕ) → i < length bytes → Written out after at (at + i) (take i bytes) → Written out (set after (at + i) (getD bytes i 0)) at (at + (i + 1)) (take (i + 1) bytes)
+pub put-more : (out after bytes : List ℕ) (at i : ℕ) → i < length bytes → Written out after at (at + i) (take i bytes)
+    → Written out (set after (at + i) (getD bytes i 0)) at (at + (i + 1)) (take (i + 1) bytes)
 put-more out after bytes at i h w =
     let e : take (i + 1) bytes ≡ take i bytes ++ (getD bytes i 0 ∷ []) = ap (λ (n : ℕ). take n bytes) (add-one i) ∙ take-suc bytes i 0 h in
     let n : at + i + 1 ≡ at + (i + 1) = omega arith in

@@ -50,7 +50,8 @@ unfolding longText longAsked answerText
 held-is of k l line h = go (l .over) refl
   where
     go : (b : Bool) → l .over ≡ b
-        → askedText of k (trimmed (take (l .length) (l .bytes))) (cond b (cond (eqb (getD (l .bytes) 0 0) 35) nothing bad) (askedBy (take (l .length) (l .bytes)))) ≡ askedText of k (trimmed line) (askedBy line)
+        → askedText of k (trimmed (take (l .length) (l .bytes))) (cond b (cond (eqb (getD (l .bytes) 0 0) 35) nothing bad) (askedBy (take (l .length)
+        (l .bytes)))) ≡ askedText of k (trimmed line) (askedBy line)
     go true o =
         ap (λ (n : ℕ). askedText of k (trimmed (take (l .length) (l .bytes))) (cond (eqb n 35) nothing bad)) (first-byte l line h o)
         ∙ no-line of k (trimmed (take (l .length) (l .bytes))) (trimmed line) (eqb (getD (trimmed line) 0 0) 35)

@@ -1,4 +1,5 @@
--- A text says at most as many notices as it has lines, so that a buffer of 65,538 bytes has room for their refusals; then what is known by its lists is what is known of the file and the text.
+-- A text says at most as many notices as it has lines, so that a buffer of 65,538 bytes has room for their refusals; then what is known by its
+-- lists is what is known of the file and the text.
 -- Assumes nothing.
 use mathlib.Core.Path.{_≡_, refl, _∙_, sym, ap}
 use mathlib.Core.Bool.{Bool, true, false, _&&_, cond}
@@ -34,7 +35,9 @@ said-more t nothing = omega arith
 said-more t bad = omega (arith, ap length (bad-same t))
 said-more t (opening day) = go (eqb (t .opened) 0)
   where
-    go : (b : Bool) → length (cond b (record { opened = t .lines + 1; date = day; notices = t .notices; lines = t .lines + 1; bad = 0 }) (badTold t) .notices) ≤ length (t .notices) + 1
+    go : (b : Bool)
+        → length (cond b (record { opened = t .lines + 1; date = day; notices = t .notices; lines = t .lines + 1; bad = 0 })
+        (badTold t) .notices) ≤ length (t .notices) + 1
     go true = omega arith
     go false = omega (arith, ap length (bad-same t))
 said-more t (notice call id) = go (eqb (t .opened) 0)
@@ -42,7 +45,15 @@ said-more t (notice call id) = go (eqb (t .opened) 0)
     one : Notice
     one = record { line = t .lines + 1; call = call; id = id }
 
-    go : (b : Bool) → length (cond b (badTold t) (record { opened = t .opened; date = t .date; notices = t .notices ++ (one ∷ []); lines = t .lines + 1; bad = 0 }) .notices) ≤ length (t .notices) + 1
+    go : (b : Bool)
+        → length (cond b (badTold t) (record {
+          opened = t .opened;
+          date = t .date;
+          notices = t .notices ++
+              (one ∷ []);
+          lines = t .lines + 1;
+          bad = 0;
+        }) .notices) ≤ length (t .notices) + 1
     go true = omega (arith, ap length (bad-same t))
     go false = omega (arith, length-append (t .notices) (one ∷ []))
 
@@ -115,7 +126,8 @@ module _ (judged : FileCalendar) (f text calls calls′ ids ids′ : List ℕ) (
 
   few : t .count ≤ 65538
   few =
-      let n : t .count ≡ length (textTold text .notices) = sym (notices-length calls′ ids′ (t .count)) ∙ ap length held ∙ length-map (textTold text .notices) noticeHeld in
+      let n : t .count ≡ length (textTold text .notices) = sym (notices-length calls′ ids′ (t .count)) ∙ ap length held
+      ∙ length-map (textTold text .notices) noticeHeld in
       omega (arith, n, notices-few text)
 
   pub told-own : calendarAnswer judged ≡ judgeCall f → (room : ℕ) → 65538 ≤ room

@@ -33,7 +33,8 @@ use Rattle.delivery_queries.specs.Queries.{standingOf, standingBy, stand
 -- ---- the file
 
 module _ (f id : List ℕ) where
-  pub known-here : (block place : ℕ) → findAnswer (At block place) ≡ findCall f id → (p : Product) → p ≡ productAt f block place → (weekly : Bool) → weekly ≡ isWeekly (p .kind)
+  pub known-here : (block place : ℕ) → findAnswer (At block place) ≡ findCall f id → (p : Product) → p ≡ productAt f block place → (weekly : Bool)
+      → weekly ≡ isWeekly (p .kind)
       → (true ≡ found f id) × (weekly ≡ (found f id && isWeekly (productOf f id .kind)))
   known-here block place e p q weekly w =
       let t = find-there f id block place e in
@@ -53,13 +54,16 @@ module _ (judged : FileCalendar) (f : List ℕ) (t : Taken) (calls ids : List �
   opening = openIn (calendarAnswer judged) f
 
   table-is : (d : Delivered) → Delivers (openIn (calendarAnswer judged) f) id (t .date) (noticesTo calls ids (t .count)) before after d
-      → d .table ≡ tableRun (openIn (calendarAnswer judged) f id (t .date) .table) (callsFor id (cond (leb (t .count) (length before)) (noticesTo calls ids (t .count)) []))
+      → d .table ≡ tableRun (openIn (calendarAnswer judged) f id (t .date) .table) (callsFor id (cond (leb (t .count) (length before))
+      (noticesTo calls ids (t .count)) []))
   table-is d m = go (d .fits) refl
     where
       fits : d .fits ≡ leb (t .count) (length before)
       fits = m .fits ∙ ap (λ (n : ℕ). leb n (length before)) (notices-length calls ids (t .count))
 
-      go : (b : Bool) → d .fits ≡ b → d .table ≡ tableRun (openIn (calendarAnswer judged) f id (t .date) .table) (callsFor id (cond (leb (t .count) (length before)) (noticesTo calls ids (t .count)) []))
+      go : (b : Bool) → d .fits ≡ b → d .table
+          ≡ tableRun (openIn (calendarAnswer judged) f id (t .date) .table) (callsFor id (cond (leb (t .count) (length before)) (noticesTo calls ids
+          (t .count)) []))
       go true e = rw (sym fits ∙ e) (m .made e .table)
       go false e = rw (sym fits ∙ e) (m .idle e .0 ∙ no-calls (openIn (calendarAnswer judged) f id (t .date) .table) id)
 
@@ -71,7 +75,8 @@ module _ (judged : FileCalendar) (f : List ℕ) (t : Taken) (calls ids : List �
 
 -- ---- by the file's own verdict, and by the notices of a text
 
-pub standing-own : (judged : FileCalendar) (f : List ℕ) (t : Taken) (calls ids : List ℕ) (room : ℕ) (told : Told) → calendarAnswer judged ≡ judgeCall f → t .count ≤ room
+pub standing-own : (judged : FileCalendar) (f : List ℕ) (t : Taken) (calls ids : List ℕ) (room : ℕ) (told : Told) → calendarAnswer judged
+    ≡ judgeCall f → t .count ≤ room
     → t .date ≡ told .date → noticesTo calls ids (t .count) ≡ map noticeHeld (told .notices)
     → (id : List ℕ) → standingIn judged f t calls ids room id ≡ standingOf f (told .date) (told .notices) id
 unfolding standingIn standingBy standingOf

@@ -81,11 +81,14 @@ whole of k begun [] = rw (any-empty begun, any-length of k begun) (go (eqb (leng
     go : (b : Bool) → cond b [] (answerText of k begun) ≡ linesText of k (cond b [] (begun ∷ []))
     go true = refl
     go false = sym (append-nil (answerText of k begun))
-whole of k begun (byte ∷ rest) = rw (any-length of k begun) (go (eqb byte 10) (ap (λ (x : LongLine). restText of (nextNumber k) x rest) (sym no-bytes) ∙ whole of (nextNumber k) [] rest) (ap (λ (x : LongLine). restText of k x rest) (sym (fed-more emptyLong begun byte)) ∙ whole of k (begun ++ (byte ∷ [])) rest))
+whole of k begun (byte ∷ rest) = rw (any-length of k begun) (go (eqb byte 10) (ap (λ (x : LongLine). restText of (nextNumber k) x rest)
+    (sym no-bytes) ∙ whole of (nextNumber k) [] rest) (ap (λ (x : LongLine). restText of k x rest) (sym (fed-more emptyLong begun byte))
+    ∙ whole of k (begun ++ (byte ∷ [])) rest))
   where
     go : (b : Bool) → restText of (nextNumber k) emptyLong rest ≡ linesText of (nextNumber k) (linesFrom [] rest)
         → restText of k (lengthened (fedLong emptyLong begun) byte) rest ≡ linesText of k (linesFrom (begun ++ (byte ∷ [])) rest)
-        → cond b (answerText of k begun ++ restText of (nextNumber k) emptyLong rest) (restText of k (lengthened (fedLong emptyLong begun) byte) rest) ≡ linesText of k (cond b (begun ∷ linesFrom [] rest) (linesFrom (begun ++ (byte ∷ [])) rest))
+        → cond b (answerText of k begun ++ restText of (nextNumber k) emptyLong rest) (restText of k (lengthened (fedLong emptyLong begun) byte) rest)
+        ≡ linesText of k (cond b (begun ∷ linesFrom [] rest) (linesFrom (begun ++ (byte ∷ [])) rest))
     go true p q = ap (λ (x : List ℕ). answerText of k begun ++ x) p
     go false p q = q
 

@@ -62,7 +62,8 @@ put before after at next text r p =
     size = length-append (take at before) text ∙ ap (λ (k : ℕ). k + length text) (length-take-le at before (omega (arith, room-long before at r))) ∙ sym to
 
     sizes : length after ≡ next + length (drop (at + length text) before)
-    sizes = ap length is ∙ length-append (take at before ++ text) (drop (at + length text) before) ∙ ap (λ (k : ℕ). k + length (drop (at + length text) before)) size
+    sizes = ap length is ∙ length-append (take at before ++ text) (drop (at + length text) before)
+        ∙ ap (λ (k : ℕ). k + length (drop (at + length text) before)) size
 
 -- ---- one line
 
@@ -111,7 +112,8 @@ no-next part at out n e t h = go (lt-or-ge (length out) (n + 512))
 
 -- on the way: nothing has been done yet, or the place has moved on
 pub record Going (of : List ℕ → Standing) (k : ℕ) (l : LongLine) (part : List ℕ) (from : ℕ) (before after : List ℕ) (r : Progress) : Type 0 where
-  pub text : (rest : List ℕ) → restText of k l (drop from part ++ rest) ≡ take (r .length) after ++ restText of (r .number) (r .line) (drop (r .at) part ++ rest)
+  pub text : (rest : List ℕ) → restText of k l (drop from part ++ rest)
+      ≡ take (r .length) after ++ restText of (r .number) (r .line) (drop (r .at) part ++ rest)
   pub fits : r .length ≤ length after
   pub unchanged : drop (r .length) after ≡ drop (r .length) before
   pub long : length after ≡ length before
@@ -123,7 +125,8 @@ module _ (of : List ℕ → Standing) (h : ℕ) (l : LongLine) (part : List ℕ)
   begins = record { text = λ rest. refl; fits = omega arith; unchanged = refl; long = refl; within = λ k. k; on = inl (refl, refl) }
 
   module _ (out : List ℕ) (s : Progress) (g : Going of h l part from before out s) where
-    pub goes : (after : List ℕ) (r : Progress) {b : Bool} → b ≡ another part (s .at) out (s .length) → b ≡ true → Next of part out after s r → Going of h l part from before after r
+    pub goes : (after : List ℕ) (r : Progress) {b : Bool} → b ≡ another part (s .at) out (s .length) → b ≡ true → Next of part out after s r
+        → Going of h l part from before after r
     goes after r e t n =
         record {
           text = λ rest. g .text rest ∙ joined rest;
@@ -158,11 +161,13 @@ module _ (of : List ℕ → Standing) (h : ℕ) (l : LongLine) (part : List ℕ)
         same-place : s ≡ record { number = h; line = l; at = from; length = 0 } → s .at ≡ from
         same-place e = ap (λ (q : Progress). q .at) e
 
-        came : ((s ≡ record { number = h; line = l; at = from; length = 0 }) × (out ≡ before)) ⊎ ((512 ≤ length before) × (from < length part) × (from < s .at)) → from < length part
+        came : ((s ≡ record { number = h; line = l; at = from; length = 0 }) × (out ≡ before)) ⊎ ((512 ≤ length before) × (from < length part) ×
+            (from < s .at)) → from < length part
         came (inl e) = omega (arith, same-place (e .0), in-part)
         came (inr e) = e .1
 
-        later : ((s ≡ record { number = h; line = l; at = from; length = 0 }) × (out ≡ before)) ⊎ ((512 ≤ length before) × (from < length part) × (from < s .at)) → from < r .at
+        later : ((s ≡ record { number = h; line = l; at = from; length = 0 }) × (out ≡ before)) ⊎ ((512 ≤ length before) × (from < length part) ×
+            (from < s .at)) → from < r .at
         later (inl e) = omega (arith, same-place (e .0), n .on .0)
         later (inr e) = omega (arith, e .2, n .on .0)
 

@@ -41,7 +41,8 @@ module _ (of : List ℕ → Standing) (k : ℕ) (l : LongLine) (part : List ℕ)
   handed-more k′ l′ at m n′ before after r d a c =
       record {
         text = d .text ++ take (r .length) after;
-        is = λ rest. d .is rest ∙ ap (λ (t : List ℕ). d .text ++ t) (a .text rest) ∙ sym (append-assoc (d .text) (take (r .length) after) (restText of (r .number) (r .line) (drop (r .at) part ++ rest)));
+        is = λ rest. d .is rest ∙ ap (λ (t : List ℕ). d .text ++ t) (a .text rest)
+            ∙ sym (append-assoc (d .text) (take (r .length) after) (restText of (r .number) (r .line) (drop (r .at) part ++ rest)));
         count = c ∙ ap (λ (x : ℕ). counted x (r .length)) (d .count) ∙ counted-twice n (length (d .text)) (r .length) ∙ ap (counted n) (sym long);
       }
     where
@@ -53,7 +54,8 @@ module _ (of : List ℕ → Standing) (k : ℕ) (l : LongLine) (part : List ℕ)
   handed-all k′ l′ at m h d = rw (drop-of-length-le part h) at d
 
 -- the count after the last line
-pub last-count : (of : List ℕ → Standing) (k : ℕ) (l : LongLine) (before after : List ℕ) (n n′ r : ℕ) → 512 ≤ length before → LastAnswer of k l before after r → n′ ≡ counted n r → n′ ≡ counted n (length (restText of k l []))
+pub last-count : (of : List ℕ → Standing) (k : ℕ) (l : LongLine) (before after : List ℕ) (n n′ r : ℕ) → 512 ≤ length before
+    → LastAnswer of k l before after r → n′ ≡ counted n r → n′ ≡ counted n (length (restText of k l []))
 last-count of k l before after n n′ r room a c = c ∙ ap (counted n) (sym (length-take-le r after (a .fits)) ∙ ap length (sym (a .text room)))
 
 -- ---- the mark
@@ -83,7 +85,8 @@ unfolding inOne
 in-one part parts = refl
 
 -- after a first part of three bytes or more, which is taken without its mark
-pub came-first : (of : List ℕ → Standing) (k : ℕ) (l : LongLine) (n : ℕ) (part : List ℕ) → 3 ≤ length part → Handed of 1 emptyLong (unmarked part) 0 k l [] n → Came of k l n
+pub came-first : (of : List ℕ → Standing) (k : ℕ) (l : LongLine) (n : ℕ) (part : List ℕ) → 3 ≤ length part
+    → Handed of 1 emptyLong (unmarked part) 0 k l [] n → Came of k l n
 came-first of k l n part h d =
     record {
       input = part;
@@ -93,7 +96,8 @@ came-first of k l n part h d =
       on = λ later t n′ r. goes-on d r;
     }
 
-pub came-more : (of : List ℕ → Standing) (k k′ : ℕ) (l l′ : LongLine) (n m : ℕ) (part : List ℕ) → Came of k l n → Handed of k l part n k′ l′ [] m → Came of k′ l′ m
+pub came-more : (of : List ℕ → Standing) (k k′ : ℕ) (l l′ : LongLine) (n m : ℕ) (part : List ℕ) → Came of k l n → Handed of k l part n k′ l′ [] m
+    → Came of k′ l′ m
 came-more of k k′ l l′ n m part c d =
     record {
       input = c .input ++ part;
@@ -102,7 +106,8 @@ came-more of k k′ l l′ n m part c d =
           ap inOne (append-assoc (c .parts) (part ∷ []) later) ∙ c .cut (part ∷ later)
           ∙ ap unmarked (ap (λ (x : List ℕ). c .input ++ x) (in-one part later) ∙ sym (append-assoc (c .input) part (inOne later)));
       text = c .text ++ d .text;
-      on = λ later t n′ r. rw (append-assoc (c .parts) (part ∷ []) later, append-assoc (c .text) (d .text) t) (c .on (part ∷ later) (d .text ++ t) n′ (goes-on d r));
+      on = λ later t n′ r. rw (append-assoc (c .parts) (part ∷ []) later, append-assoc (c .text) (d .text) t) (c .on (part ∷ later) (d .text ++ t) n′
+          (goes-on d r));
     }
 
 none-left : inOne [] ≡ []
@@ -120,7 +125,8 @@ came-all of k l n n′ c e =
     }
 
 -- an input of fewer bytes is one part
-pub came-short : (of : List ℕ → Standing) (k : ℕ) (l : LongLine) (n n′ : ℕ) (part : List ℕ) → Handed of 1 emptyLong (unmarked part) 0 k l [] n → n′ ≡ counted n (length (restText of k l [])) → Ran of n′
+pub came-short : (of : List ℕ → Standing) (k : ℕ) (l : LongLine) (n n′ : ℕ) (part : List ℕ) → Handed of 1 emptyLong (unmarked part) 0 k l [] n → n′
+    ≡ counted n (length (restText of k l [])) → Ran of n′
 came-short of k l n n′ part d e =
     record {
       input = part;
@@ -136,15 +142,18 @@ ran-own of known n e r = subst (λ (x : List ℕ → Standing). Ran x n) (fun-ex
 
 -- ---- what a run writes, and the count of its bytes
 
-pub run-text : {of : List ℕ → Standing} {k : ℕ} {l : LongLine} {n n′ : ℕ} {parts : List (List ℕ)} {text : List ℕ} → Run of k l n parts text n′ → restText of k l (inOne parts) ≡ text
+pub run-text : {of : List ℕ → Standing} {k : ℕ} {l : LongLine} {n n′ : ℕ} {parts : List (List ℕ)} {text : List ℕ} → Run of k l n parts text n′
+    → restText of k l (inOne parts) ≡ text
 unfolding inOne
 run-text (ended e) = refl
 run-text (goes-on {parts = parts} d r) = d .is (inOne parts) ∙ ap (λ (t : List ℕ). d .text ++ t) (run-text r)
 
-run-count : {of : List ℕ → Standing} {k : ℕ} {l : LongLine} {n n′ : ℕ} {parts : List (List ℕ)} {text : List ℕ} → Run of k l n parts text n′ → n′ ≡ counted n (length text)
+run-count : {of : List ℕ → Standing} {k : ℕ} {l : LongLine} {n n′ : ℕ} {parts : List (List ℕ)} {text : List ℕ} → Run of k l n parts text n′ → n′
+    ≡ counted n (length text)
 run-count (ended e) = e
 run-count {n = n} (goes-on {m = m} {text = text} d r) =
-    run-count r ∙ ap (λ (k : ℕ). counted k (length text)) (d .count) ∙ counted-twice n (length (d .text)) (length text) ∙ ap (counted n) (sym (length-append (d .text) text))
+    run-count r ∙ ap (λ (k : ℕ). counted k (length text)) (d .count) ∙ counted-twice n (length (d .text)) (length text)
+    ∙ ap (counted n) (sym (length-append (d .text) text))
 
 accepted-text : (f notices input : List ℕ) → firstNo (loadAsks f) ≡ 0 → textTold notices .bad ≡ 0
     → linesText (standingOf f (textTold notices .date) (textTold notices .notices)) 1 (linesFrom [] (unmarked input)) ≡ queryText f notices input
@@ -155,7 +164,8 @@ accepted-text f notices input a b = rw (eq-eqb (firstNo (loadAsks f)) 0 a, eq-eq
 pub query-text : (f notices : List ℕ) (n : ℕ) (r : RanOn f notices n) → r .ran .text ≡ queryText f notices (r .ran .input)
 query-text f notices n r =
     sym (run-text (r .ran .run)) ∙ ap (restText (standingOf f (textTold notices .date) (textTold notices .notices)) 1 emptyLong) (r .ran .cut)
-    ∙ whole-input (standingOf f (textTold notices .date) (textTold notices .notices)) (unmarked (r .ran .input)) ∙ accepted-text f notices (r .ran .input) (r .accepted) (r .good)
+    ∙ whole-input (standingOf f (textTold notices .date) (textTold notices .notices)) (unmarked (r .ran .input))
+    ∙ accepted-text f notices (r .ran .input) (r .accepted) (r .good)
 
 -- and so many bytes were written
 pub query-count : (f notices : List ℕ) (n : ℕ) (r : RanOn f notices n) → n ≡ counted 0 (length (queryText f notices (r .ran .input)))

@@ -22,22 +22,39 @@ same-length-2 : tie.Need-same-length-2
 same-length-2 c = search needs
 
 returns-2 : tie.Need-returns-2
-returns-2 c = printed-nothing _ _ _ _ (c .before .before .held-asks .ensures) _ _ (said-yes (c .before .before .before .before .has-room .ensures) (c .before .before .before .if1 .left)) (c .if2 .taken)
+returns-2 c =
+    let at-held-asks = c .before .before in
+    let at-if1 = at-held-asks .before in
+    let at-has-room = at-if1 .before in
+    printed-nothing _ _ _ _ (at-held-asks .held-asks .ensures) _ _ (said-yes (at-has-room .has-room .ensures) (at-if1 .if1 .left)) (c .if2 .taken)
 
 put-bad-requires : tie.Need-put-bad-requires
-put-bad-requires c κs = room-64 _ _ (said-yes (c .before .before .before .before .before .before .before .has-room .ensures) (c .before .before .before .before .before .before .if1 .left))
+put-bad-requires c κs =
+    let at-if1 = c .before .before .before .before .before .before in
+    let at-has-room = at-if1 .before in
+    room-64 _ _ (said-yes (at-has-room .has-room .ensures) (at-if1 .if1 .left))
 
 same-length-3 : tie.Need-same-length-3
 same-length-3 c = search needs
 
 returns-3 : tie.Need-returns-3
-returns-3 c = printed-bad _ _ _ _ (c .before .before .before .before .before .before .before .before .held-asks .ensures) _ _ (said-yes (c .before .before .before .before .before .before .before .before .before .before .has-room .ensures) (c .before .before .before .before .before .before .before .before .before .if1 .left)) (c .before .before .before .before .if3 .taken) _ _ (c .before .before .put-bad .ensures .0) (c .before .before .put-bad .ensures .1)
+returns-3 c =
+    let at-put-bad = c .before .before in
+    let at-if3 = at-put-bad .before .before in
+    let at-held-asks = at-if3 .before .before .before .before in
+    let at-if1 = at-held-asks .before in
+    let at-has-room = at-if1 .before in
+    printed-bad _ _ _ _ (at-held-asks .held-asks .ensures) _ _ (said-yes (at-has-room .has-room .ensures) (at-if1 .if1 .left))
+    (at-if3 .if3 .taken) _ _ (at-put-bad .put-bad .ensures .0) (at-put-bad .put-bad .ensures .1)
 
 standing-requires : tie.Need-standing-requires
 standing-requires c κs = tt
 
 put-answer-requires : tie.Need-put-answer-requires
-put-answer-requires c κs = room-long _ _ (said-yes (c .before .before .before .before .before .before .before .before .before .before .before .before .has-room .ensures) (c .before .before .before .before .before .before .before .before .before .before .before .if1 .left))
+put-answer-requires c κs =
+    let at-if1 = c .before .before .before .before .before .before .before .before .before .before .before in
+    let at-has-room = at-if1 .before in
+    room-long _ _ (said-yes (at-has-room .has-room .ensures) (at-if1 .if1 .left))
 
 same-length-4 : tie.Need-same-length-4
 same-length-4 c = search needs
@@ -46,7 +63,17 @@ same-length-5 : tie.Need-same-length-5
 same-length-5 c = search needs
 
 returns-4 : tie.Need-returns-4
-returns-4 c = printed-answer _ _ _ _ (c .before .before .before .before .before .before .before .before .before .before .before .before .before .held-asks .ensures) _ _ (said-yes (c .before .before .before .before .before .before .before .before .before .before .before .before .before .before .before .has-room .ensures) (c .before .before .before .before .before .before .before .before .before .before .before .before .before .before .if1 .left)) (c .before .before .before .before .before .before .before .before .before .before .before .if2 .left) (c .before .before .before .before .before .before .before .before .before .if3 .left) _ (c .before .before .before .before .before .before .standing .ensures) _ _ (c .before .before .put-answer .ensures .0) (c .before .before .put-answer .ensures .1)
+returns-4 c =
+    let at-put-answer = c .before .before in
+    let at-standing = at-put-answer .before .before .before .before in
+    let at-if3 = at-standing .before .before .before in
+    let at-if2 = at-if3 .before .before in
+    let at-held-asks = at-if2 .before .before in
+    let at-if1 = at-held-asks .before in
+    let at-has-room = at-if1 .before in
+    printed-answer _ _ _ _ (at-held-asks .held-asks .ensures) _ _ (said-yes (at-has-room .has-room .ensures) (at-if1 .if1 .left))
+    (at-if2 .if2 .left) (at-if3 .if3 .left) _ (at-standing .standing .ensures) _ _ (at-put-answer .put-answer .ensures .0)
+    (at-put-answer .put-answer .ensures .1)
 
 pub answer-line-spec : {M : Type 1} → statement M
 answer-line-spec =

@@ -27,16 +27,28 @@ held-length-requires : tie.Need-held-length-requires
 held-length-requires c κs = tt
 
 array-share-prefix-bytes : tie.Need-array-share-prefix-bytes
-array-share-prefix-bytes c = let l : length (c .before .before .before .args .line .bytes) ≡ 255 = simp length-map at (c .before .before .before .good .0 .1 .1 .0 .1 .0 .1) in omega (arith, l, c .held-length .ensures .0)
+array-share-prefix-bytes c =
+    let start = c .before .before .before in
+    let l : length (start .args .line .bytes) ≡ 255 = simp length-map at (start .good .0 .1 .1 .0 .1 .0 .1) in
+    omega (arith, l, c .held-length .ensures .0)
 
 slice-aggregate-question-of : tie.Need-slice-aggregate-question-of
-slice-aggregate-question-of c = let l : length (c .before .before .before .before .args .line .bytes) ≡ 255 = simp length-map at (c .before .before .before .before .good .0 .1 .1 .0 .1 .0 .1) in sym (length-take-le _ _ (omega (arith, c .before .held-length .ensures .0, l)))
+slice-aggregate-question-of c =
+    let at-held-length = c .before in
+    let start = at-held-length .before .before .before in
+    let l : length (start .args .line .bytes) ≡ 255 = simp length-map at (start .good .0 .1 .1 .0 .1 .0 .1) in
+    sym (length-take-le _ _ (omega (arith, at-held-length .held-length .ensures .0, l)))
 
 question-of-requires : tie.Need-question-of-requires
 question-of-requires c κs = tt
 
 returns-3 : tie.Need-returns-3
-returns-3 c = c .question-of .ensures ∙ asks-short (c .before .before .before .before .before .args .line) (c .before .before .before .if1 .left) (c .before .before .held-length .result) (c .before .before .held-length .ensures .1)
+returns-3 c =
+    let at-held-length = c .before .before in
+    let at-if1 = at-held-length .before in
+    let start = at-if1 .before .before in
+    c .question-of .ensures ∙ asks-short (start .args .line) (at-if1 .if1 .left) (at-held-length .held-length .result)
+    (at-held-length .held-length .ensures .1)
 
 pub held-asks-spec : {M : Type 1} → statement M
 held-asks-spec =

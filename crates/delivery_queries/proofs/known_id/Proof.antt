@@ -20,7 +20,11 @@ enum-told : tie.Need-enum-told
 enum-told c = search needs
 
 returns : tie.Need-returns
-returns c = known-here _ _ _ _ (rw (c .before .before .before .block .given .1) at (c .before .before .before .before .before .find .ensures)) _ (c .before .product-at .ensures) _ (c .is-weekly .ensures)
+returns c =
+    let at-product-at = c .before in
+    let at-block = at-product-at .before .before in
+    let at-find = at-block .before .before in
+    known-here _ _ _ _ (rw (at-block .block .given .1) at (at-find .find .ensures)) _ (at-product-at .product-at .ensures) _ (c .is-weekly .ensures)
 
 returns-2 : tie.Need-returns-2
 returns-2 c = known-not _ _ (rw (c .enum-told .given .1) at (c .before .before .find .ensures))

@@ -17,7 +17,11 @@ same-length : tie.Need-same-length
 same-length c = search needs
 
 returns : tie.Need-returns
-returns c = answer-bad _ _ _ _ _ _ _ _ (sym (c .before .before .before .before .before .is-misfit .ensures) ∙ c .before .before .before .before .if1 .taken) (c .before .before .put-bad .ensures)
+returns c =
+    let at-put-bad = c .before .before in
+    let at-if1 = at-put-bad .before .before in
+    let at-is-misfit = at-if1 .before in
+    answer-bad _ _ _ _ _ _ _ _ (sym (at-is-misfit .is-misfit .ensures) ∙ at-if1 .if1 .taken) (at-put-bad .put-bad .ensures)
 
 put-held-requires : tie.Need-put-held-requires
 put-held-requires c κs = omega (arith, c .before .before .before .before .pre)
@@ -26,13 +30,23 @@ reply-line-requires : tie.Need-reply-line-requires
 reply-line-requires c κs = tt
 
 put-line-requires : tie.Need-put-line-requires
-put-line-requires c κs = (short-line _ _ (c .reply-line .ensures) (reply-short _ _), omega (arith, c .before .before .before .before .put-held .ensures .1, c .before .before .before .before .before .before .before .before .before .pre))
+put-line-requires c κs =
+    let at-put-held = c .before .before .before .before in
+    let start = at-put-held .before .before .before .before .before in
+    (short-line _ _ (c .reply-line .ensures) (reply-short _ _), omega (arith, at-put-held .put-held .ensures .1, start .pre))
 
 same-length-2 : tie.Need-same-length-2
 same-length-2 c = search needs
 
 returns-2 : tie.Need-returns-2
-returns-2 c = answer-reply _ _ _ _ _ _ _ _ (sym (c .before .before .before .before .before .before .before .before .before .before .is-misfit .ensures) ∙ c .before .before .before .before .before .before .before .before .before .if1 .left) _ _ (c .before .before .before .before .before .before .before .put-held .ensures) _ (c .before .before .before .reply-line .ensures) (c .before .before .put-line .ensures)
+returns-2 c =
+    let at-put-line = c .before .before in
+    let at-reply-line = at-put-line .before in
+    let at-put-held = at-reply-line .before .before .before .before in
+    let at-if1 = at-put-held .before .before in
+    let at-is-misfit = at-if1 .before in
+    answer-reply _ _ _ _ _ _ _ _ (sym (at-is-misfit .is-misfit .ensures) ∙ at-if1 .if1 .left) _ _ (at-put-held .put-held .ensures) _
+    (at-reply-line .reply-line .ensures) (at-put-line .put-line .ensures)
 
 pub put-answer-spec : {M : Type 1} → statement M
 put-answer-spec =

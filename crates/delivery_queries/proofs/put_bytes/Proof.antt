@@ -11,7 +11,8 @@ use Rattle.delivery_queries.proofs.put_bytes.Statement.{statement}
 use Rattle.delivery_queries.proofs.put_bytes.Tie as tie
 
 abbrev Inv-loop : tie.InvT-loop
-Inv-loop out₀ at bytes i₀ out i = Written out₀ out at (at + i) (take i bytes) × (i ≤ length bytes) × (at + length bytes ≤ length out₀) × (length out ≡ length out₀)
+Inv-loop out₀ at bytes i₀ out i =
+    Written out₀ out at (at + i) (take i bytes) × (i ≤ length bytes) × (at + length bytes ≤ length out₀) × (length out ≡ length out₀)
 
 abbrev μ-loop : tie.MeasureT-loop
 μ-loop out₀ at bytes i₀ out i = length bytes - i

@@ -12,28 +12,87 @@ held-length-requires : tie.Need-held-length-requires
 held-length-requires c κs = tt
 
 array-share-prefix-bytes : tie.Need-array-share-prefix-bytes
-array-share-prefix-bytes c = let l : length (c .before .before .before .args .line .bytes) ≡ 255 = simp length-map at (c .before .before .before .good .1 .1 .0 .1 .1 .0 .1 .0 .1) in omega (arith, l, c .held-length .ensures .0)
+array-share-prefix-bytes c =
+    let start = c .before .before .before in
+    let l : length (start .args .line .bytes) ≡ 255 = simp length-map at (start .good .1 .1 .0 .1 .1 .0 .1 .0 .1) in
+    omega (arith, l, c .held-length .ensures .0)
 
 slice-aggregate-trimmed-length : tie.Need-slice-aggregate-trimmed-length
-slice-aggregate-trimmed-length c = let l : length (c .before .before .before .before .args .line .bytes) ≡ 255 = simp length-map at (c .before .before .before .before .good .1 .1 .0 .1 .1 .0 .1 .0 .1) in sym (length-take-le (c .before .held-length .result) (c .before .before .before .before .args .line .bytes) (omega (arith, l, c .before .held-length .ensures .0)))
+slice-aggregate-trimmed-length c =
+    let at-held-length = c .before in
+    let start = at-held-length .before .before .before in
+    let l : length (start .args .line .bytes) ≡ 255 = simp length-map at (start .good .1 .1 .0 .1 .1 .0 .1 .0 .1) in
+    sym (length-take-le (at-held-length .held-length .result) (start .args .line .bytes) (omega (arith, l, at-held-length .held-length .ensures .0)))
 
 trimmed-length-requires : tie.Need-trimmed-length-requires
 trimmed-length-requires c κs = tt
 
 array-share-prefix-bytes-2 : tie.Need-array-share-prefix-bytes-2
-array-share-prefix-bytes-2 c = let l : length (c .before .before .before .before .before .before .args .line .bytes) ≡ 255 = simp length-map at (c .before .before .before .before .before .before .good .1 .1 .0 .1 .1 .0 .1 .0 .1) in let h = c .before .before .before .held-length .ensures in let t = c .before .trimmed-length .ensures in omega (arith, l, h .0, trim-few (c .before .before .before .before .before .before .args .line) (c .before .before .before .held-length .result) (c .before .trimmed-length .result) l (h .0) (h .1) (t .0) (t .1))
+array-share-prefix-bytes-2 c =
+    let at-trimmed-length = c .before in
+    let at-held-length = at-trimmed-length .before .before in
+    let start = at-held-length .before .before .before in
+    let l : length (start .args .line .bytes) ≡ 255 = simp length-map at (start .good .1 .1 .0 .1 .1 .0 .1 .0 .1) in
+    let h = at-held-length .held-length .ensures in
+    let t = at-trimmed-length .trimmed-length .ensures in
+    omega (
+      arith,
+      l,
+      h .0,
+      trim-few (start .args .line) (at-held-length .held-length .result) (at-trimmed-length .trimmed-length .result) l
+          (h .0) (h .1) (t .0) (t .1),
+    )
 
 slice-aggregate-put-bytes : tie.Need-slice-aggregate-put-bytes
-slice-aggregate-put-bytes c = let l : length (c .before .before .before .before .before .before .before .args .line .bytes) ≡ 255 = simp length-map at (c .before .before .before .before .before .before .before .good .1 .1 .0 .1 .1 .0 .1 .0 .1) in let h = c .before .before .before .before .held-length .ensures in let t = c .before .before .trimmed-length .ensures in sym (length-take-le (c .before .before .trimmed-length .result) (c .before .before .before .before .before .before .before .args .line .bytes) (omega (arith, l, h .0, trim-few (c .before .before .before .before .before .before .before .args .line) (c .before .before .before .before .held-length .result) (c .before .before .trimmed-length .result) l (h .0) (h .1) (t .0) (t .1))))
+slice-aggregate-put-bytes c =
+    let at-trimmed-length = c .before .before in
+    let at-held-length = at-trimmed-length .before .before in
+    let start = at-held-length .before .before .before in
+    let l : length (start .args .line .bytes) ≡ 255 = simp length-map at (start .good .1 .1 .0 .1 .1 .0 .1 .0 .1) in
+    let h = at-held-length .held-length .ensures in
+    let t = at-trimmed-length .trimmed-length .ensures in
+    sym (length-take-le (at-trimmed-length .trimmed-length .result) (start .args .line .bytes) (omega (
+      arith,
+      l,
+      h .0,
+      trim-few
+          (start .args .line) (at-held-length .held-length .result) (at-trimmed-length .trimmed-length .result) l (h .0) (h .1) (t .0) (t .1),
+    )))
 
 put-bytes-requires : tie.Need-put-bytes-requires
-put-bytes-requires c κs = let l : length (c .before .before .before .before .before .before .before .args .line .bytes) ≡ 255 = simp length-map at (c .before .before .before .before .before .before .before .good .1 .1 .0 .1 .1 .0 .1 .0 .1) in let h = c .before .before .before .before .held-length .ensures in let t = c .before .before .trimmed-length .ensures in let e = trim-few (c .before .before .before .before .before .before .before .args .line) (c .before .before .before .before .held-length .result) (c .before .before .trimmed-length .result) l (h .0) (h .1) (t .0) (t .1) in omega (arith, l, h .0, e, length-take-le (c .before .before .trimmed-length .result) (c .before .before .before .before .before .before .before .args .line .bytes) (omega (arith, l, h .0, e)), c .before .before .before .before .before .before .before .pre)
+put-bytes-requires c κs =
+    let at-trimmed-length = c .before .before in
+    let at-held-length = at-trimmed-length .before .before in
+    let start = at-held-length .before .before .before in
+    let l : length (start .args .line .bytes) ≡ 255 = simp length-map at (start .good .1 .1 .0 .1 .1 .0 .1 .0 .1) in
+    let h = at-held-length .held-length .ensures in
+    let t = at-trimmed-length .trimmed-length .ensures in
+    let e = trim-few (start .args .line) (at-held-length .held-length .result) (at-trimmed-length .trimmed-length .result) l (h .0) (h .1) (t .0)
+    (t .1) in
+    omega (
+      arith,
+      l,
+      h .0,
+      e,
+      length-take-le (at-trimmed-length .trimmed-length .result) (start .args .line .bytes) (omega
+          (arith, l, h .0, e)),
+      start .pre,
+    )
 
 same-length : tie.Need-same-length
 same-length c = search needs
 
 returns : tie.Need-returns
-returns c = let l : length (c .before .before .before .before .before .before .before .before .before .before .args .line .bytes) ≡ 255 = simp length-map at (c .before .before .before .before .before .before .before .before .before .before .good .1 .1 .0 .1 .1 .0 .1 .0 .1) in let h = c .before .before .before .before .before .before .before .held-length .ensures in let t = c .before .before .before .before .before .trimmed-length .ensures in put-trimmed (c .before .before .before .before .before .before .before .before .before .before .args .line) (c .before .before .before .before .before .before .before .held-length .result) (c .before .before .before .before .before .trimmed-length .result) l (h .0) (h .1) (t .0) (t .1) _ _ _ _ (c .before .before .put-bytes .ensures)
+returns c =
+    let at-put-bytes = c .before .before in
+    let at-trimmed-length = at-put-bytes .before .before .before in
+    let at-held-length = at-trimmed-length .before .before in
+    let start = at-held-length .before .before .before in
+    let l : length (start .args .line .bytes) ≡ 255 = simp length-map at (start .good .1 .1 .0 .1 .1 .0 .1 .0 .1) in
+    let h = at-held-length .held-length .ensures in
+    let t = at-trimmed-length .trimmed-length .ensures in
+    put-trimmed (start .args .line) (at-held-length .held-length .result) (at-trimmed-length .trimmed-length .result) l (h .0) (h .1) (t .0)
+    (t .1) _ _ _ _ (at-put-bytes .put-bytes .ensures)
 
 pub put-held-spec : {M : Type 1} → statement M
 put-held-spec =

@@ -8,13 +8,23 @@ use Rattle.delivery_queries.proofs.put_line.Statement.{statement}
 use Rattle.delivery_queries.proofs.put_line.Tie as tie
 
 array-share-prefix-bytes : tie.Need-array-share-prefix-bytes
-array-share-prefix-bytes c = let l : length (c .before .before .before .args .line .bytes) ≡ 64 = simp length-map at (c .before .before .before .good .1 .1 .0 .1 .1 .0 .1 .0 .1) in omega (arith, l, c .before .before .before .pre .0)
+array-share-prefix-bytes c =
+    let start = c .before .before .before in
+    let l : length (start .args .line .bytes) ≡ 64 = simp length-map at (start .good .1 .1 .0 .1 .1 .0 .1 .0 .1) in
+    omega (arith, l, start .pre .0)
 
 slice-aggregate-put-bytes : tie.Need-slice-aggregate-put-bytes
-slice-aggregate-put-bytes c = let l : length (c .before .before .before .before .args .line .bytes) ≡ 64 = simp length-map at (c .before .before .before .before .good .1 .1 .0 .1 .1 .0 .1 .0 .1) in sym (length-take-le (c .before .before .before .before .args .line .length) (c .before .before .before .before .args .line .bytes) (omega (arith, l, c .before .before .before .before .pre .0)))
+slice-aggregate-put-bytes c =
+    let start = c .before .before .before .before in
+    let l : length (start .args .line .bytes) ≡ 64 = simp length-map at (start .good .1 .1 .0 .1 .1 .0 .1 .0 .1) in
+    sym (length-take-le (start .args .line .length) (start .args .line .bytes) (omega (arith, l, start .pre .0)))
 
 put-bytes-requires : tie.Need-put-bytes-requires
-put-bytes-requires c κs = let l : length (c .before .before .before .before .args .line .bytes) ≡ 64 = simp length-map at (c .before .before .before .before .good .1 .1 .0 .1 .1 .0 .1 .0 .1) in let n = length-take-le (c .before .before .before .before .args .line .length) (c .before .before .before .before .args .line .bytes) (omega (arith, l, c .before .before .before .before .pre .0)) in omega (arith, n, c .before .before .before .before .pre .0, c .before .before .before .before .pre .1)
+put-bytes-requires c κs =
+    let start = c .before .before .before .before in
+    let l : length (start .args .line .bytes) ≡ 64 = simp length-map at (start .good .1 .1 .0 .1 .1 .0 .1 .0 .1) in
+    let n = length-take-le (start .args .line .length) (start .args .line .bytes) (omega (arith, l, start .pre .0)) in
+    omega (arith, n, start .pre .0, start .pre .1)
 
 same-length : tie.Need-same-length
 same-length c = search needs

@@ -14,7 +14,10 @@ same-length : tie.Need-same-length
 same-length c = search needs
 
 returns : tie.Need-returns
-returns c = stands _ _ _ _ _ _ _ _ _ _ _ (c .before .before .before .before .before .known-id .ensures .0) (c .before .before .before .before .before .known-id .ensures .1) (c .before .before .before .deliver .ensures)
+returns c =
+    let at-deliver = c .before .before .before in
+    let at-known-id = at-deliver .before .before in
+    stands _ _ _ _ _ _ _ _ _ _ _ (at-known-id .known-id .ensures .0) (at-known-id .known-id .ensures .1) (at-deliver .deliver .ensures)
 
 pub standing-spec : {M : Type 1} → statement M
 standing-spec = tie.close (tie.spec known-id-requires deliver-requires same-length returns)

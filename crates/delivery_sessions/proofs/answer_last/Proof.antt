@@ -17,7 +17,10 @@ same-length-2 : tie.Need-same-length-2
 same-length-2 c = search needs
 
 returns-2 : tie.Need-returns-2
-returns-2 c = last-line _ _ _ _ _ _ (c .before .before .before .before .before .before .before .if1 .left) (c .before .before .before .before .answer-line .ensures)
+returns-2 c =
+    let at-answer-line = c .before .before .before .before in
+    let at-if1 = at-answer-line .before .before .before in
+    last-line _ _ _ _ _ _ (at-if1 .if1 .left) (at-answer-line .answer-line .ensures)
 
 pub answer-last-spec : {M : Type 1} → statement M
 answer-last-spec =

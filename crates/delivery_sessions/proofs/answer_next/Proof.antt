@@ -9,7 +9,10 @@ line-from-requires : tie.Need-line-from-requires
 line-from-requires c κs = tt
 
 returns : tie.Need-returns
-returns c = goes-past _ _ _ (c .before .before .before .before .before .before .before .before .before .before .before .args .s) (c .before .before .before .before .before .before .before .before .before .before .before .pre .0) (c .before .before .before .before .before .before .before .before .before .before .before .pre .1) _ (c .before .before .before .line-from .ensures) (not-true _ (c .if1 .taken))
+returns c =
+    let at-line-from = c .before .before .before in
+    let start = at-line-from .before .before .before .before .before .before .before .before in
+    goes-past _ _ _ (start .args .s) (start .pre .0) (start .pre .1) _ (at-line-from .line-from .ensures) (not-true _ (c .if1 .taken))
 
 answer-line-requires : tie.Need-answer-line-requires
 answer-line-requires c κs = tt
@@ -27,7 +30,14 @@ same-length-2 : tie.Need-same-length-2
 same-length-2 c = search needs
 
 returns-2 : tie.Need-returns-2
-returns-2 c = is-answered _ _ _ (c .before .before .before .before .before .before .before .before .before .before .before .before .before .before .before .before .before .before .before .before .args .s) (c .before .before .before .before .before .before .before .before .before .before .before .before .before .before .before .before .before .before .before .before .pre .0) (c .before .before .before .before .before .before .before .before .before .before .before .before .before .before .before .before .before .before .before .before .pre .1) _ (c .before .before .before .before .before .before .before .before .before .before .before .before .line-from .ensures) (not-false _ (c .before .before .before .before .before .before .before .before .before .if1 .left)) _ _ _ _ (c .next-number .ensures) (c .before .empty-line .ensures) (c .before .before .before .before .before .before .answer-line .ensures)
+returns-2 c =
+    let at-empty-line = c .before in
+    let at-answer-line = at-empty-line .before .before .before .before .before in
+    let at-if1 = at-answer-line .before .before .before in
+    let at-line-from = at-if1 .before .before .before in
+    let start = at-line-from .before .before .before .before .before .before .before .before in
+    is-answered _ _ _ (start .args .s) (start .pre .0) (start .pre .1) _ (at-line-from .line-from .ensures) (not-false _ (at-if1 .if1 .left)) _ _
+    _ _ (c .next-number .ensures) (at-empty-line .empty-line .ensures) (at-answer-line .answer-line .ensures)
 
 pub answer-next-spec : {M : Type 1} → statement M
 answer-next-spec =

@@ -10,7 +10,8 @@ use Rattle.delivery_sessions.proofs.answer_part.Statement.{statement}
 use Rattle.delivery_sessions.proofs.answer_part.Tie as tie
 
 abbrev Inv-loop : tie.InvT-loop
-Inv-loop file judged t calls ids refusals₀ number part from out₀ s₀ refusals out s = Going (standingIn judged file t calls ids (length refusals₀)) number (s₀ .line) part from out₀ out s × (length refusals ≡ length refusals₀)
+Inv-loop file judged t calls ids refusals₀ number part from out₀ s₀ refusals out s =
+    Going (standingIn judged file t calls ids (length refusals₀)) number (s₀ .line) part from out₀ out s × (length refusals ≡ length refusals₀)
 
 abbrev μ-loop : tie.MeasureT-loop
 μ-loop file judged t calls ids refusals₀ number part from out₀ s₀ refusals out s = length part - s .at
@@ -28,7 +29,16 @@ loop-less : tie.Need-loop-less Inv-loop μ-loop
 loop-less c = let n = c .before .before .before .before .answer-next .ensures in omega (arith, n .on .0, n .on .1)
 
 loop-again : tie.Need-loop-again Inv-loop μ-loop
-loop-again c = let v = c .before .before .before .before .before .before .before .before .before .before .loop .inv in (goes _ _ _ _ _ _ _ _ (v .0) _ _ (c .before .before .before .before .before .before .before .before .goes-on .ensures) (c .before .before .before .before .before .before .before .if1 .taken) (rw (v .1) at (c .before .before .before .before .answer-next .ensures)), omega (arith, v .1))
+loop-again c =
+    let at-answer-next = c .before .before .before .before in
+    let at-if1 = at-answer-next .before .before .before in
+    let at-goes-on = at-if1 .before in
+    let at-loop = at-goes-on .before .before in
+    let v = at-loop .loop .inv in (
+      goes _ _ _ _ _ _ _ _ (v .0) _ _ (at-goes-on .goes-on .ensures) (at-if1 .if1 .taken)
+          (rw (v .1) at (at-answer-next .answer-next .ensures)),
+      omega (arith, v .1),
+    )
 
 same-length : tie.Need-same-length Inv-loop μ-loop
 same-length c = c .before .before .before .loop .inv .1

@@ -31,7 +31,11 @@ loop-less : tie.Need-loop-less Inv-loop μ-loop
 loop-less c = omega arith
 
 loop-again : tie.Need-loop-again Inv-loop μ-loop
-loop-again c = feeds _ _ _ _ _ (c .before .before .before .before .loop .inv) (c .before .before .before .loop-test .taken) (c .before .if1 .left) _ (c .extend .ensures)
+loop-again c =
+    let at-if1 = c .before in
+    let at-In-loop = at-if1 .before .before in
+    let at-loop = at-In-loop .before in
+    feeds _ _ _ _ _ (at-loop .loop .inv) (at-In-loop .loop-test .taken) (at-if1 .if1 .left) _ (c .extend .ensures)
 
 returns-2 : tie.Need-returns-2 Inv-loop μ-loop
 returns-2 c = part-ends _ _ _ _ _ (c .before .loop .inv) (c .loop-test .left)
