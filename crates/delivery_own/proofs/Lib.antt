@@ -1,6 +1,6 @@
-mod Bytes
-mod Words
-mod Dates
+pub mod Bytes
+pub mod Words
+pub mod Dates
 mod Lines
 mod Tables
 pub mod Orders
