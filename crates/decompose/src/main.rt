@@ -2,8 +2,7 @@
 mod output;
 
 use calendar::Calendar;
-use libc::STDIN_FILENO;
-use output::Sent;
+use streams::Sent;
 ghost use mathlib.Core.Path.{_≡_};
 ghost use mathlib.Core.Bool.{true};
 ghost use Prim.Native.Nat.{_≤_};
@@ -11,38 +10,6 @@ ghost use lib.ListN.{length};
 ghost use Rattle.years.specs.Calendars.{calendarOf};
 ghost use Rattle.master.specs.Load.{loadCall};
 ghost use Rattle.contents.specs.Whole.{decomposeText};
-ghost use Rattle.io.specs.Counts.{Counts};
-
-// How many bytes were read, and whether every read succeeded.
-pub struct Input {
-    pub size: usize,
-    pub whole: bool,
-}
-
-// Reads standard input up to its end, or as many bytes as the buffer holds.
-fn read_all(file: &mut [u8]) -> Input
-    ensures { λ r. ⌜ Counts (r .size) (now (file .exit)) ⌝ }
-{
-    let mut n: usize = 0;
-    while n < file.len() {
-        let got = libc::read(STDIN_FILENO, &mut file[n..]);
-        if got < 0 {
-            return Input {
-                size: n,
-                whole: false,
-            };
-        }
-        let more = io::count(got, &file[n..]);
-        if more == 0 {
-            break;
-        }
-        n += more;
-    }
-    Input {
-        size: n,
-        whole: true,
-    }
-}
 
 // Writes the text of an accepted file with this calendar, part by part. A write that fails ends the run.
 fn write_text(cal: Calendar, file: &[u8], out: &mut [u8]) -> Sent
@@ -50,13 +17,13 @@ fn write_text(cal: Calendar, file: &[u8], out: &mut [u8]) -> Sent
     ensures { λ r. ⌜ (r .open ≡ true → r .bytes ≡ length (decomposeText (now (file .entry)))) ⌝ }
 {
     let count = contents::line_count(cal, file);
-    let mut sent = output::nothing_sent();
+    let mut sent = streams::nothing_sent();
     let mut next: usize = 0;
     while next < count {
         let p = contents::print_lines(cal, file, next, out);
         next = p.next;
         sent = output::write_out(sent, file, out, p.length);
-        if !output::is_open(sent) {
+        if !streams::is_open(sent) {
             return sent;
         }
     }
@@ -69,7 +36,7 @@ fn write_refusal(refusal: u8, file: &[u8], out: &mut [u8]) -> Sent
     ensures { λ r. ⌜ (r .open ≡ true → r .bytes ≡ length (decomposeText (now (file .entry)))) ⌝ }
 {
     let n = printing::print_refusal(out, 0, refusal);
-    output::write_out(output::nothing_sent(), file, out, n)
+    output::write_out(streams::nothing_sent(), file, out, n)
 }
 
 // Writes the text of a file, or its refusal: as many bytes as the definition has, each as the next of it.
@@ -89,11 +56,10 @@ fn answer(file: &[u8]) -> Sent
 
 fn main() {
     let mut file = [0u8; 65537];
-    let input = read_all(&mut file);
-    if !input.whole {
-        os::fail(b"decompose: standard input");
+    let input = streams::read_input(b"decompose: standard input", &mut file);
+    if input.failed {
         return;
     }
-    let n = input.size;
+    let n = input.length;
     answer(&file[..n]);
 }

@@ -1,41 +1,5 @@
-// The number of blocks that is said beforehand, and the blocks.
-use libc::STDIN_FILENO;
+// The number of blocks that is said beforehand.
 ghost use Prim.Native.Nat.{_≤_};
-ghost use Rattle.io.specs.Counts.{Counts};
-
-// How many bytes were read, and whether a read failed.
-pub struct Read {
-    pub length: usize,
-    pub failed: bool,
-}
-
-// The next bytes of standard input at the start of a block: as many as it holds, fewer where the input ends before.
-pub(crate) fn read_block(block: &mut [u8]) -> Read
-    ensures { λ r. ⌜ Counts (r .length) (now (block .exit)) ⌝ }
-{
-    let mut n: usize = 0;
-    while n < block.len() {
-        let got = libc::read(STDIN_FILENO, &mut block[n..]);
-        if got < 0 {
-            return Read {
-                length: 0,
-                failed: true,
-            };
-        }
-        let more = io::count(got, &block[n..]);
-        if more == 0 {
-            return Read {
-                length: n,
-                failed: false,
-            };
-        }
-        n += more;
-    }
-    Read {
-        length: n,
-        failed: false,
-    }
-}
 
 fn wide(digit: u8) -> u16
     ensures { λ r. ⌜ r ≤ 255 ⌝ }

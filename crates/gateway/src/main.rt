@@ -3,43 +3,51 @@ mod input;
 mod output;
 
 use intake::Intake;
+use intake_texts::Ended;
+use libc::STDIN_FILENO;
+ghost use mathlib.Core.Path.{_≡_};
+ghost use Rattle.intake_texts.specs.Texts.{SomeInput, Reached, endedText};
 
-// Hands over the blocks of standard input as they are read, and prints the result. Of the 129 reads the last would bring one block too many.
-fn run(announced: Intake) -> bool {
+// Hands over the blocks of standard input as they are read: 128 of them at most, and the read after them brings the end or one block too many. A read that fails is told, and gets 1.
+fn read_blocks(number: u16, announced: Intake) -> Ended
+    requires { ⌜ Reached number announced × (announced .taken ≡ 0) ⌝ }
+    ensures { λ r. ⌜ SomeInput number (endedText r) ⌝ }
+{
     let mut block = [0u8; 512];
     let mut state = announced;
     let mut turns: u16 = 129;
     while 0 < turns {
-        let got = input::read_block(&mut block);
+        let got = streams::read_all(STDIN_FILENO, &mut block);
         if got.failed {
-            return output::refused(1);
+            output::tell_failure(true, true);
+            return intake_texts::refused(1);
         }
         let n = got.length;
         if n == 0 {
-            break;
+            return intake_texts::finished(state.finish());
         }
         let next = state.take(&block[..n]);
         if next.refusal != 0 {
-            return output::refused(next.refusal);
+            return intake_texts::refused(next.refusal);
         }
         state = next.state;
         turns -= 1;
     }
-    output::finished(state.finish())
+    intake_texts::refused(1)
 }
 
 // Announces the number of blocks; one that is refused is answered before any block is read.
-fn answer() -> bool {
-    let first = intake::announce(input::number_said());
+fn load(number: u16) -> Ended
+    ensures { λ r. ⌜ SomeInput number (endedText r) ⌝ }
+{
+    let first = intake::announce(number);
     if first.refusal != 0 {
-        return output::refused(first.refusal);
+        return intake_texts::refused(first.refusal);
     }
     let state = first.state;
-    run(state)
+    read_blocks(number, state)
 }
 
 fn main() {
-    if !answer() {
-        output::complain();
-    }
+    output::write_line(load(input::number_said()));
 }

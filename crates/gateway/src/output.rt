@@ -1,66 +1,112 @@
-// The line that is printed. Each of these answers whether standard output took it.
-use intake::Finished;
-use libc::STDERR_FILENO;
+// The line that is printed, piece by piece, and what is told on standard error. No buffer stands beside the block: `io::write_all`, which `os::fail` calls, has one of 4,096 bytes.
+use intake_texts::Ended;
+use libc::EIO;
+use libc::EISDIR;
+use libc::ENOSPC;
 use libc::STDOUT_FILENO;
+ghost use mathlib.Core.Path.{_≡_};
+ghost use mathlib.Core.Bool.{true};
+ghost use Prim.Native.Nat.{_+_};
+ghost use lib.ListN.{length};
+ghost use Rattle.printing.specs.Text.{decimal};
+ghost use Rattle.contents.specs.Whole.{NextOf};
+ghost use Rattle.intake_texts.specs.Texts.{endedText};
 
-// Writes all bytes of a text, without a buffer of its own.
-fn put(fd: i32, text: &[u8]) -> bool {
-    let mut n: usize = 0;
-    while n < text.len() {
-        let got = libc::write(fd, &text[n..]);
-        let more = io::count(got, &text[n..]);
-        if more == 0 {
+// Whether standard output has taken all that was handed to it, and how many bytes that is. Its fields are private: only this file makes one.
+pub struct Sent {
+    open: bool,
+    bytes: usize,
+}
+
+// Before the first write.
+fn nothing_sent() -> Sent
+    ensures { λ r. ⌜ r .bytes ≡ 0 ⌝ }
+{
+    Sent {
+        open: true,
+        bytes: 0,
+    }
+}
+
+// Tells the system's name of a reason.
+fn tell_reason(error: i32) {
+    if error == EIO {
+        streams::tell(b"EIO\n");
+    } else if error == EISDIR {
+        streams::tell(b"EISDIR\n");
+    } else if error == ENOSPC {
+        streams::tell(b"ENOSPC\n");
+    } else {
+        streams::tell(b"unknown\n");
+    }
+}
+
+// Tells that a read or a write failed, and why; a write of no bytes has no reason.
+pub(crate) fn tell_failure(reading: bool, failed: bool) {
+    let error = os::errno();
+    streams::tell(b"gateway: standard ");
+    if reading {
+        streams::tell(b"input: ");
+    } else {
+        streams::tell(b"output: ");
+    }
+    if failed {
+        tell_reason(error);
+    } else {
+        streams::tell(b"0 bytes\n");
+    }
+}
+
+// Writes all of bytes, and answers whether standard output took them. Where it did not, one line on standard error says why.
+fn put(bytes: &[u8]) -> bool {
+    let mut done: usize = 0;
+    while done < bytes.len() {
+        let part = streams::write_some(STDOUT_FILENO, &bytes[done..]);
+        if part.length == 0 {
+            tell_failure(false, part.failed);
             return false;
         }
-        n += more;
+        done += part.length;
     }
     true
 }
 
-fn put_number(n: u16) -> bool {
-    let mut digits = [0u8; 20];
-    let k = io::decimal(n as u64, &mut digits);
-    put(STDOUT_FILENO, &digits[..k])
+// Writes a piece, which has to be the next of the line after those before it. After a write that failed nothing more is written.
+fn write_piece(sent: Sent, e: Ended, piece: &[u8]) -> Sent
+    requires { ⌜ NextOf (endedText e) (sent .bytes) (now piece) ⌝ }
+    ensures { λ r. ⌜ (r .bytes ≡ sent .bytes + length (now (piece .entry))) × (r .open ≡ true → sent .open ≡ true) ⌝ }
+{
+    let bytes = sent.bytes + piece.len();
+    if !sent.open {
+        return Sent { open: false, bytes };
+    }
+    let open = put(piece);
+    Sent { open, bytes }
 }
 
-// `NO` and the number of the refusal.
-pub(crate) fn refused(number: u8) -> bool {
-    if !put(STDOUT_FILENO, b"NO ") {
-        return false;
-    }
-    if !put_number(number as u16) {
-        return false;
-    }
-    put(STDOUT_FILENO, b"\n")
+// Writes a number.
+fn write_number(sent: Sent, e: Ended, n: u16) -> Sent
+    requires { ⌜ NextOf (endedText e) (sent .bytes) (decimal n) ⌝ }
+    ensures { λ r. ⌜ r .bytes ≡ sent .bytes + length (decimal n) ⌝ }
+{
+    let digits = intake_texts::five_digits(n);
+    let from = 5 - intake_texts::digit_count(n);
+    write_piece(sent, e, &digits[from..])
 }
 
-// `OK` and the counts of years and of records.
-fn accepted(years: u16, records: u16) -> bool {
-    if !put(STDOUT_FILENO, b"OK ") {
-        return false;
+// Writes the line of what the run ended with, all of it.
+pub(crate) fn write_line(e: Ended) -> Sent
+    ensures { λ r. ⌜ r .bytes ≡ length (endedText e) ⌝ }
+{
+    let none = nothing_sent();
+    if e.refusal != 0 {
+        let word = write_piece(none, e, b"NO ");
+        let number = write_number(word, e, e.refusal as u16);
+        return write_piece(number, e, b"\n");
     }
-    if !put_number(years) {
-        return false;
-    }
-    if !put(STDOUT_FILENO, b" ") {
-        return false;
-    }
-    if !put_number(records) {
-        return false;
-    }
-    put(STDOUT_FILENO, b"\n")
-}
-
-// The result of the final call.
-pub(crate) fn finished(last: Finished) -> bool {
-    if last.refusal != 0 {
-        return refused(last.refusal);
-    }
-    let counts = last.counts;
-    accepted(counts.years, counts.records)
-}
-
-// Says on standard error that standard output did not take the line.
-pub(crate) fn complain() {
-    put(STDERR_FILENO, b"gateway: standard output: not written\n");
+    let word = write_piece(none, e, b"OK ");
+    let years = write_number(word, e, e.years);
+    let space = write_piece(years, e, b" ");
+    let records = write_number(space, e, e.records);
+    write_piece(records, e, b"\n")
 }

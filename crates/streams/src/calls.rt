@@ -58,7 +58,7 @@ pub fn read_some(fd: i32, part: &mut [u8]) -> Transfer
 }
 
 // One write of bytes, which may take only some of them.
-pub(crate) fn write_some(fd: i32, bytes: &[u8]) -> Transfer
+pub fn write_some(fd: i32, bytes: &[u8]) -> Transfer
     ensures { λ r. ⌜ Within r (now (bytes .entry)) ⌝ }
 {
     let mut tries: u64 = 18446744073709551615;

@@ -5,6 +5,7 @@ mod output;
 
 pub use calls::Transfer;
 pub use calls::read_some;
+pub use calls::write_some;
 pub use input::read_all;
 pub use input::read_file;
 pub use input::read_file_or_tell;

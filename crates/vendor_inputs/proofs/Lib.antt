@@ -1,3 +1,4 @@
 pub mod Texts
 pub mod Entries
 pub mod Going
+pub mod Lengths

@@ -1,3 +1,4 @@
+-- Every turn that does not end the loop leaves fewer bytes.
 use Prim.Native.Nat.{_-_, _≤_}
 use lib.ListN.{length}
 use borrow.Author.Needs.{needs}
@@ -5,43 +6,34 @@ use Rattle.gateway.proofs.output.put.Statement.{statement}
 use Rattle.gateway.proofs.output.put.Tie as tie
 
 abbrev Inv-loop : tie.InvT-loop
-Inv-loop fd text n₀ n = n ≤ length text
+Inv-loop bytes done₀ done = done ≤ length bytes
 
 abbrev μ-loop : tie.MeasureT-loop
-μ-loop fd text n₀ n = length text - n
+μ-loop bytes done₀ done = length bytes - done
 
 loop-holds : tie.Need-loop-holds Inv-loop μ-loop
 loop-holds c = search needs
 
-sub-write : tie.Need-sub-write Inv-loop μ-loop
-sub-write c = search needs
+sub-write-some : tie.Need-sub-write-some Inv-loop μ-loop
+sub-write-some c = search needs
 
-part-write-start : tie.Need-part-write-start Inv-loop μ-loop
-part-write-start c = search needs
+part-write-some-start : tie.Need-part-write-some-start Inv-loop μ-loop
+part-write-some-start c = search needs
 
-part-write-end : tie.Need-part-write-end Inv-loop μ-loop
-part-write-end c = search needs
+part-write-some-end : tie.Need-part-write-some-end Inv-loop μ-loop
+part-write-some-end c = search needs
 
-write-requires : tie.Need-write-requires Inv-loop μ-loop
-write-requires c κs = tt
+write-some-requires : tie.Need-write-some-requires Inv-loop μ-loop
+write-some-requires c κs = tt
 
-sub-count : tie.Need-sub-count Inv-loop μ-loop
-sub-count c = search needs
-
-part-count-start : tie.Need-part-count-start Inv-loop μ-loop
-part-count-start c = search needs
-
-part-count-end : tie.Need-part-count-end Inv-loop μ-loop
-part-count-end c = search needs
-
-count-requires : tie.Need-count-requires Inv-loop μ-loop
-count-requires c κs = tt
+tell-failure-requires : tie.Need-tell-failure-requires Inv-loop μ-loop
+tell-failure-requires c κs = tt
 
 returns : tie.Need-returns Inv-loop μ-loop
 returns c = search needs
 
-add-n : tie.Need-add-n Inv-loop μ-loop
-add-n c = search needs
+add-done : tie.Need-add-done Inv-loop μ-loop
+add-done c = search needs
 
 loop-less : tie.Need-loop-less Inv-loop μ-loop
 loop-less c = search needs
@@ -59,16 +51,13 @@ put-spec =
     Inv-loop
     μ-loop
     loop-holds
-    sub-write
-    part-write-start
-    part-write-end
-    write-requires
-    sub-count
-    part-count-start
-    part-count-end
-    count-requires
+    sub-write-some
+    part-write-some-start
+    part-write-some-end
+    write-some-requires
+    tell-failure-requires
     returns
-    add-n
+    add-done
     loop-less
     loop-again
     returns-2)

@@ -1,0 +1,35 @@
+-- The list has room, so the line holds the text of the input.
+use native.Mathlib.Omega.{arith}
+use Rattle.vendor_inputs.proofs.Lengths.{line-room, line-fits, line-is}
+use borrow.Author.Needs.{needs}
+use Rattle.confirm.proofs.answer.Statement.{statement}
+use Rattle.confirm.proofs.answer.Tie as tie
+
+confirm-line-requires : tie.Need-confirm-line-requires
+confirm-line-requires c κs = tt
+
+slice-aggregate-write-out : tie.Need-slice-aggregate-write-out
+slice-aggregate-write-out c = search needs
+
+write-out-requires : tie.Need-write-out-requires
+write-out-requires c κs =
+    let at-line = c .before .before .before .before in
+    let start = at-line .before .before .before .before .before in
+    let made = at-line .confirm-line .ensures in
+    (omega (arith, line-room _ _ _ (start .pre) _ made, line-fits _ _ _ (start .pre) _ made), line-is _ _ _ (start .pre) _ made)
+
+same-length : tie.Need-same-length
+same-length c = search needs
+
+returns : tie.Need-returns
+returns c = search needs
+
+pub answer-spec : {M : Type 1} → statement M
+answer-spec =
+    tie.close
+    (tie.spec
+    confirm-line-requires
+    slice-aggregate-write-out
+    write-out-requires
+    same-length
+    returns)

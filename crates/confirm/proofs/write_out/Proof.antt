@@ -1,0 +1,39 @@
+-- All bytes of the text are handed over, from the first write on.
+use mathlib.Core.Path.{sym, ap}
+use native.Mathlib.Omega.{arith}
+use lib.ListN.{length}
+use lib.Seq.{length-take-le}
+use Rattle.vendor_inputs.proofs.Lengths.{confirm-short}
+use borrow.Author.Needs.{needs}
+use Rattle.confirm.proofs.write_out.Statement.{statement}
+use Rattle.confirm.proofs.write_out.Tie as tie
+
+nothing-sent-requires : tie.Need-nothing-sent-requires
+nothing-sent-requires c κs = tt
+
+slice-aggregate-write-next : tie.Need-slice-aggregate-write-next
+slice-aggregate-write-next c = search needs
+
+slice-aggregate-write-next-2 : tie.Need-slice-aggregate-write-next-2
+slice-aggregate-write-next-2 c = sym (length-take-le _ _ (c .before .before .before .before .before .before .pre .0))
+
+write-next-requires : tie.Need-write-next-requires
+write-next-requires c κs = tt
+
+returns : tie.Need-returns
+returns c =
+    λ e.
+    let start = c .before .before .before .before .before .before .before in
+    let w = c .write-next .ensures e .1 in
+    let z = c .before .before .before .nothing-sent .ensures .1 in
+    omega (arith, w, z, ap length (start .pre .1), confirm-short (start .args .file .now) (start .args .input .now))
+
+pub write-out-spec : {M : Type 1} → statement M
+write-out-spec =
+    tie.close
+    (tie.spec
+    nothing-sent-requires
+    slice-aggregate-write-next
+    slice-aggregate-write-next-2
+    write-next-requires
+    returns)

@@ -1,0 +1,103 @@
+-- The line that is printed has fewer than 64 bytes, so a line of the code holds all of it.
+-- Assumes nothing.
+use mathlib.Core.Path.{_≡_, refl, sym, _∙_}
+use mathlib.Core.Bool.{Bool, true, false, _&&_, _||_, cond}
+use mathlib.Core.List.{List, [], _∷_, _++_}
+use Prim.Native.Nat.{ℕ, suc, _≤_, _<_}
+use native.Mathlib.Omega.{arith}
+use lib.Dec.{eqb, ltb}
+use lib.ListN.{length, take, length-append}
+use Rattle.questions.specs.Questions.{Answer}
+use Rattle.product.specs.declared.Kind.{Kind}
+use Rattle.product.specs.Fields.{isWeekly}
+use Rattle.printing.specs.Text.{inTwoDigits, inFourDigits, decimal, yearMonth, monthText, dayText, nameText}
+use Rattle.lines.specs.declared.Line.{Line}
+use Rattle.lines.specs.Lines.{emptyLine, fed, linesFrom}
+use Rattle.lines.proofs.Feeding.{fed-holds, fed-is}
+use Rattle.contents.specs.Contents.{LineWith}
+use Rattle.contents.proofs.Lengths.{decimal-short, day-long}
+use Rattle.vendor.specs.Vendor.{Judgement, vendorCall}
+use Rattle.vendor_lines.specs.declared.Reading.{Reading}
+use Rattle.vendor_lines.specs.Lines.{nothingRead, readLine}
+use Rattle.vendor_inputs.specs.Inputs.{yesText, differsText, refusedText, badText, judgedText, endText, entryNumbers, afterLine, linesText, confirmText}
+use Rattle.vendor_inputs.specs.Reading.{saidIn}
+use Rattle.vendor_inputs.proofs.Texts.{said-all}
+
+month-long : (key : ℕ) → length (monthText key) ≡ 7
+unfolding monthText yearMonth inFourDigits inTwoDigits
+month-long key = refl
+
+name-short : (kind : Kind) (key : ℕ) → length (nameText kind key) ≤ 10
+unfolding nameText
+name-short kind key = go (isWeekly kind)
+  where
+    go : (b : Bool) → length (cond b (dayText key) (monthText key)) ≤ 10
+    go true = omega (arith, day-long key)
+    go false = omega (arith, month-long key)
+
+differs-short : (kind : Kind) (key : ℕ) → length (differsText kind key) < 64
+unfolding differsText
+differs-short kind key = omega (arith, length-append (nameText kind key) (10 ∷ []), name-short kind key)
+
+refused-short : (n : ℕ) → length (refusedText n) < 64
+unfolding refusedText
+refused-short n = omega (arith, length-append (decimal n) (10 ∷ []), decimal-short n)
+
+bad-short : (n : ℕ) → length (badText n) < 64
+unfolding badText
+bad-short n = omega (arith, length-append (decimal n) (10 ∷ []), decimal-short n)
+
+judged-short : (kind : Kind) (a : Answer Judgement) → length (judgedText kind a) < 64
+unfolding judgedText
+judged-short kind a = go (eqb (a .refusal) 0) (a .value .same)
+  where
+    go : (b s : Bool) → length (cond b (cond s yesText (differsText kind (a .value .key))) (refusedText (a .refusal))) < 64
+    go true true = omega arith
+    go true false = differs-short kind (a .value .key)
+    go false s = refused-short (a .refusal)
+
+end-short : (s : Reading) (list : List ℕ) → length (endText s list) < 64
+unfolding endText
+end-short s list = go (s .opened)
+  where
+    go : (b : Bool) → length (cond b (judgedText (s .table .product .kind) (vendorCall (s .table) list)) (badText 1)) < 64
+    go true = judged-short (s .table .product .kind) (vendorCall (s .table) list)
+    go false = bad-short 1
+
+after-short : (s : Reading) (cut : Bool) (n : ℕ) (rest : List ℕ) → length rest < 64 → length (afterLine s cut n rest) < 64
+unfolding afterLine
+after-short s cut n rest h = go (s .bad || cut) (eqb (s .refusal) 0)
+  where
+    go : (b z : Bool) → length (cond b (badText n) (cond z rest (refusedText (s .refusal)))) < 64
+    go true z = bad-short n
+    go false true = h
+    go false false = refused-short (s .refusal)
+
+lines-short : (long : Bool) (file : List ℕ) (n : ℕ) (s : Reading) (list : List ℕ) (lines : List (List ℕ)) → length (linesText long file n s list lines) < 64
+unfolding linesText
+lines-short long file n s list [] = end-short s list
+lines-short long file n s list (line ∷ lines) =
+    after-short (readLine file s line) (long && eqb (length lines) 0) (suc n)
+    (linesText long file (suc n) (readLine file s line) (list ++ entryNumbers (readLine file s line .entry)) lines)
+    (lines-short long file (suc n) (readLine file s line) (list ++ entryNumbers (readLine file s line .entry)) lines)
+
+pub confirm-short : (file input : List ℕ) → length (confirmText file input) < 64
+unfolding confirmText
+confirm-short file input = lines-short (ltb 65536 (length input)) file 0 nothingRead [] (linesFrom [] (take 65537 input))
+
+-- a line with what is said, with room for the listing
+module _ (file input : List ℕ) (places : ℕ) (h : 6900 ≤ places) (l : Line) (made : LineWith emptyLine (saidIn places file input) l) where
+  e : l ≡ fed emptyLine (confirmText file input)
+  e = rw (← said-all places file input h) at (made .is)
+
+  pub line-room : length (l .bytes) ≡ 64
+  line-room = rw e (fed-holds (confirmText file input) .room)
+
+  pub line-length : l .length ≡ length (confirmText file input)
+  line-length = rw e (fed-is (confirmText file input) (confirm-short file input) .0)
+
+  pub line-fits : l .length ≤ 64
+  line-fits = omega (arith, line-length, confirm-short file input)
+
+  pub line-is : take (l .length) (l .bytes) ≡ confirmText file input
+  line-is = rw e (fed-is (confirmText file input) (confirm-short file input) .1)
