@@ -103,7 +103,7 @@ class Answers(unittest.TestCase):
         for arguments, file in ((['6'], cases.six()), (['6'], b''), (['1'], b'')):
             with open('/dev/full', 'wb') as full:
                 ran = subprocess.run([PROGRAM, *arguments], input=file, stdout=full, stderr=subprocess.PIPE)
-            self.assertEqual((ran.returncode, ran.stderr), (0, b'gateway: standard output: not written\n'))
+            self.assertEqual((ran.returncode, ran.stderr), (0, b'gateway: standard output: ENOSPC\n'))
 
 
 class Reads(faults.FailingReads):
@@ -116,11 +116,12 @@ class Reads(faults.FailingReads):
             held = {**os.environ, 'LD_PRELOAD': self.library, 'FAULT_FILE': source.name, **words}
             return run(['6'], source, env=held)
 
-    # A read that fails gets 1, wherever it is, also where the end should be found.
+    # A read that fails gets 1, wherever it is, also where the end should be found, and is told.
     def test_failed_reads(self):
         for at in (0, 1, 511, 512, 3071, 3072):
             for ends in ('0', '1'):
-                self.assertEqual(self.printed(FAULT_AT=str(at), FAULT_ENDS=ends), ('NO 1\n', b''), (at, ends))
+                self.assertEqual(self.printed(FAULT_AT=str(at), FAULT_ENDS=ends),
+                                 ('NO 1\n', b'gateway: standard input: EIO\n'), (at, ends))
 
     def test_short_reads(self):
         for most in ('1', '511', '512'):
