@@ -38,7 +38,8 @@ without-mark : (part : List ℕ) (mark : ℕ) → mark ≡ markLength part → t
 unfolding unmarked
 without-mark part mark m = take-all (length part - mark) (drop mark part) (omega (arith, length-drop mark part)) ∙ ap (λ (n : ℕ). drop n part) m
 
-pub first-handed : (of : List ℕ → Standing) (line : LongLine) (n : ℕ) (part : List ℕ) (mark k : ℕ) (l : LongLine) (m : ℕ) → line ≡ emptyLong → n ≡ 0 → mark ≡ markLength part
+pub first-handed : (of : List ℕ → Standing) (line : LongLine) (n : ℕ) (part : List ℕ) (mark k : ℕ) (l : LongLine) (m : ℕ) → line ≡ emptyLong → n ≡ 0
+    → mark ≡ markLength part
     → Handed of 1 line (take (length part - mark) (drop mark part)) n k l [] m → Handed of 1 emptyLong (unmarked part) 0 k l [] m
 first-handed of line n part mark k l m e z q h = rw (e, z, without-mark part mark q) at h
 

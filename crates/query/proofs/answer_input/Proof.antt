@@ -55,13 +55,34 @@ same-length-2 : tie.Need-same-length-2
 same-length-2 c = search needs
 
 returns-2 : tie.Need-returns-2
-returns-2 c = λ e. came-short _ _ _ _ _ _ (c .before .before .before .before .before .before .before .before .before .before .before .before .before .write-first .ensures (sym (c .before .before .before .before .before .before .before .before .before .is-open .ensures) ∙ neither (c .before .before .before .before .before .before .before .before .before .before .before .before .before .before .before .before .before .before .read-first .result .failed) (c .before .before .before .before .before .before .before .before .before .is-open .result) (c .before .before .before .before .before .before .before .if1 .left))) (c .before .before .before .write-last .ensures e)
+returns-2 c = λ e.
+    let at-write-last = c .before .before .before in
+    let at-if1 = at-write-last .before .before .before .before in
+    let at-is-open = at-if1 .before .before in
+    let at-write-first = at-is-open .before .before .before .before in
+    let at-read-first = at-write-first .before .before .before .before .before in
+    came-short _ _ _ _ _ _
+    (at-write-first .write-first .ensures
+    (sym (at-is-open .is-open .ensures) ∙ neither (at-read-first .read-first .result .failed) (at-is-open .is-open .result)
+    (at-if1 .if1 .left))) (at-write-last .write-last .ensures e)
 
 slice-aggregate-write-rest : tie.Need-slice-aggregate-write-rest
 slice-aggregate-write-rest c = search needs
 
 write-rest-requires : tie.Need-write-rest-requires
-write-rest-requires c κs = (omega (arith, c .before .before .before .before .before .before .out2 .given), omega arith, came-first _ _ _ _ _ (three _ _ (c .before .before .if2 .left) (c .before .before .before .before .before .before .before .before .before .before .before .before .before .before .read-first .ensures)) (c .before .before .before .before .before .before .before .before .before .write-first .ensures (sym (c .before .before .before .before .before .is-open .ensures) ∙ neither (c .before .before .before .before .before .before .before .before .before .before .before .before .before .before .read-first .result .failed) (c .before .before .before .before .before .is-open .result) (c .before .before .before .if1 .left))))
+write-rest-requires c κs =
+    let at-if2 = c .before .before in
+    let at-if1 = at-if2 .before in
+    let at-is-open = at-if1 .before .before in
+    let at-out2 = at-is-open .before in
+    let at-write-first = at-out2 .before .before .before in
+    let at-read-first = at-write-first .before .before .before .before .before in (
+      omega (arith, at-out2 .out2 .given),
+      omega arith,
+      came-first _ _ _ _ _ (three _ _ (at-if2 .if2 .left) (at-read-first .read-first .ensures))
+          (at-write-first .write-first .ensures
+          (sym (at-is-open .is-open .ensures) ∙ neither (at-read-first .read-first .result .failed) (at-is-open .is-open .result) (at-if1 .if1 .left))),
+    )
 
 same-length-3 : tie.Need-same-length-3
 same-length-3 c = search needs

@@ -13,7 +13,12 @@ bad-line-requires : tie.Need-bad-line-requires
 bad-line-requires c κs = tt
 
 tell-requires : tie.Need-tell-requires
-tell-requires c κs = line-told _ _ _ _ _ _ _ _ (c .before .before .before .before .before .before .before .read-notices .ensures) (c .before .before .before .before .before .before .before .before .before .before .before .before .before .before .before .pre .0) (c .before .before .before .before .before .before .before .before .before .before .before .before .before .before .before .pre .1) (c .before .before .before .before .before .before .before .before .before .before .before .before .before .before .before .pre .2) (c .before .before .before .before .before .before .before .before .before .before .before .before .before .before .before .pre .3) _ (c .before .if1 .taken) (c .bad-line .ensures)
+tell-requires c κs =
+    let at-if1 = c .before in
+    let at-read-notices = at-if1 .before .before .before .before .before .before in
+    let start = at-read-notices .before .before .before .before .before .before .before .before in
+    line-told _ _ _ _ _ _ _ _ (at-read-notices .read-notices .ensures) (start .pre .0) (start .pre .1) (start .pre .2) (start .pre .3) _
+    (at-if1 .if1 .taken) (c .bad-line .ensures)
 
 nothing-answered-requires : tie.Need-nothing-answered-requires
 nothing-answered-requires c κs = tt
@@ -40,7 +45,13 @@ same-length-5 : tie.Need-same-length-5
 same-length-5 c = search needs
 
 returns-2 : tie.Need-returns-2
-returns-2 c = λ e. all-answered _ _ _ _ _ _ _ _ (c .before .before .before .before .before .before .before .before .before .before .before .before .read-notices .ensures) (c .before .before .before .before .before .before .before .before .before .before .before .before .before .before .before .before .before .before .before .before .pre .0) (c .before .before .before .before .before .before .before .before .before .before .before .before .before .before .before .before .before .before .before .before .pre .1) (c .before .before .before .before .before .before .before .before .before .before .before .before .before .before .before .before .before .before .before .before .pre .2) (c .before .before .before .before .before .before .before .before .before .before .before .before .before .before .before .before .before .before .before .before .pre .3) (c .before .before .before .before .before .before .if1 .left) _ _ (c .before .before .before .before .before .before .before .before .before .before .before .before .before .before .before .before .before .before .before .before .pre .4) (c .before .before .answer-input .ensures e)
+returns-2 c = λ e.
+    let at-answer-input = c .before .before in
+    let at-if1 = at-answer-input .before .before .before .before in
+    let at-read-notices = at-if1 .before .before .before .before .before .before in
+    let start = at-read-notices .before .before .before .before .before .before .before .before in
+    all-answered _ _ _ _ _ _ _ _ (at-read-notices .read-notices .ensures) (start .pre .0) (start .pre .1) (start .pre .2) (start .pre .3)
+    (at-if1 .if1 .left) _ _ (start .pre .4) (at-answer-input .answer-input .ensures e)
 
 pub answer-notices-spec : {M : Type 1} → statement M
 answer-notices-spec =

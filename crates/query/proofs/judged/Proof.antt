@@ -43,7 +43,11 @@ slice-aggregate-answer-notices : tie.Need-slice-aggregate-answer-notices
 slice-aggregate-answer-notices c = sym (length-take-le _ _ (c .before .before .before .before .read-file-or-tell .ensures .0 .0))
 
 answer-notices-requires : tie.Need-answer-notices-requires
-answer-notices-requires c κs = (c .before .before .before .before .before .before .before .before .before .before .before .before .before .judge .ensures, c .before .before .before .before .before .before .before .before .before .before .before .if1 .left, c .before .before .before .before .before .before .before .before .before .before .before .before .before .before .before .before .before .before .before .pre .0, c .before .before .before .before .before .before .before .before .before .before .before .before .before .before .before .before .before .before .before .pre .1, c .before .before .before .before .before .before .before .before .before .before .before .before .before .before .before .before .before .before .before .pre .2)
+answer-notices-requires c κs =
+    let at-if1 = c .before .before .before .before .before .before .before .before .before .before .before in
+    let at-judge = at-if1 .before .before in
+    let start = at-judge .before .before .before .before .before .before in
+    (at-judge .judge .ensures, at-if1 .if1 .left, start .pre .0, start .pre .1, start .pre .2)
 
 same-length-3 : tie.Need-same-length-3
 same-length-3 c = search needs

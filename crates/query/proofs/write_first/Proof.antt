@@ -24,7 +24,9 @@ part-write-part-end : tie.Need-part-write-part-end
 part-write-part-end c = omega (arith, c .before .mark-length .ensures .1)
 
 write-part-requires : tie.Need-write-part-requires
-write-part-requires c κs = (c .before .before .before .before .before .before .before .before .before .before .before .before .pre .0, c .before .before .before .before .before .before .before .before .before .before .before .before .pre .1)
+write-part-requires c κs =
+    let start = c .before .before .before .before .before .before .before .before .before .before .before .before in
+    (start .pre .0, start .pre .1)
 
 same-length : tie.Need-same-length
 same-length c = search needs
@@ -33,7 +35,13 @@ same-length-2 : tie.Need-same-length-2
 same-length-2 c = search needs
 
 returns : tie.Need-returns
-returns c = λ e. first-handed _ _ _ _ _ _ _ _ (c .before .before .before .before .before .before .before .before .before .before .empty-line .ensures) (c .before .before .before .before .before .before .before .before .before .nothing-sent .ensures .1) (c .before .before .before .before .before .before .before .before .mark-length .ensures .0) (c .before .before .before .before .write-part .ensures e)
+returns c = λ e.
+    let at-write-part = c .before .before .before .before in
+    let at-mark-length = at-write-part .before .before .before .before in
+    let at-nothing-sent = at-mark-length .before in
+    let at-empty-line = at-nothing-sent .before in
+    first-handed _ _ _ _ _ _ _ _ (at-empty-line .empty-line .ensures) (at-nothing-sent .nothing-sent .ensures .1)
+    (at-mark-length .mark-length .ensures .0) (at-write-part .write-part .ensures e)
 
 pub write-first-spec : {M : Type 1} → statement M
 write-first-spec =

@@ -11,7 +11,11 @@ answer-last-requires : tie.Need-answer-last-requires
 answer-last-requires c κs = tt
 
 write-out-requires : tie.Need-write-out-requires
-write-out-requires c κs = let a = rw (c .before .before .before .before .before .before .before .before .before .before .before .before .before .before .pre .1) at (c .before .before .before .before .before .answer-last .ensures) in (omega (arith, a .fits), last (a .text (c .before .before .before .before .before .before .before .before .before .before .before .before .before .before .pre .0)))
+write-out-requires c κs =
+    let at-answer-last = c .before .before .before .before .before in
+    let start = at-answer-last .before .before .before .before .before .before .before .before .before in
+    let a = rw (start .pre .1) at (at-answer-last .answer-last .ensures) in
+    (omega (arith, a .fits), last (a .text (start .pre .0)))
 
 is-open-requires : tie.Need-is-open-requires
 is-open-requires c κs = tt
@@ -23,7 +27,12 @@ same-length-2 : tie.Need-same-length-2
 same-length-2 c = search needs
 
 returns : tie.Need-returns
-returns c = λ e. let a = rw (c .before .before .before .before .before .before .before .before .before .before .before .before .before .before .before .before .pre .1) at (c .before .before .before .before .before .before .before .answer-last .ensures) in last-count _ _ _ _ _ _ _ _ (c .before .before .before .before .before .before .before .before .before .before .before .before .before .before .before .before .pre .0) a (c .before .write-out .ensures (sym (c .is-open .ensures) ∙ e))
+returns c = λ e.
+    let at-write-out = c .before in
+    let at-answer-last = at-write-out .before .before .before .before .before .before in
+    let start = at-answer-last .before .before .before .before .before .before .before .before .before in
+    let a = rw (start .pre .1) at (at-answer-last .answer-last .ensures) in
+    last-count _ _ _ _ _ _ _ _ (start .pre .0) a (at-write-out .write-out .ensures (sym (c .is-open .ensures) ∙ e))
 
 pub write-last-spec : {M : Type 1} → statement M
 write-last-spec =

@@ -21,34 +21,77 @@ abbrev μ-loop : tie.MeasureT-loop
 μ-loop file judged t calls ids refusals₀ room part out₀ number line sent₀ s₀ refusals out sent s = length part - s .at
 
 loop-holds : tie.Need-loop-holds Inv-loop μ-loop
-loop-holds c = (c .before .before .before .before .before .before .before .before .pre .0, refl, c .before .before .before .before .before .before .before .before .pre .1, handed-none _ _ _ _ _ (search needs))
+loop-holds c = (
+  c .before .before .before .before .before .before .before .before .pre .0,
+  refl,
+  c .before .before .before .before .before .before .before
+      .before .pre .1,
+  handed-none _ _ _ _ _ (search needs),
+)
 
 answer-part-requires : tie.Need-answer-part-requires Inv-loop μ-loop
 answer-part-requires c κs = tt
 
 write-out-requires : tie.Need-write-out-requires Inv-loop μ-loop
-write-out-requires c κs = let a = rw (c .before .before .before .before .before .before .before .before .before .before .loop .inv .2) at (c .before .before .before .before .before .answer-part .ensures) in (a .fits, answers (a .text))
+write-out-requires c κs =
+    let a = rw (c .before .before .before .before .before .before .before .before .before .before .loop .inv .2) at (c .before .before .before
+    .before .before .answer-part .ensures) in (a .fits, answers (a .text))
 
 is-open-requires : tie.Need-is-open-requires Inv-loop μ-loop
 is-open-requires c κs = tt
 
 same-length : tie.Need-same-length Inv-loop μ-loop
-same-length c = omega (arith, c .before .before .before .before .before .before .before .before .before .before .before .before .before .loop .inv .2, c .before .before .before .before .before .before .before .before .before .before .before .before .before .before .before .before .before .before .before .before .before .before .pre .1)
+same-length c =
+    omega (
+      arith,
+      c .before .before .before .before .before .before .before .before .before .before .before .before .before .loop .inv .2,
+      c
+          .before .before .before .before .before .before .before .before .before .before .before .before .before .before .before .before .before
+          .before .before .before .before .before .pre .1,
+    )
 
 same-length-2 : tie.Need-same-length-2 Inv-loop μ-loop
-same-length-2 c = omega (arith, c .before .before .before .before .before .before .before .before .answer-part .ensures .long, c .before .before .before .before .before .before .before .before .before .before .before .before .before .loop .inv .1)
+same-length-2 c =
+    omega (
+      arith,
+      c .before .before .before .before .before .before .before .before .answer-part .ensures .long,
+      c .before .before .before
+          .before .before .before .before .before .before .before .before .before .before .loop .inv .1,
+    )
 
 returns : tie.Need-returns Inv-loop μ-loop
 returns c = λ e. absurd (true≢false (sym e ∙ said-no (c .before .is-open .ensures) (c .if2 .taken)))
 
 loop-less : tie.Need-loop-less Inv-loop μ-loop
-loop-less c = let v = c .before .before .before .before .before .before .before .before .before .before .before .before .before .loop .inv in omega (arith, c .before .before .before .before .before .before .before .before .before .before .before .if1 .taken, c .before .before .before .before .before .before .before .before .answer-part .ensures .moves (omega (arith, v .0, v .1)) (c .before .before .before .before .before .before .before .before .before .before .before .if1 .taken))
+loop-less c =
+    let v = c .before .before .before .before .before .before .before .before .before .before .before .before .before .loop .inv in omega (
+      arith,
+      c .before .before .before .before .before .before .before .before .before .before .before .if1 .taken,
+      c .before .before .before .before
+          .before .before .before .before .answer-part .ensures .moves (omega (arith, v .0, v .1)) (c .before .before .before .before .before .before
+          .before .before .before .before .before .if1 .taken),
+    )
 
 loop-again : tie.Need-loop-again Inv-loop μ-loop
-loop-again c = let v = c .before .before .before .before .before .before .before .before .before .before .before .before .before .loop .inv in let a = rw (v .2) at (c .before .before .before .before .before .before .before .before .answer-part .ensures) in let w = c .before .before .write-out .ensures (said-yes (c .before .is-open .ensures) (c .if2 .left)) in (v .0, a .long ∙ v .1, omega (arith, v .2), handed-more _ _ _ _ _ _ _ _ _ _ _ _ _ (v .3) a w)
+loop-again c =
+    let v = c .before .before .before .before .before .before .before .before .before .before .before .before .before .loop .inv in let a = rw (v
+    .2) at (c .before .before .before .before .before .before .before .before .answer-part .ensures) in let w = c .before .before .write-out
+    .ensures (said-yes (c .before .is-open .ensures) (c .if2 .left)) in (
+      v .0,
+      a .long ∙ v .1,
+      omega (arith, v .2),
+      handed-more _ _ _ _ _ _ _ _
+          _ _ _ _ _ (v .3) a w,
+    )
 
 same-length-3 : tie.Need-same-length-3 Inv-loop μ-loop
-same-length-3 c = omega (arith, c .before .before .before .loop .inv .2, c .before .before .before .before .before .before .before .before .before .before .before .before .pre .1)
+same-length-3 c =
+    omega (
+      arith,
+      c .before .before .before .loop .inv .2,
+      c .before .before .before .before .before .before .before .before .before .before
+          .before .before .pre .1,
+    )
 
 same-length-4 : tie.Need-same-length-4 Inv-loop μ-loop
 same-length-4 c = c .before .before .before .loop .inv .1

@@ -9,10 +9,16 @@ use Rattle.query.proofs.output.tell.Statement.{statement}
 use Rattle.query.proofs.output.tell.Tie as tie
 
 array-share-prefix-bytes : tie.Need-array-share-prefix-bytes
-array-share-prefix-bytes c = let f = told-fits (queryTold (c .before .before .before .args .file .now) (c .before .before .before .args .text .now)) (c .before .before .before .args .line) (c .before .before .before .pre) in omega (arith, f .0, f .1)
+array-share-prefix-bytes c =
+    let start = c .before .before .before in
+    let f = told-fits (queryTold (start .args .file .now) (start .args .text .now)) (start .args .line) (start .pre) in
+    omega (arith, f .0, f .1)
 
 slice-aggregate-tell : tie.Need-slice-aggregate-tell
-slice-aggregate-tell c = let f = told-fits (queryTold (c .before .before .before .before .args .file .now) (c .before .before .before .before .args .text .now)) (c .before .before .before .before .args .line) (c .before .before .before .before .pre) in sym (length-take-le (c .before .before .before .before .args .line .length) (c .before .before .before .before .args .line .bytes) (omega (arith, f .0, f .1)))
+slice-aggregate-tell c =
+    let start = c .before .before .before .before in
+    let f = told-fits (queryTold (start .args .file .now) (start .args .text .now)) (start .args .line) (start .pre) in
+    sym (length-take-le (start .args .line .length) (start .args .line .bytes) (omega (arith, f .0, f .1)))
 
 tell-requires : tie.Need-tell-requires
 tell-requires c κs = tt

@@ -16,7 +16,10 @@ write-next-requires : tie.Need-write-next-requires
 write-next-requires c κs = tt
 
 returns : tie.Need-returns
-returns c = λ e. c .write-next .ensures e .1 ∙ ap (counted (c .before .before .before .before .before .before .before .before .args .sent .bytes)) (length-take-le (c .before .before .before .before .before .before .before .before .args .to .length) (c .before .before .before .before .before .before .before .before .args .out .now) (c .before .before .before .before .before .before .before .before .pre .0))
+returns c = λ e.
+    let start = c .before .before .before .before .before .before .before .before in
+    c .write-next .ensures e .1 ∙ ap (counted (start .args .sent .bytes))
+    (length-take-le (start .args .to .length) (start .args .out .now) (start .pre .0))
 
 pub write-out-spec : {M : Type 1} → statement M
 write-out-spec =
