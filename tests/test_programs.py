@@ -7,10 +7,13 @@ read. What is expected is the second program's. Run `rt check compose decompose 
 gateway` first, which builds target/bin.
 """
 
+import array
+import fcntl
 import os
 import subprocess
 import sys
 import tempfile
+import termios
 import time
 import unittest
 
@@ -23,9 +26,18 @@ from second import confirm, intake, lists, master  # noqa: E402
 
 BIN = os.path.join(os.path.dirname(TESTS), 'target', 'bin')
 SECONDS = 20
-PAUSE = 0.2  # long enough for the program to read what the first write brought
 
 FIRST = b'O AXA 2008-03-20\n'
+
+
+# Waits until nothing is left in a pipe to read.
+def wait_until_read(pipe):
+    end = time.monotonic() + SECONDS
+    left = array.array('i', [1])
+    while left[0]:
+        assert time.monotonic() < end, 'the program does not read'
+        time.sleep(0.01)
+        fcntl.ioctl(pipe, termios.FIONREAD, left)
 
 
 # A run of a program on an input that arrives in some writes: what it wrote to standard
@@ -40,7 +52,7 @@ def run(words, *writes, file=None):
         for data in writes[:-1]:
             child.stdin.write(data)
             child.stdin.flush()
-            time.sleep(PAUSE)
+            wait_until_read(child.stdin)
         answer = child.communicate(writes[-1], timeout=SECONDS)
         assert child.returncode == 0, child.returncode
         return answer
