@@ -5,3 +5,6 @@ pub mod ProductLines
 pub mod Telling
 pub mod Text
 pub mod FileText
+pub mod Records
+pub mod Days
+pub mod Again

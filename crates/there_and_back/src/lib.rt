@@ -1,1 +1,1 @@
-// Definitions and laws only: what `deliver` prints, read back and compared with the tables of the same notices.
+// Definitions and laws only: what `decompose` prints of a file, read again as `compose` reads a text.

@@ -1,0 +1,76 @@
+-- The text of an accepted file says that file's calendar and records again; and so does what is printed of a file that a text gave.
+-- Assumes nothing.
+use mathlib.Core.Path.{_≡_, refl, sym, ap, _∙_}
+use mathlib.Core.List.{List}
+use mathlib.Core.Bool.{true}
+use Prim.Native.Nat.{ℕ, _≤_}
+use Rattle.questions.specs.Questions.{firstNo, Answer, answer}
+use Rattle.calendar.specs.declared.Calendar.{Calendar}
+use Rattle.calendar.specs.Trading.{closedOn, inSecondMap}
+use Rattle.ids.specs.Ids.{placeCount}
+use Rattle.years.specs.Calendars.{calendarOf}
+use Rattle.master.specs.declared.Counts.{Counts}
+use Rattle.master.specs.Load.{loadAsks, loadCall, Accepted}
+use Rattle.master.proofs.Answers.{load-accepted}
+use Rattle.master.proofs.Accepting.{accepted-file}
+use Rattle.drafts.specs.Drafts.{fileOf, writeAsks}
+use Rattle.writing.specs.Theorems.{areBytes, recordsOf, Holds}
+use Rattle.writing.proofs.Holding.{holds}
+use Rattle.contents.specs.Contents.{coverDays, lineCount, linesText}
+use Rattle.contents.specs.Whole.{decomposeText}
+use Rattle.lists.specs.Lists.{Content, contentOf}
+use Rattle.there_and_back.specs.Again.{SaysAgain}
+use Rattle.there_and_back.proofs.Telling.{Says}
+use Rattle.there_and_back.proofs.FileText.{calendarTold, recordsTold, told-cover, told-text}
+use Rattle.there_and_back.proofs.Records.{records-told}
+use Rattle.there_and_back.proofs.Days.{days-told, second-told}
+
+-- what is printed of an accepted file is its text
+text-is : (f : List ℕ) → firstNo (loadAsks f) ≡ 0 → decomposeText f ≡ linesText (calendarOf f) f (lineCount (calendarOf f) f)
+unfolding decomposeText
+text-is f e = rw (load-accepted f e) refl
+
+-- what is said by days and records
+from-says : (room : ℕ) (text : List ℕ) (told cal : Calendar) (records : List ℕ) → Says (contentOf room text) told records → told .cover ≡ cal .cover
+    → ((d : ℕ) → closedOn told d ≡ closedOn cal d) → ((d : ℕ) → inSecondMap told d ≡ inSecondMap cal d) → SaysAgain room text cal records
+from-says room text told cal records s c days second =
+    record {
+      good = s .good;
+      cover = ap (λ (x : Calendar). x .cover) (s .calendar) ∙ c;
+      closed-days = λ d. ap (λ (x : Calendar). closedOn x d) (s .calendar) ∙ days d;
+      second-days = λ d. ap (λ (x : Calendar). inSecondMap x d) (s .calendar) ∙ second d;
+      records-said = s .records-are;
+    }
+
+-- the text of an accepted file of bytes says that file's calendar and records
+pub file-again : (room : ℕ) → 61440 ≤ room → (f : List ℕ) → areBytes f ≡ true → firstNo (loadAsks f) ≡ 0 → SaysAgain room (decomposeText f) (calendarOf f) (recordsOf f)
+file-again room enough f bytes e =
+    let a = accepted-file f e in
+    rw (text-is f e, ← records-told f e)
+    (from-says room (linesText (calendarOf f) f (lineCount (calendarOf f) f)) (calendarTold (calendarOf f) (coverDays (calendarOf f .cover))) (calendarOf f) (recordsTold f (placeCount f))
+    (told-text f bytes e room enough) (told-cover (calendarOf f) (coverDays (calendarOf f .cover)))
+    (days-told (calendarOf f) (a .cover) (a .closures)) (second-told (calendarOf f) (a .cover) (a .closures)))
+
+-- a file that was written is accepted
+asked : (f : List ℕ) → loadCall f .refusal ≡ firstNo (loadAsks f)
+unfolding loadCall answer
+asked f = refl
+
+-- 'for every text that `compose` accepts, what `decompose` prints of it says the same calendar and records': of the file that it makes
+pub text-again : (room : ℕ) → 61440 ≤ room → (text : List ℕ) (space : ℕ)
+    → firstNo (writeAsks (contentOf room text .calendar) (contentOf room text .records) space) ≡ 0
+    → areBytes (fileOf (contentOf room text .calendar) (contentOf room text .records)) ≡ true
+    → SaysAgain room (decomposeText (fileOf (contentOf room text .calendar) (contentOf room text .records))) (contentOf room text .calendar) (contentOf room text .records)
+text-again room enough text space e bytes =
+    let cal = contentOf room text .calendar in
+    let records = contentOf room text .records in
+    let h : Holds cal records = holds cal records space e in
+    let n : firstNo (loadAsks (fileOf cal records)) ≡ 0 = sym (asked (fileOf cal records)) ∙ ap (λ (x : Answer Counts). x .refusal) (h .loads) in
+    let s = file-again room enough (fileOf cal records) bytes n in
+    record {
+      good = s .good;
+      cover = s .cover ∙ h .cover;
+      closed-days = λ d. s .closed-days d ∙ h .closed-days d;
+      second-days = λ d. s .second-days d ∙ h .second-days d;
+      records-said = s .records-said ∙ h .records-held;
+    }
