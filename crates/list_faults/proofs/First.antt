@@ -30,7 +30,8 @@ module _ (e : Entry) (comment : e .letter ≡ 35) where
 
   pub comment-stays : (s : Faults) (line : ℕ) → faultsAfter s line e ≡ s
   unfolding faultsAfter idAfter
-  comment-stays s line = rw (fault-stays 5 (s .five) (s .last) line, fault-stays 7 (s .seven) (s .last) line, fault-stays 8 (s .eight) (s .last) line, comment) refl
+  comment-stays s line =
+      rw (fault-stays 5 (s .five) (s .last) line, fault-stays 7 (s .seven) (s .last) line, fault-stays 8 (s .eight) (s .last) line, comment) refl
 
 -- each line has a number
 unfoldable pub allNumbered : List Numbered → Type 0
@@ -52,17 +53,20 @@ module _ (question : ℕ) (before : List ℕ) (line : ℕ) (e : Entry) where
   not-found a = rw a refl
 
 -- a question whose fault is kept
-module _ (question : ℕ) (step : (s : Faults) (line : ℕ) (e : Entry) → faultKept (faultsAfter s line e) question ≡ faultAfter question (faultKept s question) (s .last) line e) where
+module _ (question : ℕ)
+    (step : (s : Faults) (line : ℕ) (e : Entry) → faultKept (faultsAfter s line e) question ≡ faultAfter question (faultKept s question) (s .last) line e) where
   -- one that is there stays
   stays : (s : Faults) (ls : List Numbered) → (faultKept s question .line ≡ 0 → ⊥) → faultKept (faultsOver s ls) question ≡ faultKept s question
   unfolding faultsOver
   stays s [] n = refl
   stays s (l ∷ ls) n =
-      let same : faultKept (faultsAfter s (l .line) (l .entry)) question ≡ faultKept s question = step s (l .line) (l .entry) ∙ kept question (s .last) (l .line) (l .entry) (faultKept s question) n in
+      let same : faultKept (faultsAfter s (l .line) (l .entry)) question ≡ faultKept s question = step s (l .line) (l .entry) ∙ kept question (s .last)
+      (l .line) (l .entry) (faultKept s question) n in
       stays (faultsAfter s (l .line) (l .entry)) ls (λ z. n (sym (ap (λ (f : Fault). f .line) same) ∙ z)) ∙ same
 
   -- where there is none, that of the first of the lines to come is kept
-  seeks : (s : Faults) (ls : List Numbered) → allNumbered ls → faultKept s question ≡ noFault → faultKept (faultsOver s ls) question ≡ faultFrom question (s .last) ls
+  seeks : (s : Faults) (ls : List Numbered) → allNumbered ls → faultKept s question ≡ noFault
+      → faultKept (faultsOver s ls) question ≡ faultFrom question (s .last) ls
   unfolding faultsOver faultFrom allNumbered faultsAfter
   seeks s [] a e = e
   seeks s (l ∷ ls) a e = go (atFault question (s .last) (l .entry)) refl (seeks (faultsAfter s (l .line) (l .entry)) ls (a .1))
@@ -76,7 +80,8 @@ module _ (question : ℕ) (step : (s : Faults) (line : ℕ) (e : Entry) → faul
       after : faultKept next question ≡ faultAfter question noFault (s .last) (l .line) (l .entry)
       after = step s (l .line) (l .entry) ∙ ap (λ (f : Fault). faultAfter question f (s .last) (l .line) (l .entry)) e
 
-      go : (b : Bool) → atFault question (s .last) (l .entry) ≡ b → (faultKept next question ≡ noFault → faultKept (faultsOver next ls) question ≡ faultFrom question (idAfter (s .last) (l .entry)) ls)
+      go : (b : Bool) → atFault question (s .last) (l .entry) ≡ b
+          → (faultKept next question ≡ noFault → faultKept (faultsOver next ls) question ≡ faultFrom question (idAfter (s .last) (l .entry)) ls)
           → faultKept (faultsOver next ls) question ≡ cond b this (faultFrom question (idAfter (s .last) (l .entry)) ls)
       go true q ih =
           let f : faultKept next question ≡ this = after ∙ found question (s .last) (l .line) (l .entry) q in

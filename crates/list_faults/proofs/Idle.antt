@@ -28,13 +28,16 @@ pub none-all : (f : ℕ → Bool) (n : ℕ) → n ≤ 7 → 7 ≤ n → some n f
 none-all f n a b e = let q : n ≡ 7 = omega arith in sym (ap (λ (k : ℕ). some k f) (sym q) ∙ e)
 
 -- the search of the code, from the cover's start
-pub search-start : (cal : Calendar) (start end : ℕ) → start ≡ coverStart (cal .cover) → end ≡ coverEnd (cal .cover) → firstFrom (λ d. not (someTrades cal d 7)) 36525 (end - 6 - start) start ≡ firstIdle cal
+pub search-start : (cal : Calendar) (start end : ℕ) → start ≡ coverStart (cal .cover) → end ≡ coverEnd (cal .cover)
+    → firstFrom (λ d. not (someTrades cal d 7)) 36525 (end - 6 - start) start ≡ firstIdle cal
 unfolding firstIdle
 search-start cal start end e q = rw (e, q) refl
 
 pub no-run : (cal : Calendar) (end : ℕ) → end ≡ coverEnd (cal .cover) → end < 6 → 36525 ≡ firstIdle cal
 unfolding firstIdle
-no-run cal end q h = sym (ap (λ (e : ℕ). firstFrom (λ d. not (someTrades cal d 7)) 36525 (e - 6 - coverStart (cal .cover)) (coverStart (cal .cover))) (sym q) ∙ search-none (λ d. not (someTrades cal d 7)) 36525 (end - 6) (coverStart (cal .cover)) (omega arith))
+no-run cal end q h =
+    sym (ap (λ (e : ℕ). firstFrom (λ d. not (someTrades cal d 7)) 36525 (e - 6 - coverStart (cal .cover)) (coverStart (cal .cover))) (sym q) ∙ search-none
+    (λ d. not (someTrades cal d 7)) 36525 (end - 6) (coverStart (cal .cover)) (omega arith))
 
 -- the second map plays no part
 pub idle-second : (cal : Calendar) → firstIdle (calendarWith (cal .cover) (cal .closed)) ≡ firstIdle cal

@@ -50,13 +50,15 @@ module _ (l : LongLine) (n : ℕ) (e : take n (l .bytes) ≡ take (l .length) (l
   unfolding shownText
   shown-over o = rw o e
 
-  pub shown-whole : n ≤ 255 → length (l .bytes) ≡ 255 → l .over ≡ false → (m : ℕ) → m ≤ length (take n (l .bytes)) → take m (take n (l .bytes)) ≡ trimmed (take n (l .bytes)) → (m ≤ 255) × (take m (l .bytes) ≡ shownText l)
+  pub shown-whole : n ≤ 255 → length (l .bytes) ≡ 255 → l .over ≡ false → (m : ℕ) → m ≤ length (take n (l .bytes))
+      → take m (take n (l .bytes)) ≡ trimmed (take n (l .bytes)) → (m ≤ 255) × (take m (l .bytes) ≡ shownText l)
   unfolding shownText
   shown-whole w r o m h t =
       let k : m ≤ n = omega (arith, length-take-le n (l .bytes) (omega arith)) in
       (omega arith, rw o (sym (take-take m n (l .bytes) k) ∙ t ∙ ap trimmed e))
 
-pub said-held : (first : Bool) (l : LongLine) (n : ℕ) → take n (l .bytes) ≡ shownText l → (b : List ℕ) → b ≡ bareText first (take n (l .bytes)) → (e : Entry) → e ≡ textSaid b → e ≡ heldSaid first l
+pub said-held : (first : Bool) (l : LongLine) (n : ℕ) → take n (l .bytes) ≡ shownText l → (b : List ℕ) → b ≡ bareText first (take n (l .bytes)) → (e : Entry)
+    → e ≡ textSaid b → e ≡ heldSaid first l
 unfolding heldSaid
 said-held first l n s b p e q = q ∙ ap textSaid (p ∙ ap (bareText first) s)
 
@@ -92,7 +94,8 @@ bare-long false text = omega arith
 bare-byte : (first : Bool) (text : List ℕ) → getD (bareText first (take 255 text)) 0 0 ≡ getD (bareText first text) 0 0
 unfolding bareText unmarked
 bare-byte true text =
-    rw (mark-taken text, getD-drop (markLength text) (take 255 text) 0 0, getD-drop (markLength text) text 0 0) (getD-take 255 text (markLength text + 0) 0 (omega (arith, mark-most text)))
+    rw (mark-taken text, getD-drop (markLength text) (take 255 text) 0 0, getD-drop (markLength text) text 0 0)
+    (getD-take 255 text (markLength text + 0) 0 (omega (arith, mark-most text)))
 bare-byte false text = getD-take 255 text 0 0 (omega arith)
 
 long-same : (first : Bool) (text : List ℕ) → 255 < length text → textSaid (bareText first (take 255 text)) ≡ textSaid (bareText first text)
@@ -108,7 +111,8 @@ held-is : (first : Bool) (l : LongLine) (line : List ℕ) → Holds l line → h
 unfolding heldSaid lineSaid shownText
 held-is first l line h = go (l .over) refl
   where
-    go : (b : Bool) → l .over ≡ b → textSaid (bareText first (cond b (take (l .length) (l .bytes)) (trimmed (take (l .length) (l .bytes))))) ≡ textSaid (bareText first (trimmed line))
+    go : (b : Bool) → l .over ≡ b
+        → textSaid (bareText first (cond b (take (l .length) (l .bytes)) (trimmed (take (l .length) (l .bytes))))) ≡ textSaid (bareText first (trimmed line))
     go true o =
         let p = h .past o in
         ap (λ (t : List ℕ). textSaid (bareText first t)) (h .bytes ∙ sym (p .1)) ∙ long-same first (trimmed line) (p .0)

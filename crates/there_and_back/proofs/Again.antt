@@ -43,11 +43,13 @@ from-says room text told cal records s c days second =
     }
 
 -- the text of an accepted file of bytes says that file's calendar and records
-pub file-again : (room : ℕ) → 61440 ≤ room → (f : List ℕ) → areBytes f ≡ true → firstNo (loadAsks f) ≡ 0 → SaysAgain room (decomposeText f) (calendarOf f) (recordsOf f)
+pub file-again : (room : ℕ) → 61440 ≤ room → (f : List ℕ) → areBytes f ≡ true → firstNo (loadAsks f) ≡ 0
+    → SaysAgain room (decomposeText f) (calendarOf f) (recordsOf f)
 file-again room enough f bytes e =
     let a = accepted-file f e in
     rw (text-is f e, ← records-told f e)
-    (from-says room (linesText (calendarOf f) f (lineCount (calendarOf f) f)) (calendarTold (calendarOf f) (coverDays (calendarOf f .cover))) (calendarOf f) (recordsTold f (placeCount f))
+    (from-says room (linesText (calendarOf f) f (lineCount (calendarOf f) f)) (calendarTold (calendarOf f) (coverDays (calendarOf f .cover))) (calendarOf f)
+    (recordsTold f (placeCount f))
     (told-text f bytes e room enough) (told-cover (calendarOf f) (coverDays (calendarOf f .cover)))
     (days-told (calendarOf f) (a .cover) (a .closures)) (second-told (calendarOf f) (a .cover) (a .closures)))
 

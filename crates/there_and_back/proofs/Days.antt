@@ -163,7 +163,8 @@ module _ (cal : Calendar) (valid : validCover (cal .cover) ≡ true) (tidy : cle
     cover-in = rw (u .cover) inside
 
     marked-first : closedOn cal d ≡ true → (x : ℕ) → closedOn (closeDay t d) x ≡ (closedOn cal x && ltb x (suc d))
-    marked-first m = step-mark (closedOn cal) (closedOn t) d (u .days) m (closedOn (closeDay t d)) (closed-here t d cover-valid (u .first-long) cover-in) (closed-other t d)
+    marked-first m =
+        step-mark (closedOn cal) (closedOn t) d (u .days) m (closedOn (closeDay t d)) (closed-here t d cover-valid (u .first-long) cover-in) (closed-other t d)
 
     marked-second : inSecondMap cal d ≡ true → (x : ℕ) → inSecondMap (closeExchangeDay t d) x ≡ (inSecondMap cal x && ltb x (suc d))
     marked-second m =

@@ -129,10 +129,13 @@ module _ (f : List ℕ) (bytes : areBytes f ≡ true) (e : firstNo (loadAsks f) 
     inside = record-inside f p t
 
     block-long : length block ≡ 512
-    block-long = rw (block-in f (p / 15) (omega (arith, inside))) (length-take-le 512 (drop (512 * (p / 15)) f) (omega (arith, length-drop (512 * (p / 15)) f, whole, inside)))
+    block-long =
+        rw (block-in f (p / 15) (omega (arith, inside)))
+        (length-take-le 512 (drop (512 * (p / 15)) f) (omega (arith, length-drop (512 * (p / 15)) f, whole, inside)))
 
     block-bytes : (i : ℕ) → getD block i 0 < 256
-    block-bytes i = rw (block-in f (p / 15) (omega (arith, inside))) (below-take (drop (512 * (p / 15)) f) (below-drop f (byte-below f bytes) (512 * (p / 15))) 512 i)
+    block-bytes i =
+        rw (block-in f (p / 15) (omega (arith, inside))) (below-take (drop (512 * (p / 15)) f) (below-drop f (byte-below f bytes) (512 * (p / 15))) 512 i)
 
     record-is : record-at ≡ take 32 (drop (16 + 32 * (p % 15)) block)
     unfolding recordOf
@@ -142,7 +145,10 @@ module _ (f : List ℕ) (bytes : areBytes f ≡ true) (e : firstNo (loadAsks f) 
     record-long = rw record-is (length-take-le 32 (drop (16 + 32 * (p % 15)) block) (omega (arith, length-drop (16 + 32 * (p % 15)) block, block-long)))
 
     record-bytes : areBytes record-at ≡ true
-    record-bytes = rw record-is (are-bytes (take 32 (drop (16 + 32 * (p % 15)) block)) (below-take (drop (16 + 32 * (p % 15)) block) (below-drop block block-bytes (16 + 32 * (p % 15))) 32))
+    record-bytes =
+        rw record-is
+        (are-bytes (take 32 (drop (16 + 32 * (p % 15)) block))
+        (below-take (drop (16 + 32 * (p % 15)) block) (below-drop block block-bytes (16 + 32 * (p % 15))) 32))
 
     place-right : recordRight record-at ≡ true
     unfolding productsRight recordsRight recordPlaceRight isRecord
@@ -187,7 +193,11 @@ module _ (f : List ℕ) (bytes : areBytes f ≡ true) (e : firstNo (loadAsks f) 
     told-first =
         record {
           content = lineTaken room noContent (coverRead (cal .cover));
-          reads = rw line-0 (reads-then room (reads-none room noContent) (reads-line room (coverText (cal .cover)) (coverRead (cal .cover)) noContent (cover-printed (cal .cover) (omega (arith, span .high)) (omega (arith, span .most)))));
+          reads =
+              rw line-0
+              (reads-then room (reads-none room noContent)
+              (reads-line room (coverText (cal .cover)) (coverRead (cal .cover)) noContent
+              (cover-printed (cal .cover) (omega (arith, span .high)) (omega (arith, span .most)))));
           says = says-cover room (cal .cover);
         }
 
@@ -201,7 +211,8 @@ module _ (f : List ℕ) (bytes : areBytes f ≡ true) (e : firstNo (loadAsks f) 
     day-least : (k : ℕ) → k < days → start + k < 36525
     day-least k h = covered (cal .cover) (start + k) (day-in k h) .day
 
-    more : (n : ℕ) (t : List ℕ) (c after : Content) → lineText cal f n ≡ t → Reads room (linesText cal f n) noContent c → Reads room t c after → Reads room (linesText cal f (suc n)) noContent after
+    more : (n : ℕ) (t : List ℕ) (c after : Content) → lineText cal f n ≡ t → Reads room (linesText cal f n) noContent c → Reads room t c after
+        → Reads room (linesText cal f (suc n)) noContent after
     unfolding linesText
     more n t c after q p r = reads-then room p (rw q r)
 
@@ -215,20 +226,26 @@ module _ (f : List ℕ) (bytes : areBytes f ≡ true) (e : firstNo (loadAsks f) 
         inside-told : inCover (calendarTold cal k .cover) d ≡ true
         inside-told = rw (told-cover cal k) (day-in k h)
 
-        go : (x y : Bool) → lineText cal f (suc k) ≡ cond x (markedText 88 d) (cond y (markedText 67 d) []) → Told (suc (suc k)) (cond x (closeExchangeDay (calendarTold cal k) d) (cond y (closeDay (calendarTold cal k) d) (calendarTold cal k))) []
+        go : (x y : Bool) → lineText cal f (suc k) ≡ cond x (markedText 88 d) (cond y (markedText 67 d) [])
+            → Told (suc (suc k)) (cond x (closeExchangeDay (calendarTold cal k) d) (cond y (closeDay (calendarTold cal k) d) (calendarTold cal k))) []
         go true y q =
             record {
               content = lineTaken room (t .content) (dayReadAs 88 d);
-              reads = more (suc k) (markedText 88 d) (t .content) (lineTaken room (t .content) (dayReadAs 88 d)) q (t .reads) (reads-line room (markedText 88 d) (dayReadAs 88 d) (t .content) (day-printed 88 d (inr refl) (day-least k h)));
+              reads =
+                  more (suc k) (markedText 88 d) (t .content) (lineTaken room (t .content) (dayReadAs 88 d)) q (t .reads)
+                  (reads-line room (markedText 88 d) (dayReadAs 88 d) (t .content) (day-printed 88 d (inr refl) (day-least k h)));
               says = says-exchange room (t .content) (calendarTold cal k) [] (t .says) d inside-told;
             }
         go false true q =
             record {
               content = lineTaken room (t .content) (dayReadAs 67 d);
-              reads = more (suc k) (markedText 67 d) (t .content) (lineTaken room (t .content) (dayReadAs 67 d)) q (t .reads) (reads-line room (markedText 67 d) (dayReadAs 67 d) (t .content) (day-printed 67 d (inl refl) (day-least k h)));
+              reads =
+                  more (suc k) (markedText 67 d) (t .content) (lineTaken room (t .content) (dayReadAs 67 d)) q (t .reads)
+                  (reads-line room (markedText 67 d) (dayReadAs 67 d) (t .content) (day-printed 67 d (inl refl) (day-least k h)));
               says = says-closed room (t .content) (calendarTold cal k) [] (t .says) d inside-told;
             }
-        go false false q = record { content = t .content; reads = more (suc k) [] (t .content) (t .content) q (t .reads) (reads-none room (t .content)); says = t .says }
+        go false false q =
+            record { content = t .content; reads = more (suc k) [] (t .content) (t .content) q (t .reads) (reads-none room (t .content)); says = t .says }
 
     told-days : (k : ℕ) → k ≤ days → Told (suc k) (calendarTold cal k) []
     told-days zero h = told-first
@@ -241,7 +258,8 @@ module _ (f : List ℕ) (bytes : areBytes f ≡ true) (e : firstNo (loadAsks f) 
         let q : suc (days + p) - 1 - days ≡ p = omega arith in
         go (lt-or-ge 0 1) q
       where
-        go : (0 < 1) ⊎ (1 ≤ 0) → suc (days + p) - 1 - days ≡ p → cond (eqb (suc (days + p)) 0) (coverText (cal .cover)) (cond (leb (suc (days + p)) days) (dayLine cal (start + (suc (days + p) - 1))) (placeLine f (suc (days + p) - 1 - days))) ≡ placeLine f p
+        go : (0 < 1) ⊎ (1 ≤ 0) → suc (days + p) - 1 - days ≡ p
+            → cond (eqb (suc (days + p)) 0) (coverText (cal .cover)) (cond (leb (suc (days + p)) days) (dayLine cal (start + (suc (days + p) - 1))) (placeLine f (suc (days + p) - 1 - days))) ≡ placeLine f p
         go z q = rw (ne-eqb (suc (days + p)) 0 (λ k. omega arith), lt-leb (suc (days + p)) days (omega arith), q) refl
 
     place-short : (p : ℕ) → length (placeLine f p) < 64
@@ -252,25 +270,36 @@ module _ (f : List ℕ) (bytes : areBytes f ≡ true) (e : firstNo (loadAsks f) 
     told-long zero = omega arith
     told-long (suc p) = go (isRecord f p) refl (told-long p)
       where
-        go : (b : Bool) → isRecord f p ≡ b → length (recordsTold f p) ≤ 32 * p → length (cond b (recordsTold f p ++ recordOf (blockOf f (p / 15)) (p % 15)) (recordsTold f p)) ≤ 32 * suc p
+        go : (b : Bool) → isRecord f p ≡ b → length (recordsTold f p) ≤ 32 * p
+            → length (cond b (recordsTold f p ++ recordOf (blockOf f (p / 15)) (p % 15)) (recordsTold f p)) ≤ 32 * suc p
         go true q h = omega (arith, length-append (recordsTold f p) (recordOf (blockOf f (p / 15)) (p % 15)), record-long p q)
         go false q h = omega arith
 
-    place-step : (p : ℕ) → p < placeCount f → Told (suc (days + p)) (calendarTold cal days) (recordsTold f p) → Told (suc (suc (days + p))) (calendarTold cal days) (recordsTold f (suc p))
+    place-step : (p : ℕ) → p < placeCount f → Told (suc (days + p)) (calendarTold cal days) (recordsTold f p)
+        → Told (suc (suc (days + p))) (calendarTold cal days) (recordsTold f (suc p))
     unfolding recordsTold placeTold placeLine
     place-step p h t = go (isRecord f p) refl (place-at p) (place-short p)
       where
         r : List ℕ
         r = recordOf (blockOf f (p / 15)) (p % 15)
 
-        go : (b : Bool) → isRecord f p ≡ b → lineText cal f (suc (days + p)) ≡ cond b (productText r) [] → length (cond b (productText r) []) < 64 → Told (suc (suc (days + p))) (calendarTold cal days) (cond b (recordsTold f p ++ r) (recordsTold f p))
+        go : (b : Bool) → isRecord f p ≡ b → lineText cal f (suc (days + p)) ≡ cond b (productText r) [] → length (cond b (productText r) []) < 64
+            → Told (suc (suc (days + p))) (calendarTold cal days) (cond b (recordsTold f p ++ r) (recordsTold f p))
         go true q l s =
             record {
               content = lineTaken room (t .content) (productRead r);
-              reads = more (suc (days + p)) (productText r) (t .content) (lineTaken room (t .content) (productRead r)) l (t .reads) (reads-line room (productText r) (productRead r) (t .content) (place-printed p q s));
+              reads =
+                  more (suc (days + p)) (productText r) (t .content) (lineTaken room (t .content) (productRead r)) l (t .reads)
+                  (reads-line room (productText r) (productRead r) (t .content) (place-printed p q s));
               says = says-product room (t .content) (calendarTold cal days) (recordsTold f p) (t .says) r (omega (arith, told-long p, blocks-few));
             }
-        go false q l s = record { content = t .content; reads = more (suc (days + p)) [] (t .content) (t .content) l (t .reads) (reads-none room (t .content)); says = t .says }
+        go false q l s =
+            record {
+              content = t .content;
+              reads = more (suc (days + p)) [] (t .content) (t .content) l (t .reads)
+                  (reads-none room (t .content));
+              says = t .says;
+            }
 
     told-at : (n m : ℕ) (told : Calendar) (records : List ℕ) → n ≡ m → Told n told records → Told m told records
     told-at n m told records q t = rw (← q) t

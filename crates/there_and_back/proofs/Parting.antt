@@ -85,7 +85,8 @@ no-end (x ∷ xs) ys e h =
     rw (no-end xs ys e h, ne-eqb (length (xs ++ ys)) 0 (λ q. omega (arith, length-append xs ys)), and-false (blank x)) refl
 
 -- one that begins with a letter says its entry, the first of the text or another
-pub said-letter : (first : Bool) (c : ℕ) (rest : List ℕ) → trimmed (c ∷ rest) ≡ c ∷ rest → (c ≡ 35 → ⊥) → (c ≡ 239 → ⊥) → lineSaid first (c ∷ rest) ≡ entryOf (c ∷ rest)
+pub said-letter : (first : Bool) (c : ℕ) (rest : List ℕ) → trimmed (c ∷ rest) ≡ c ∷ rest → (c ≡ 35 → ⊥) → (c ≡ 239 → ⊥)
+    → lineSaid first (c ∷ rest) ≡ entryOf (c ∷ rest)
 unfolding lineSaid textSaid bareText unmarked markLength
 said-letter true c rest t n m = rw (t, ne-eqb c 239 m, ne-eqb (length (c ∷ rest)) 0 (λ e. omega arith), ne-eqb c 35 n) refl
 said-letter false c rest t n m = rw (t, ne-eqb (length (c ∷ rest)) 0 (λ e. omega arith), ne-eqb c 35 n) refl

@@ -39,7 +39,8 @@ module _ (a b c d e f g h : List ℕ) where
   abbrev pub joined : List ℕ
   joined = a ++ (32 ∷ (b ++ (32 ∷ (c ++ (32 ∷ (d ++ (32 ∷ (e ++ (32 ∷ (f ++ (32 ∷ (g ++ (32 ∷ h)))))))))))))
 
-  eight : allOf plain a ≡ true → allOf plain b ≡ true → allOf plain c ≡ true → allOf plain d ≡ true → allOf plain e ≡ true → allOf plain f ≡ true → allOf plain g ≡ true → allOf plain h ≡ true
+  eight : allOf plain a ≡ true → allOf plain b ≡ true → allOf plain c ≡ true → allOf plain d ≡ true → allOf plain e ≡ true → allOf plain f ≡ true
+      → allOf plain g ≡ true → allOf plain h ≡ true
       → wordsFrom [] joined ≡ a ∷ b ∷ c ∷ d ∷ e ∷ f ∷ g ∷ h ∷ []
   eight pa pb pc pd pe pf pg ph =
       word-next a (b ++ (32 ∷ (c ++ (32 ∷ (d ++ (32 ∷ (e ++ (32 ∷ (f ++ (32 ∷ (g ++ (32 ∷ h)))))))))))) pa
@@ -74,11 +75,13 @@ productRead r = record { letter = 80; cover = record { «first_year» = 0; years
 
 -- ---- the bytes of a right record's words
 
-four-plain : (w : List ℕ) → plain (getD w 0 0) ≡ true → plain (getD w 1 0) ≡ true → plain (getD w 2 0) ≡ true → plain (getD w 3 0) ≡ true → allOf plain (fourBytes w 0) ≡ true
+four-plain : (w : List ℕ) → plain (getD w 0 0) ≡ true → plain (getD w 1 0) ≡ true → plain (getD w 2 0) ≡ true → plain (getD w 3 0) ≡ true
+    → allOf plain (fourBytes w 0) ≡ true
 unfolding fourBytes
 four-plain w a b c d =
     all-more plain (getD w 0 0) (getD w 1 0 ∷ getD w 2 0 ∷ getD w 3 0 ∷ []) a
-    (all-more plain (getD w 1 0) (getD w 2 0 ∷ getD w 3 0 ∷ []) b (all-more plain (getD w 2 0) (getD w 3 0 ∷ []) c (all-more plain (getD w 3 0) [] d (all-none plain))))
+    (all-more plain (getD w 1 0) (getD w 2 0 ∷ getD w 3 0 ∷ []) b
+    (all-more plain (getD w 2 0) (getD w 3 0 ∷ []) c (all-more plain (getD w 3 0) [] d (all-none plain))))
 
 group-plain : (x y z w kind : ℕ) → groupRight (x ∷ y ∷ z ∷ w ∷ []) kind ≡ true → allOf plain (x ∷ y ∷ z ∷ w ∷ []) ≡ true
 unfolding groupRight
@@ -88,7 +91,8 @@ group-plain x y z w kind e =
     let u = both (letter x && letter y) (digit z) (t .0) in
     let v = both (letter x) (letter y) (u .0) in
     all-more plain x (y ∷ z ∷ w ∷ []) (letter-plain x (v .0))
-    (all-more plain y (z ∷ w ∷ []) (letter-plain y (v .1)) (all-more plain z (w ∷ []) (digit-plain z (u .1)) (all-more plain w [] (digit-plain w (t .1)) (all-none plain))))
+    (all-more plain y (z ∷ w ∷ []) (letter-plain y (v .1))
+    (all-more plain z (w ∷ []) (digit-plain z (u .1)) (all-more plain w [] (digit-plain w (t .1)) (all-none plain))))
 
 market-plain : (x y z w : ℕ) → marketRight (x ∷ y ∷ z ∷ w ∷ []) ≡ true → allOf plain (x ∷ y ∷ z ∷ w ∷ []) ≡ true
 unfolding marketRight
@@ -107,7 +111,8 @@ code-plain a b c x y z ha hb hc e =
     let q : y ≡ b = eqb-true y b (at 1 e (omega arith)) in
     let s : z ≡ c = eqb-true z c (at 2 e (omega arith)) in
     all-more plain x (y ∷ z ∷ []) (plain-is x (omega arith) (λ k. omega arith))
-    (all-more plain y (z ∷ []) (plain-is y (omega arith) (λ k. omega arith)) (all-more plain z [] (plain-is z (omega arith) (λ k. omega arith)) (all-none plain)))
+    (all-more plain y (z ∷ []) (plain-is y (omega arith) (λ k. omega arith))
+    (all-more plain z [] (plain-is z (omega arith) (λ k. omega arith)) (all-none plain)))
 
 currency-plain : (x y z : ℕ) → currencyRight (x ∷ y ∷ z ∷ []) ≡ true → allOf plain (x ∷ y ∷ z ∷ []) ≡ true
 unfolding currencyRight oneOfCodes
@@ -212,7 +217,8 @@ module _ (r : List ℕ) (long : length r ≡ 32) (bytes : areBytes r ≡ true) (
   pub tick-plain : allOf plain (decimal (numberAt r 15)) ≡ true
   tick-plain = number-plain (numberAt r 15) (number-most 15)
 
-  words : wordsFrom [] (productLine r) ≡ (80 ∷ []) ∷ idText (fourBytes r 0) ∷ fourBytes r 4 ∷ fourBytes r 8 ∷ decimal (getD r 12 0) ∷ sizeWord r ∷ decimal (numberAt r 15) ∷ threeBytes r 17 ∷ []
+  words : wordsFrom [] (productLine r)
+      ≡ (80 ∷ []) ∷ idText (fourBytes r 0) ∷ fourBytes r 4 ∷ fourBytes r 8 ∷ decimal (getD r 12 0) ∷ sizeWord r ∷ decimal (numberAt r 15) ∷ threeBytes r 17 ∷ []
   words =
       let f = fields r right in
       eight (80 ∷ []) (idText (fourBytes r 0)) (fourBytes r 4) (fourBytes r 8) (decimal (getD r 12 0)) (sizeWord r) (decimal (numberAt r 15)) (threeBytes r 17)
@@ -229,7 +235,17 @@ module _ (r : List ℕ) (long : length r ≡ 32) (bytes : areBytes r ≡ true) (
   unfolding productEntry productForm letterForm wordAt lineRecord fourBytes threeBytes
   product-entry =
       let n = id-lengths in
-      rw (words, n .0, n .1, kind-back (getD r 12 0) (fields r right .kind), size .shares-back, size .part-is, number-back (numberAt r 15) (number-most 15), fields r right .id .bytes)
+      rw (
+        words,
+        n .0,
+        n .1,
+        kind-back (getD r 12 0) (fields r right .kind),
+        size .shares-back,
+        size .part-is,
+        number-back (numberAt r 15)
+            (number-most 15),
+        fields r right .id .bytes,
+      )
       (ap productRead fields-again)
 
   pub product-back : length (productLine r) < 64 → entryOf (productLine r) ≡ productRead r

@@ -57,7 +57,8 @@ decimal-digits n = one (lt-or-ge n 10)
   where
     four : 10 ≤ n → 100 ≤ n → 1000 ≤ n → (n < 10000) ⊎ (10000 ≤ n) → allOf digit (decimal n) ≡ true
     four a b d (inl e) = rw (decimal-4 n a b d e) (four-digits n)
-    four a b d (inr e) = rw (decimal-5 n a b d e) (all-more digit (lastDigit (n / 10000)) (inFourDigits (n % 10000)) (digit-is (n / 10000)) (four-digits (n % 10000)))
+    four a b d (inr e) =
+        rw (decimal-5 n a b d e) (all-more digit (lastDigit (n / 10000)) (inFourDigits (n % 10000)) (digit-is (n / 10000)) (four-digits (n % 10000)))
 
     three : 10 ≤ n → 100 ≤ n → (n < 1000) ⊎ (1000 ≤ n) → allOf digit (decimal n) ≡ true
     three a b (inl d) = rw (decimal-3 n a b d) (all-more digit (lastDigit (n / 100)) (inTwoDigits (n % 100)) (digit-is (n / 100)) (two-digits (n % 100)))
@@ -115,7 +116,8 @@ no-point w e = go (lt-or-ge (length w) 5)
     go (inl h) = rw (lt-leb 5 (length w) h) refl
     go (inr h) =
         let d : digit (getD w (length w - 5) 0) ≡ true = at-all digit w (length w - 5) e (omega arith) in
-        let a : 48 ≤ getD w (length w - 5) 0 = leb-true 48 (getD w (length w - 5) 0) (and-fst (leb 48 (getD w (length w - 5) 0)) (leb (getD w (length w - 5) 0) 57) d) in
+        let a : 48 ≤ getD w (length w - 5) 0 = leb-true 48 (getD w (length w - 5) 0)
+        (and-fst (leb 48 (getD w (length w - 5) 0)) (leb (getD w (length w - 5) 0) 57) d) in
         rw (ne-eqb (getD w (length w - 5) 0) 46 (λ q. omega arith)) (and-false (leb 5 (length w)))
 
 -- a point and four digits after some bytes

@@ -86,10 +86,13 @@ module _ (w : List ℕ) where
   unfolding dateIn commandOf commandAt moveCommand moveForm
   date-there d e = go (dateAt (λ i. getD (82 ∷ 32 ∷ w) i 0) 2) (eqb (length (82 ∷ 32 ∷ w)) 12) e
     where
-      go : (r : DateRead) (b : Bool) → cond {A = Command} ((b && true) && r .there) (record { letter = 82; id = replicate 4 0; day = r .day }) otherLine ≡ dayRead d → r ≡ record { there = true; day = d }
+      go : (r : DateRead) (b : Bool)
+          → cond {A = Command} ((b && true) && r .there) (record { letter = 82; id = replicate 4 0; day = r .day }) otherLine ≡ dayRead d → r
+          ≡ record { there = true; day = d }
       go r true q = side (r .there) refl q
         where
-          side : (t : Bool) → r .there ≡ t → cond {A = Command} t (record { letter = 82; id = replicate 4 0; day = r .day }) otherLine ≡ dayRead d → r ≡ record { there = true; day = d }
+          side : (t : Bool) → r .there ≡ t → cond {A = Command} t (record { letter = 82; id = replicate 4 0; day = r .day }) otherLine ≡ dayRead d
+              → r ≡ record { there = true; day = d }
           side true s q = ap₂ (λ (x : Bool) (y : ℕ). mk x y) s (ap (λ (x : Command). x .day) q)
           side false s q = let z : _≡_ {A = ℕ} 0 82 = ap (λ (x : Command). x .letter) q in absurd (omega arith)
       go r false q = let z : _≡_ {A = ℕ} 0 82 = ap (λ (x : Command). x .letter) q in absurd (omega arith)

@@ -65,7 +65,8 @@ module _ (b : List ℕ) (j : ℕ) (l : j < 15) where
   part-next = go (isProducts b) (lt-or-ge j count)
     where
       go : (x : Bool) → (j < count) ⊎ (count ≤ j)
-          → cond x (take (32 * lesser (suc j) count) (drop 16 b)) [] ≡ cond (x && ltb j count) (cond x (take (32 * lesser j count) (drop 16 b)) [] ++ recordOf b j) (cond x (take (32 * lesser j count) (drop 16 b)) [])
+          → cond x (take (32 * lesser (suc j) count) (drop 16 b)) []
+          ≡ cond (x && ltb j count) (cond x (take (32 * lesser j count) (drop 16 b)) [] ++ recordOf b j) (cond x (take (32 * lesser j count) (drop 16 b)) [])
       go false s = refl
       go true (inl h) = rw (lt-ltb j count h, next-lesser h, lesser-in j count h) more-bytes
       go true (inr h) = rw (le-ltb j count h, lesser-out (suc j) count (omega arith), lesser-out j count h) refl
@@ -125,7 +126,9 @@ module _ (f : List ℕ) (e : firstNo (loadAsks f) ≡ 0) where
   unfolding partOf blockRecords
   whole-part k h = go (isProducts (blockOf f k)) refl
     where
-      go : (x : Bool) → isProducts (blockOf f k) ≡ x → cond x (take (32 * lesser 15 (recordsOfBlock (blockOf f k))) (drop 16 (blockOf f k))) [] ≡ cond x (take (32 * recordsOfBlock (blockOf f k)) (drop 16 (blockOf f k))) []
+      go : (x : Bool) → isProducts (blockOf f k) ≡ x
+          → cond x (take (32 * lesser 15 (recordsOfBlock (blockOf f k))) (drop 16 (blockOf f k))) []
+          ≡ cond x (take (32 * recordsOfBlock (blockOf f k)) (drop 16 (blockOf f k))) []
       go true t = rw (lesser-out 15 (recordsOfBlock (blockOf f k)) (count-most k h t)) refl
       go false t = refl
 

@@ -32,7 +32,8 @@ pub record Printed (t : List ℕ) (e : Entry) : Type 0 where
 -- a text that is read from what is said before it to what is said after it, whatever follows
 pub record Reads (room : ℕ) (t : List ℕ) (c after : Content) : Type 0 where
   pub next : ℕ → ℕ
-  pub is : (k : ℕ) (rest : List ℕ) → linesTaken room c (numberedFrom k (linesFrom [] (t ++ rest))) ≡ linesTaken room after (numberedFrom (next k) (linesFrom [] rest))
+  pub is : (k : ℕ) (rest : List ℕ)
+      → linesTaken room c (numberedFrom k (linesFrom [] (t ++ rest))) ≡ linesTaken room after (numberedFrom (next k) (linesFrom [] rest))
 
 module _ (room : ℕ) where
   pub reads-none : (c : Content) → Reads room [] c c
@@ -53,7 +54,9 @@ module _ (room : ℕ) where
   reads-then {t} {u} {a} p q =
       record {
         next = λ k. q .next (p .next k);
-        is = λ k rest. ap (λ (x : List ℕ). linesTaken room a (numberedFrom k (linesFrom [] x))) (append-assoc t u rest) ∙ p .is k (u ++ rest) ∙ q .is (p .next k) rest;
+        is =
+            λ k rest. ap (λ (x : List ℕ). linesTaken room a (numberedFrom k (linesFrom [] x))) (append-assoc t u rest) ∙ p .is k (u ++ rest) ∙ q .is
+            (p .next k) rest;
       }
 
   pub reads-whole : (t : List ℕ) (c : Content) → Reads room t noContent c → contentOf room t ≡ c

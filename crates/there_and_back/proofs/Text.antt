@@ -98,12 +98,14 @@ module _ (c : Cover) (a : c .«first_year» ≤ 65535) (b : c .years ≤ 65535) 
   cover-in : allOf inLine (coverLine c) ≡ true
   cover-in =
       letter-line 89 (first-word ++ (32 ∷ years-word)) (omega arith) (λ q. omega arith)
-      (all-append inLine first-word (32 ∷ years-word) (word-in first-word (number-plain (c .«first_year») a)) (all-more inLine 32 years-word space-in (word-in years-word (number-plain (c .years) b))))
+      (all-append inLine first-word (32 ∷ years-word) (word-in first-word (number-plain (c .«first_year») a))
+      (all-more inLine 32 years-word space-in (word-in years-word (number-plain (c .years) b))))
 
   cover-ends : Ends (coverLine c)
   cover-ends =
       ends-after (89 ∷ 32 ∷ []) (first-word ++ (32 ∷ years-word))
-      (ends-after first-word (32 ∷ years-word) (ends-after (32 ∷ []) years-word (ends-word years-word (number-plain (c .years) b) (some-bytes years-word 65535 (c .years) (number-back (c .years) b)))))
+      (ends-after first-word (32 ∷ years-word)
+      (ends-after (32 ∷ []) years-word (ends-word years-word (number-plain (c .years) b) (some-bytes years-word 65535 (c .years) (number-back (c .years) b)))))
 
   pub cover-printed : Printed (coverText c) (coverRead c)
   cover-printed =
@@ -111,7 +113,8 @@ module _ (c : Cover) (a : c .«first_year» ≤ 65535) (b : c .years ≤ 65535) 
         line = coverLine c;
         text = cover-text c;
         inside = cover-in;
-        says = λ first. said-letter first 89 (32 ∷ (first-word ++ (32 ∷ years-word))) (cover-ends .whole) (λ q. omega arith) (λ q. omega arith) ∙ cover-back c a b;
+        says =
+            λ first. said-letter first 89 (32 ∷ (first-word ++ (32 ∷ years-word))) (cover-ends .whole) (λ q. omega arith) (λ q. omega arith) ∙ cover-back c a b;
       }
 
 -- a closed day
@@ -129,7 +132,10 @@ module _ (letter d : ℕ) (l : (letter ≡ 67) ⊎ (letter ≡ 88)) (h : d < 365
         line = dayLineOf letter d;
         text = day-text letter d;
         inside = letter-line letter (dayText d) (omega (arith, letter-is .0)) (λ q. omega (arith, letter-is .0)) (word-in (dayText d) (day-plain d));
-        says = λ first. said-letter first letter (32 ∷ dayText d) (ends-after (letter ∷ 32 ∷ []) (dayText d) (ends-word (dayText d) (day-plain d) (omega (arith, day-long d))) .whole) (λ q. omega (arith, letter-is .0)) (λ q. omega (arith, letter-is .1)) ∙ day-entry-back letter d l h;
+        says =
+            λ first. said-letter first letter (32 ∷ dayText d)
+            (ends-after (letter ∷ 32 ∷ []) (dayText d) (ends-word (dayText d) (day-plain d) (omega (arith, day-long d))) .whole)
+            (λ q. omega (arith, letter-is .0)) (λ q. omega (arith, letter-is .1)) ∙ day-entry-back letter d l h;
       }
 
 -- a product
@@ -160,7 +166,8 @@ module _ (r : List ℕ) (long : length r ≡ 32) (bytes : areBytes r ≡ true) (
       (spaced-in (fourBytes r 4) _ (f .group)
       (spaced-in (fourBytes r 8) _ (f .market)
       (spaced-in w4 _ (kind-plain r long bytes right)
-      (spaced-in w5 _ (size r long bytes right .bytes) (spaced-in w6 (threeBytes r 17) (tick-plain r long bytes right) (word-in (threeBytes r 17) (f .currency))))))))
+      (spaced-in w5 _ (size r long bytes right .bytes)
+      (spaced-in w6 (threeBytes r 17) (tick-plain r long bytes right) (word-in (threeBytes r 17) (f .currency))))))))
 
   three-some : 1 ≤ length (threeBytes r 17)
   unfolding threeBytes
@@ -174,7 +181,8 @@ module _ (r : List ℕ) (long : length r ≡ 32) (bytes : areBytes r ≡ true) (
       spaced-ends (80 ∷ []) _
       (spaced-ends w1 _
       (spaced-ends (fourBytes r 4) _
-      (spaced-ends (fourBytes r 8) _ (spaced-ends w4 _ (spaced-ends w5 _ (spaced-ends w6 _ (ends-word (threeBytes r 17) (fields r right .currency) three-some)))))))
+      (spaced-ends (fourBytes r 8) _
+      (spaced-ends w4 _ (spaced-ends w5 _ (spaced-ends w6 _ (ends-word (threeBytes r 17) (fields r right .currency) three-some)))))))
 
   pub product-printed : Printed (productText r) (productRead r)
   product-printed =

@@ -28,7 +28,9 @@ names-earlier-requires c κs = tt
 
 returns-4 : tie.Need-returns-4
 unfolding atFault
-returns-4 c = rw (ne-eqb _ 5 (c .before .before .before .if1 .left), ne-eqb _ 7 (c .before .before .if2 .left), eq-eqb _ 8 (c .before .if3 .left)) (c .names-earlier .ensures)
+returns-4 c =
+    rw (ne-eqb _ 5 (c .before .before .before .if1 .left), ne-eqb _ 7 (c .before .before .if2 .left), eq-eqb _ 8 (c .before .if3 .left))
+    (c .names-earlier .ensures)
 
 pub at-fault-spec : {M : Type 1} → statement M
 at-fault-spec =

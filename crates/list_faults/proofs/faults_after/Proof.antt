@@ -18,7 +18,8 @@ id-after-requires c κs = tt
 
 returns : tie.Need-returns
 unfolding faultsAfter
-returns c = rw (c .id-after .ensures, c .before .fault-after3 .ensures, c .before .before .fault-after2 .ensures, c .before .before .before .fault-after .ensures) refl
+returns c =
+    rw (c .id-after .ensures, c .before .fault-after3 .ensures, c .before .before .fault-after2 .ensures, c .before .before .before .fault-after .ensures) refl
 
 pub faults-after-spec : {M : Type 1} → statement M
 faults-after-spec =

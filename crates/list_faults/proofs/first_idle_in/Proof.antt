@@ -12,7 +12,8 @@ use Rattle.list_faults.proofs.first_idle_in.Statement.{statement}
 use Rattle.list_faults.proofs.first_idle_in.Tie as tie
 
 abbrev Inv-loop : tie.InvT-loop
-Inv-loop cover closed end last day₀ day = firstFrom (λ d. not (someTrades (calendarWith cover closed) d 7)) 36525 (last - day) day ≡ firstIdle (calendarWith cover closed)
+Inv-loop cover closed end last day₀ day =
+    firstFrom (λ d. not (someTrades (calendarWith cover closed) d 7)) 36525 (last - day) day ≡ firstIdle (calendarWith cover closed)
 
 abbrev μ-loop : tie.MeasureT-loop
 μ-loop cover closed end last day₀ day = last - day
@@ -33,7 +34,9 @@ some-trades-requires : tie.Need-some-trades-requires Inv-loop μ-loop
 some-trades-requires c κs = omega (arith, c .before .before .before .before .cover-end .ensures .1)
 
 returns-2 : tie.Need-returns-2 Inv-loop μ-loop
-returns-2 c = sym (search-here _ _ _ _ (c .before .before .loop-test .taken) (ap not (sym (c .before .some-trades .ensures)) ∙ c .if2 .taken)) ∙ c .before .before .before .loop .inv
+returns-2 c =
+    sym (search-here _ _ _ _ (c .before .before .loop-test .taken) (ap not (sym (c .before .some-trades .ensures)) ∙ c .if2 .taken))
+    ∙ c .before .before .before .loop .inv
 
 add-day : tie.Need-add-day Inv-loop μ-loop
 add-day c = omega (arith, c .before .before .before .before .before .before .cover-end .ensures .1)
@@ -42,7 +45,9 @@ loop-less : tie.Need-loop-less Inv-loop μ-loop
 loop-less c = omega arith
 
 loop-again : tie.Need-loop-again Inv-loop μ-loop
-loop-again c = search-next _ _ _ _ (c .before .before .loop-test .taken) (ap not (sym (c .before .some-trades .ensures)) ∙ c .if2 .left) ∙ c .before .before .before .loop .inv
+loop-again c =
+    search-next _ _ _ _ (c .before .before .loop-test .taken) (ap not (sym (c .before .some-trades .ensures)) ∙ c .if2 .left)
+    ∙ c .before .before .before .loop .inv
 
 returns-3 : tie.Need-returns-3 Inv-loop μ-loop
 returns-3 c = sym (search-none _ _ _ _ (c .loop-test .left)) ∙ c .before .loop .inv

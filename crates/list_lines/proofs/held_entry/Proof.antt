@@ -32,7 +32,8 @@ text-said-requires c κs = tt
 returns : tie.Need-returns
 returns c =
     let at-shown = c .before .before .before .before in
-    said-held (at-shown .before .args .first) (at-shown .before .args .line) (at-shown .shown-length .result) (at-shown .shown-length .ensures .1) _ (c .before .bare-text .ensures) _ (c .text-said .ensures)
+    said-held (at-shown .before .args .first) (at-shown .before .args .line) (at-shown .shown-length .result) (at-shown .shown-length .ensures .1) _
+    (c .before .bare-text .ensures) _ (c .text-said .ensures)
 
 pub held-entry-spec : {M : Type 1} → statement M
 held-entry-spec =

@@ -33,7 +33,8 @@ returns-3 : tie.Need-returns-3
 returns-3 c =
     let at-feed = c .before in
     let at-if2 = at-feed .before .before in
-    said-entry _ (at-if2 .before .before .if1 .left) (at-if2 .if2 .left) _ (at-feed .before .empty-line .ensures) _ (at-feed .feed .ensures) _ (c .entry-of .ensures)
+    said-entry _ (at-if2 .before .before .if1 .left) (at-if2 .if2 .left) _ (at-feed .before .empty-line .ensures) _ (at-feed .feed .ensures) _
+    (c .entry-of .ensures)
 
 pub text-said-spec : {M : Type 1} → statement M
 text-said-spec =
