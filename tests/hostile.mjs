@@ -180,6 +180,33 @@ const attempts = {
     }
   },
 
+  // Texts that are none, masters that are none, and two comparisons at the same time.
+  deliveries() {
+    const read = name => new Uint8Array(readFileSync(new URL(`../examples/morning/${name}`, import.meta.url)));
+    const master = new s.Master(read('master.bin')), text = read('notices.txt'), notices = new s.Notices(text);
+    for (const one of ['O 2008-03-17', null, undefined, 7, [79], { length: 3 }]) {
+      expect(came(() => new s.Notices(one)), 'TypeError', one);
+      expect(came(() => notices.differences(master, one)), 'TypeError', one);
+    }
+    expect(came(() => new s.Notices(new Uint8Array(0))), 'BadLine');
+    expect(came(() => new s.Notices(lying(text, 3))).count, notices.count);
+    expect(came(() => new s.Notices(new Uint8Array(2 ** 29))), 'RangeError');
+    expect(came(() => notices.differences(master, new Uint8Array(2 ** 29))), 'RangeError');
+    for (const one of [null, {}, read('master.bin'), s]) for (const name of ['rows', 'refused', 'differences', 'table']) expect(came(() => notices[name](one, text)), 'TypeError', name);
+    for (const id of ['', 'ŻYW', 'AXAAX']) expect(came(() => notices.table(master, id)), ['refused', 9], id);
+    for (const place of [-1, 2 ** 64, 1e300]) expect(came(() => s.product_at(FILE, place)), 'RangeError', place);
+    expect(came(() => s.product_at(FILE, 2 ** 63)), ['refused', 9]);
+    text.fill(0);
+    const right = new TextDecoder().decode(read('differences.csv')), two = [notices.differing(master, read('wrong.csv')), notices.differing(master, read('delivery.csv'))], found = [];
+    for (let at = 0; found[0] === undefined || found[1] === undefined; at = 1 - at) {
+      const step = found[at] === undefined ? two[at].next() : { done: false };
+      if (step.done) found[at] = step.value.text;
+    }
+    expect(found, [right, right.split('\n')[0] + '\n']);
+    expect(notices.rows(master), new TextDecoder().decode(read('delivery.csv')));
+    expect(notices.refused(master), new TextDecoder().decode(read('refused.txt')));
+  },
+
   // Codes of a product that have no bytes.
   codes() {
     const { product } = s.open(FILE, 'AXA', DATE);

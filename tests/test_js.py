@@ -204,7 +204,7 @@ class Made(unittest.TestCase):
     def test_members(self):
         found = said('''await s.start();
             const made = { Calendar: s.make(7, 2008, 1), Product: new s.Product({}), Intake: new s.Intake(2), Queue: new s.Queue(),
-              Table: s.Table.from_bytes(new Uint8Array(1624)), Refused: new s.Refused(1) };
+              Table: s.Table.from_bytes(new Uint8Array(1624)), Refused: new s.Refused(1), BadLine: new s.BadLine(1) };
             const names = Object.fromEntries(Object.entries(s).filter(([, one]) => typeof one === 'function' && /^class/.test(one)).map(([name, one]) =>
               [name, [...Object.getOwnPropertyNames(one.prototype), ...Object.getOwnPropertyNames(made[name] ?? {}), ...Object.getOwnPropertyNames(one)]]));
             console.log(JSON.stringify(names))''')
@@ -233,8 +233,12 @@ FAULTS = (
     ("['closed', 'exchange'].some", "['closed'].some"),
     ('.getBigUint64(0, true)', '.getBigUint64(0, true) & 0xffffffffn'),
     ('if (number === 0) break;', ''),
-    ('words.push(at, BigInt(value.length))', 'words.push(at, BigInt(value.byteLength))'),
-    ('buffer[0].set(', 'void ('),
+    ("if (ways[i] !== 'place') words.push(BigInt(value.length));", "if (ways[i] !== 'place') words.push(BigInt(value.byteLength));"),
+    ('for (const [bytes, at] of written) bytes.set(', 'for (const [bytes, at] of written) void ('),
+    ('SIZE[kind] <= 16 && needed <= left', 'SIZE[kind] <= 16'),
+    ('{ line: this.#calls[5 * i], number }', '{ line: this.#calls[5 * i + 1], number }'),
+    ('for (let i = 0; i <= this.count; i++)', 'for (let i = 0; i < this.count; i++)'),
+    ('const found = lines.join(\'\') + rows.unknown(products);', "const found = lines.join('');"),
     ("get(reply, 'measured', 'price')", "0 * get(reply, 'measured', 'price')"),
 )
 ATTEMPTS = {
@@ -250,6 +254,7 @@ ATTEMPTS = {
     'room': ('bytes_of(buffer).subarray(0, FILE_AT_MOST)', 'new Uint8Array(FILE_AT_MOST)'),
     'changes': ('this.#file = file_of(file).slice();', 'this.#file = file_of(file);'),
     'verdicts': ("const same = get(reply, 'verdict', 'same') !== 0;", "const same = get(reply, 'verdict', 'key') === 0;"),
+    'deliveries': ("call('read_notices', bytes_of(text),", "call('read_notices', text,"),
     'codes': ('text.length > length || ', ''),
 }
 

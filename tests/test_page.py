@@ -326,6 +326,19 @@ class TheParts(Page):
         self.wait("document.getElementById('unread').innerText.includes('no last trading day')")
         self.assertIn('1 line could not be read', self.text('.verdict'))
 
+    # Rows that are pasted; and all of many differences, where they are asked for.
+    def test_pasted(self):
+        self.morning(None)
+        self.put('#delivery-text', 'AXA\t2008-06\t20.06.2008\nAXA\t2008-06\t20.06.2008\n' + ''.join(f'X{number:03}\t2008-06\t20.06.2008\n' for number in range(700)))
+        self.wait("document.querySelector('.verdict') !== null")
+        self.settle()
+        self.assertIn('816 differences', self.text('.verdict'))
+        self.assertEqual(len(self.found()), 500)
+        self.click('#all')
+        self.assertEqual(len(self.found()), 816)
+        self.assertIn(['AXA', '2008-06', '2008-06-20', '2008-06-20', 'delivered more than once'], self.found())
+        self.assertEqual(self.found()[-1], ['X699', '', '', '', 'the master file has no such product'])
+
     # Sorted, filtered, copied, saved.
     def test_differences(self):
         self.morning()

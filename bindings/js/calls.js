@@ -11,7 +11,7 @@ await scullpouch.start();
 
 const { LAYOUT, Table } = scullpouch;
 const LOOPS = 50;
-const TEXTS = ['file', 'open', 'open_in', 'set', 'write']; // the commands whose first word is a text
+const TEXTS = ['file', 'open', 'open_in', 'set', 'write', 'notices', 'deliver', 'differences']; // the commands whose first word is a text
 const TABLE = LAYOUT.table[1], ONE = LAYOUT.maturity;
 const ZERO_TABLE = Table.from_bytes(new Uint8Array(LAYOUT.table[0]));
 const hex = bytes => Buffer.from(bytes).toString('hex');
@@ -31,6 +31,9 @@ function asked(call, refused = null) {
 
 const calendar_words = calendar => [calendar.first_year, calendar.years, sum_of(calendar.closed), sum_of(calendar.exchange)];
 
+// A text by its length and its sum.
+const text_words = text => [text.length, sum_of(Buffer.from(text, 'latin1'))];
+
 // The count, the places that are used, and the sum of the others.
 function queue_words(queue) {
   const held = queue.to_bytes(), numbers = new Uint16Array(held.buffer, held.byteOffset, 201);
@@ -40,7 +43,7 @@ function queue_words(queue) {
 
 // What the lines before have left.
 let bytes = new Uint8Array(0), master = null, held = ZERO_TABLE, kept = ZERO_TABLE, days = ZERO_TABLE.calendar;
-let state = null, waiting = new scullpouch.Queue();
+let state = null, waiting = new scullpouch.Queue(), said = null;
 
 function opened(call) {
   const [refusal, table] = asked(call, held);
@@ -135,6 +138,38 @@ const commands = {
   keep: () => { kept = held.copy(); },
   restore: () => { held = kept.copy(); },
   calendar: () => { days = held.calendar; },
+
+  // ---- A delivery ----
+
+  product: place => {
+    const [refusal, one] = asked(() => scullpouch.product_at(bytes, place));
+    if (refusal) return [refusal, '00'.repeat(15), 0, 0, 0];
+    return [0, hex(Buffer.from(one.id.padEnd(4) + one.group.padEnd(4) + one.market.padEnd(4) + one.currency.padEnd(3), 'latin1')), one.kind, one.size, one.tick];
+  },
+  notices: name => {
+    try {
+      said = new scullpouch.Notices(readFileSync(name));
+    } catch (error) {
+      if (error instanceof scullpouch.BadLine) return [error.number, 0, 0, 0];
+      throw error;
+    }
+    if (said.calls.length !== said.count) throw new Error('the calls are not as many as the notices');
+    return [0, said.date, said.opened, said.count];
+  },
+  deliver: id => {
+    const [refusal, one] = asked(() => said.table(master, id), { table: held, refused: [] });
+    held = one.table;
+    return [refusal, one.refused.length, ...one.refused.flatMap(({ line, number }) => [line, number])];
+  },
+  rows: () => { const [refusal, text] = asked(() => held.rows(), ''); return [refusal, ...text_words(text)]; },
+  delivery: () => {
+    if (master.products.length !== scullpouch.load(bytes).records) throw new Error('the products are not as many as the records');
+    return [...text_words(said.rows(master)), ...text_words(said.refused(master))];
+  },
+  differences: name => {
+    const found = said.differences(master, readFileSync(name));
+    return [found.rows, found.differ, Number(found.over), ...text_words(found.text), ...found.bad];
+  },
 
   // ---- The round ----
 

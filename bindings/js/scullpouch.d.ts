@@ -23,6 +23,13 @@ export const MAP: 736;
 export const YEAR_MAP: 46;
 export const TABLES: 200;
 export const WEEKLY: 5;
+export const NOTICES: number;
+export const CALLS: number;
+export const NOTICE_IDS: number;
+export const ROWS: number;
+export const ROW_IDS: number;
+export const TABLE_TEXT: number;
+export const KEYS: number;
 export const QUESTIONS: Readonly<Record<number, string>>;
 export const LAYOUT: Record<string, [number, Record<string, number>]>;
 
@@ -30,6 +37,11 @@ export class Refused extends Error {
   constructor(number: number);
   readonly number: number;
   readonly question: string;
+}
+
+export class BadLine extends Error {
+  constructor(number: number);
+  readonly number: number;
 }
 
 export function start(source?: Bytes | WebAssembly.Module): Promise<void>;
@@ -41,6 +53,7 @@ export function day(year: number, month: number, day: number): number;
 export function date(day: Day): [year: number, month: number, day: number];
 export function date_text(day: Day): string;
 
+export function product_at(file: Bytes, place: number): Product;
 export function load(file: Bytes): Counts;
 export function make(seed: number, first_year: number, years: number): Calendar;
 export function write_into(buffer: Bytes, calendar: Calendar, records: Bytes): number;
@@ -76,6 +89,7 @@ export class Intake {
 
 export class Master {
   constructor(file: Bytes);
+  get products(): Product[];
   get calendar(): Calendar;
   open(id: string, date: Day): Table;
 }
@@ -96,11 +110,30 @@ export class Table {
   tick(price: number): void;
   cash(contracts: number, agreed: number, final_price: number): Cash;
   judge(numbers: Iterable<number>): Verdict;
+  rows(): string;
   get product(): Product;
   get calendar(): Calendar;
   get date(): number;
   get given(): number;
   get maturities(): Maturity[];
+}
+
+/** A notice: its line, and its day, or of a measure the product, p, q and the price. */
+export type Notice = { line: number; kind: 0 | 1 | 2; day: number } | { line: number; kind: 3; id: string; p: number; q: number; price: number };
+/** The lines of what differs, how many they are, how many good rows there were, the bad lines, whether there was a row too many. */
+export interface Differences { text: string; differ: number; rows: number; bad: number[]; over: boolean }
+
+export class Notices {
+  constructor(text: Bytes);
+  get date(): number;
+  get opened(): number;
+  get count(): number;
+  get calls(): Notice[];
+  table(master: Master, id: string): { table: Table; refused: { line: number; number: number }[] };
+  rows(master: Master): string;
+  refused(master: Master): string;
+  differences(master: Master, text: Bytes): Differences;
+  differing(master: Master, text: Bytes): Generator<number, Differences, void>;
 }
 
 export class Queue {

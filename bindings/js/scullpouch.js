@@ -22,6 +22,13 @@ export const MAP = 736;
 export const YEAR_MAP = 46;
 export const TABLES = 200;
 export const WEEKLY = 5; // the kind whose keys are days
+export const NOTICES = 6554; // the most notices of a text
+export const CALLS = 5 * NOTICES;
+export const NOTICE_IDS = 4 * NOTICES;
+export const ROWS = 65536; // the most rows that are read
+export const ROW_IDS = 4 * ROWS;
+export const TABLE_TEXT = 1024; // room for the rows of any table
+export const KEYS = 65536; // after the last key
 
 export const QUESTIONS = Object.freeze({
   1: 'Is the length a multiple of 512, from 1,024 to 65,536?',
@@ -68,6 +75,15 @@ export class Refused extends Error {
   }
 }
 
+/** The number, from 1, of the first line of a text of notices that is none. */
+export class BadLine extends Error {
+  constructor(number) {
+    super(`notices.txt:${number}: BAD`);
+    this.name = 'BadLine';
+    this.number = number;
+  }
+}
+
 // ---- The structs, as bindings/include/scullpouch.h has them ----
 
 const NUMBERS = { u8: 1, bool: 1, u16: 2, u32: 4, u64: 8, usize: 8 };
@@ -100,6 +116,13 @@ const STRUCTS = {
   handled: { refusal: 'u8', taken: 'round', queue: 'round' },
   changed: { refusal: 'u8', queue: 'round' },
   made: { refusal: 'u8', calendar: 'calendar' },
+  product_reply: { refusal: 'u8', product: 'product' },
+  notices: { fits: 'bool', date: 'u16', opened: 'u32', count: 'u32', bad: 'u32' },
+  delivered: { fits: 'bool', refusal: 'u8', table: 'table' },
+  text: { refusal: 'u8', fits: 'bool', length: 'usize' },
+  line: { bytes: 'u8[64]', length: 'usize' },
+  receipt: { next: 'usize', rows: 'u32', lines: 'u32', bad: 'u32', begun: 'bool', over: 'bool' },
+  found: { refusal: 'u8', fits: 'bool', next: 'u32', lines: 'u32', length: 'usize' },
 };
 
 /** The layout, which every language must share: the size of each struct, and where each field stands. */
@@ -130,17 +153,24 @@ export const LAYOUT = {
   handled: [806, { refusal: 0, taken: 2, queue: 404 }],
   changed: [404, { refusal: 0, queue: 2 }],
   made: [1478, { refusal: 0, calendar: 2 }],
+  product_reply: [28, { refusal: 0, product: 4 }],
+  notices: [16, { fits: 0, date: 2, opened: 4, count: 8, bad: 12 }],
+  delivered: [1628, { fits: 0, refusal: 1, table: 4 }],
+  text: [16, { refusal: 0, fits: 1, length: 8 }],
+  line: [72, { bytes: 0, length: 64 }],
+  receipt: [24, { next: 0, rows: 8, lines: 12, bad: 16, begun: 20, over: 21 }],
+  found: [24, { refusal: 0, fits: 1, next: 4, lines: 8, length: 16 }],
 };
 
-// What each call answers and takes. 'bytes' and 'numbers' are lent: a place and a count; 'buffer' is written too.
+// What each call answers and takes. What is lent is a place and a count; a buffer is lent, and written.
 const SIGNATURES = {
   interface: ['u32'],
   day: ['day_reply', 'u16', 'u16', 'u16'],
   date: ['date_reply', 'u16'],
-  load: ['loaded', 'bytes'],
-  open: ['outcome', 'bytes', 'id', 'u16'],
-  judge_file: ['file_calendar', 'bytes'],
-  open_in: ['outcome', 'file_calendar', 'bytes', 'id', 'u16'],
+  load: ['loaded', 'lent'],
+  open: ['outcome', 'lent', 'id', 'u16'],
+  judge_file: ['file_calendar', 'lent'],
+  open_in: ['outcome', 'file_calendar', 'lent', 'id', 'u16'],
   roll: ['outcome', 'table', 'u16'],
   close: ['outcome', 'table', 'u16'],
   reopen: ['outcome', 'table', 'u16'],
@@ -149,17 +179,28 @@ const SIGNATURES = {
   due: ['day_reply', 'table', 'u16'],
   tick: ['u8', 'table', 'u32'],
   cash: ['cash_reply', 'table', 'u32', 'u32', 'u32'],
-  judge: ['verdict', 'table', 'numbers'],
-  write: ['written', 'calendar', 'bytes', 'buffer'],
+  judge: ['verdict', 'table', 'lent'],
+  write: ['written', 'calendar', 'lent', 'buffer'],
   record: ['record_bytes', 'product'],
   announce: ['taken', 'u16'],
-  take: ['taken', 'intake', 'bytes'],
+  take: ['taken', 'intake', 'lent'],
   finish: ['finished', 'intake'],
   queue: ['round'],
   handle: ['handled', 'round', 'u16'],
   join: ['changed', 'round', 'u16'],
   leave: ['changed', 'round', 'u16'],
   make: ['made', 'u32', 'cover'],
+  product_at: ['product_reply', 'lent', 'usize'],
+  read_notices: ['notices', 'lent', 'buffer', 'buffer'],
+  deliver: ['delivered', 'file_calendar', 'lent', 'notices', 'lent', 'lent', 'id', 'buffer'],
+  rows: ['text', 'table', 'buffer'],
+  rows_heading: ['line'],
+  refused_call: ['line', 'id', 'notices', 'u8', 'lent', 'lent', 'u32'],
+  unknown_measure: ['line', 'lent', 'lent', 'lent', 'u32'],
+  receive: ['receipt', 'receipt', 'lent', 'lent', 'buffer', 'buffer', 'buffer', 'buffer', 'buffer', 'buffer'],
+  differences: ['found', 'product', 'delivered', 'u32', 'lent', 'lent', 'lent', 'lent', 'lent', 'lent', 'buffer', 'u32', 'buffer'],
+  differences_heading: ['line'],
+  unknown_product: ['line', 'lent', 'lent', 'u32'],
 };
 
 // The size and the alignment of a type by C's rules.
@@ -219,26 +260,55 @@ function made_of(struct, values) {
   return bytes;
 }
 
+// How the arguments of a call are handed over, by the rule of C on the machine for which the code was made: a number takes
+// one of six registers, what is lent two, a struct of up to 16 bytes one or two where so many are left. A longer struct, and
+// one for which none are left, is handed over by its place. So is an answer of more than 16 bytes, in the first register.
+function ways_of([answer, ...kinds]) {
+  let left = SIZE[answer] > 16 ? 5 : 6;
+  const take = count => { left = Math.max(0, left - count); };
+  return kinds.map(kind => {
+    if (kind in NUMBERS || kind === 'lent' || kind === 'buffer') {
+      take(kind in NUMBERS ? 1 : 2);
+      return kind in NUMBERS ? 'number' : kind;
+    }
+    const needed = Math.ceil(SIZE[kind] / 8), fits = SIZE[kind] <= 16 && needed <= left;
+    if (fits) take(needed);
+    return fits ? 'words' : 'place';
+  });
+}
+
+const WAYS = Object.fromEntries(Object.entries(SIGNATURES).map(([name, signature]) => [name, ways_of(signature)]));
+const WORDS = { number: () => 1, place: () => 1, lent: () => 2, buffer: () => 2, words: size => Math.ceil(size / 8) };
+
 // ---- The module ----
 
 const STEP = 16; // what is placed begins at a multiple of this
 const PAGE = 65536;
 const LENT_AT_MOST = 16 * 1024 * 1024;
-let held = null; // its functions, its memory, the first free place, the kit that made it
+let module = null, held = null, made_by = null; // the module, one running copy of it, the kit that made it
+
+const placed_from = at => Math.ceil(at / STEP) * STEP;
+
+// A running copy of the module, with a memory of its own: its calls, and the first free place.
+function copy_of(one) {
+  const { exports } = new WebAssembly.Instance(one, {}), calls = {};
+  for (const [name, [answer, ...kinds]] of Object.entries(SIGNATURES)) {
+    const call = exports[`scullpouch_${name}`];
+    if (!call) throw new Error(`scullpouch: the module has no scullpouch_${name}`);
+    const words = kinds.reduce((sum, kind, i) => sum + WORDS[WAYS[name][i]](SIZE[kind]), SIZE[answer] > 8 ? 1 : 0);
+    if (call.length !== words) throw new Error(`scullpouch: scullpouch_${name} takes ${call.length} words, not ${words}`);
+    calls[name] = call;
+  }
+  return { calls, memory: exports.memory, free: placed_from(exports.__heap_base.value) };
+}
 
 /** Reads the module of the calls: its bytes, or a compiled one; without an argument scullpouch.wasm beside this file. */
 export async function start(source) {
-  const module = source instanceof WebAssembly.Module ? source : await WebAssembly.compile(source === undefined ? await beside() : bytes_of(source));
-  const { exports } = await WebAssembly.instantiate(module, {});
-  const calls = {};
-  for (const name of Object.keys(SIGNATURES)) {
-    calls[name] = exports[`scullpouch_${name}`];
-    if (!calls[name]) throw new Error(`scullpouch: the module has no scullpouch_${name}`);
-  }
-  if (calls.interface() !== INTERFACE) throw new Error(`scullpouch: the module has another interface than ${INTERFACE}`);
-  const [section] = WebAssembly.Module.customSections(module, 'kit');
+  const one = source instanceof WebAssembly.Module ? source : await WebAssembly.compile(source === undefined ? await beside() : bytes_of(source));
+  const copy = copy_of(one), [section] = WebAssembly.Module.customSections(one, 'kit');
+  if (copy.calls.interface() !== INTERFACE) throw new Error(`scullpouch: the module has another interface than ${INTERFACE}`);
   if (!section) throw new Error('scullpouch: the module does not say which kit made it');
-  held = { calls, memory: exports.memory, free: placed_from(exports.__heap_base.value), kit: new TextDecoder().decode(section) };
+  [module, held, made_by] = [one, copy, new TextDecoder().decode(section)];
 }
 
 async function beside() {
@@ -252,56 +322,61 @@ function started() {
   return held;
 }
 
-const placed_from = at => Math.ceil(at / STEP) * STEP;
-
-// The module's memory, long enough for so many bytes. It may stand elsewhere after it was made longer.
-function memory_of(bytes) {
-  const { memory } = held;
+// The memory of a copy, long enough for so many bytes. It may stand elsewhere after it was made longer.
+function memory_of({ memory }, bytes) {
   const more = Math.ceil((bytes - memory.buffer.byteLength) / PAGE);
   if (more > 0) memory.grow(more);
   return new Uint8Array(memory.buffer);
 }
 
-// An integer of so many bytes to them, and back.
-const as_bytes = (word, size) => Uint8Array.from({ length: size }, (_, i) => Number(BigInt(word) >> BigInt(8 * i) & 255n));
-const as_word = bytes => {
-  const word = bytes.reduceRight((sum, byte) => sum << 8n | BigInt(byte), 0n);
-  return bytes.length > 4 ? word : Number(word);
-};
+const as_bytes_of = array => new Uint8Array(array.buffer, array.byteOffset, array.byteLength);
 
-// A call. Each argument is copied into the module's memory, since a callee may change what it is handed by value: a
-// struct of up to eight bytes is a number, another a place; what is lent is a place and a count. The answer comes as they
-// do, a longer one at the place that is handed over first. A buffer is copied back.
-function call(name, ...values) {
-  const { calls, free } = started();
-  const [answer, ...kinds] = SIGNATURES[name];
-  const room = SIZE[answer] ?? 0, words = [];
-  let top = free + placed_from(room), buffer = null;
-  if (room > 8) words.push(free);
-  const put = bytes => {
-    if (bytes.length > LENT_AT_MOST) throw new RangeError(`${bytes.length} bytes are more than ${LENT_AT_MOST}`);
-    const at = top;
-    top = placed_from(at + bytes.length);
-    memory_of(top + STEP).set(bytes, at);
-    return at;
-  };
-  kinds.forEach((kind, i) => {
-    const value = values[i];
-    if (kind in NUMBERS) words.push(value);
-    else if (SIZE[kind] <= 8) words.push(as_word(value));
-    else if (kind in SIZE) words.push(put(value));
-    else {
-      const at = put(new Uint8Array(value.buffer, value.byteOffset, value.byteLength));
-      words.push(at, BigInt(value.length));
-      if (kind === 'buffer') buffer = [value, at];
-    }
-  });
-  memory_of(top + STEP);
-  const word = calls[name](...words);
-  if (buffer) buffer[0].set(new Uint8Array(held.memory.buffer, buffer[1], buffer[0].length));
-  if (room === 0) return word >>> 0 & (answer === 'u8' ? 255 : ~0);
-  return room > 8 ? new Uint8Array(held.memory.buffer, free, room).slice() : as_bytes(word, room);
+// Puts bytes into the memory of a copy, from a place on: the first place after them.
+function put(copy, bytes, at) {
+  if (bytes.length > LENT_AT_MOST) throw new RangeError(`${bytes.length} bytes are more than ${LENT_AT_MOST}`);
+  const top = placed_from(at + bytes.length);
+  memory_of(copy, top + STEP).set(bytes, at);
+  return top;
 }
+
+// A list that stays in the memory of a copy, to be lent to many calls.
+class Kept {
+  constructor(copy, list) {
+    [this.at, this.length] = [copy.free, list.length];
+    copy.free = put(copy, as_bytes_of(list), copy.free);
+  }
+}
+
+// An integer of so many bytes to them, and the words of a struct, eight bytes each, the last of up to four a number.
+const as_bytes = (word, size) => Uint8Array.from({ length: size }, (_, i) => Number(BigInt(word) >> BigInt(8 * i) & 255n));
+const word_of = bytes => bytes.reduceRight((sum, byte) => sum << 8n | BigInt(byte), 0n);
+const words_of = bytes => bytes.length <= 4 ? [Number(word_of(bytes))] : bytes.length <= 8 ? [word_of(bytes)] : [word_of(bytes.subarray(0, 8)), word_of(bytes.subarray(8))];
+
+// A call of a copy. What is handed over is copied into its memory for each call, since a callee may change what it is handed
+// by value; but for a list that is kept there. An answer of more than eight bytes comes at the place that is handed over
+// first. Buffers are copied back.
+function call_in(copy, name, ...values) {
+  const answer = SIGNATURES[name][0], room = SIZE[answer] ?? 0, ways = WAYS[name], words = room > 8 ? [copy.free] : [], written = [];
+  let top = copy.free + placed_from(room);
+  for (const [i, value] of values.entries()) {
+    if (ways[i] === 'number') words.push(SIGNATURES[name][i + 1] === 'usize' ? BigInt(value) : value);
+    else if (ways[i] === 'words') words.push(...words_of(value));
+    else if (value instanceof Kept) words.push(value.at, BigInt(value.length));
+    else {
+      words.push(top);
+      if (ways[i] !== 'place') words.push(BigInt(value.length));
+      if (ways[i] === 'buffer') written.push([as_bytes_of(value), top]);
+      top = put(copy, as_bytes_of(value), top);
+    }
+  }
+  memory_of(copy, top + STEP);
+  const word = copy.calls[name](...words);
+  for (const [bytes, at] of written) bytes.set(new Uint8Array(copy.memory.buffer, at, bytes.length));
+  if (room === 0) return answer === 'u8' ? word & 255 : word >>> 0;
+  return room > 8 ? new Uint8Array(copy.memory.buffer, copy.free, room).slice() : as_bytes(word, room);
+}
+
+const call = (name, ...values) => call_in(started(), name, ...values);
 
 // ---- Arguments and answers ----
 
@@ -386,7 +461,7 @@ const interface_number = () => call('interface');
 export { interface_number as interface };
 
 /** The toolchain that proved the calls and made the module, as the module says it. */
-export const kit = () => started().kit;
+export const kit = () => (started(), made_by);
 
 // ---- Days ----
 
@@ -408,6 +483,15 @@ export function date_text(day) {
 }
 
 // ---- Files ----
+
+const product_of = bytes => new Product({
+  id: text_of(get(bytes, 'product', 'id')), group: text_of(get(bytes, 'product', 'group')), market: text_of(get(bytes, 'product', 'market')),
+  kind: get(bytes, 'product', 'kind'), currency: text_of(get(bytes, 'product', 'currency')), size: get(bytes, 'product', 'size'), tick: get(bytes, 'product', 'tick'),
+});
+
+/** The product at a place of a master file: place p is record p % 15 of block p / 15, and one that holds no record gets 9.
+ * Master.products has all of them. */
+export const product_at = (file, place) => product_of(get(asked('product_at', file_of(file), fit(place, 64)), 'product_reply', 'product'));
 
 /** Judges a master file: the counts of years and of records. */
 export const load = file => counts_of(asked('load', file_of(file)), 'loaded');
@@ -496,14 +580,40 @@ export class Intake {
  * file once for many. */
 export const open = (file, id, date) => new Table(asked('open', file_of(file), id_of(id), day_of(date)));
 
+let judged_of; // of a Master, for the calls of a delivery
+
 /** A master file that was judged once, for many opens. It keeps the bytes that were judged. */
 export class Master {
   #file;
   #said;
+  #products = null;
 
   constructor(file) {
     this.#file = file_of(file).slice();
     this.#said = asked('judge_file', this.#file);
+  }
+
+  // For the calls of a delivery: the bytes that were judged, what was said of them, the products as the calls have them.
+  static {
+    judged_of = master => {
+      if (!(master instanceof Master)) throw new TypeError('a Master is expected');
+      return { file: master.#file, said: master.#said, products: master.#held() };
+    };
+  }
+
+  #held() {
+    if (!this.#products) {
+      // each question is asked of the whole file again, so the file is kept where the calls are made
+      const copy = copy_of(module), file = new Kept(copy, this.#file), places = Array.from({ length: PLACES * Math.floor(this.#file.length / BLOCK) }, (_, place) => place);
+      const replies = places.map(place => call_in(copy, 'product_at', file, place)).filter(reply => get(reply, 'product_reply', 'refusal') === 0);
+      this.#products = replies.map(reply => get(reply, 'product_reply', 'product'));
+    }
+    return this.#products;
+  }
+
+  /** The file's products, in its order. */
+  get products() {
+    return this.#held().map(product_of);
   }
 
   /** The file's calendar. */
@@ -612,12 +722,14 @@ export class Table {
     return { same, key: same ? null : get(reply, 'verdict', 'key') };
   }
 
+  /** Its rows, as deliver prints them. */
+  rows() {
+    const buffer = new Uint8Array(TABLE_TEXT);
+    return said(buffer, get(asked('rows', this.#held, buffer), 'text', 'length'));
+  }
+
   get product() {
-    const bytes = get(this.#held, 'table', 'product'), field = name => get(bytes, 'product', name);
-    return new Product({
-      id: text_of(field('id')), group: text_of(field('group')), market: text_of(field('market')), kind: field('kind'),
-      currency: text_of(field('currency')), size: field('size'), tick: field('tick'),
-    });
+    return product_of(get(this.#held, 'table', 'product'));
   }
 
   get calendar() {
@@ -642,6 +754,164 @@ export class Table {
       found.push({ key, day, back, number });
     }
     return found;
+  }
+}
+
+// ---- A delivery ----
+
+const said = (bytes, length) => String.fromCharCode(...bytes.subarray(0, Number(length)));
+const line_of = line => said(get(line, 'line', 'bytes'), get(line, 'line', 'length'));
+
+// A call that answers a line, as a text.
+const told = (name, ...values) => line_of(call(name, ...values));
+
+// The rows of a text in six lists, and a seventh for the places of a product's; they stay in the memory of a copy of the
+// module of their own, so that each call need not be handed all of them.
+class Rows {
+  bad = [];
+  #copy = copy_of(module);
+  #lists = [];
+  #places;
+  #file;
+  #ids;
+
+  // Takes line by line; what it yields is how far it is, from 0 to 1.
+  *take(file, text) {
+    const lists = [new Uint8Array(ROW_IDS), new Uint16Array(ROWS), new Uint16Array(ROWS), new Uint8Array(ROWS), new Uint16Array(ROWS), new Uint16Array(ROWS)];
+    this.#lists = lists.map(list => new Kept(this.#copy, list));
+    this.#places = new Kept(this.#copy, new Uint16Array(ROWS));
+    this.#file = new Kept(this.#copy, file);
+    const lent = new Kept(this.#copy, text);
+    let state = new Uint8Array(SIZE.receipt);
+    while (Number(get(state, 'receipt', 'next')) < text.length && !get(state, 'receipt', 'over')) {
+      state = call_in(this.#copy, 'receive', state, this.#file, lent, ...this.#lists);
+      if (get(state, 'receipt', 'bad')) this.bad.push(get(state, 'receipt', 'bad'));
+      yield Number(get(state, 'receipt', 'next')) / text.length;
+    }
+    [this.count, this.over] = [get(state, 'receipt', 'rows'), get(state, 'receipt', 'over') !== 0];
+    this.#ids = new Uint8Array(this.#copy.memory.buffer, this.#lists[0].at, 4 * this.count).slice();
+  }
+
+  // The lines of a product's differences.
+  differences(product, delivered) {
+    const buffer = new Uint8Array(TABLE_TEXT), lines = [];
+    for (let key = 0; key < KEYS;) {
+      const found = call_in(this.#copy, 'differences', product, delivered, this.count, ...this.#lists, this.#places, key, buffer);
+      lines.push(said(buffer, get(found, 'found', 'length')));
+      key = get(found, 'found', 'next');
+    }
+    return lines.join('');
+  }
+
+  // Those of the ids that are not in the file. A row of an id that is in it, and one of an id that an earlier row has, has none.
+  unknown(products) {
+    const seen = new Set(products.map(product => number_at(get(product, 'product', 'id'), 0, 4))), lines = [];
+    for (let i = 0; i < this.count; i++) {
+      const id = number_at(this.#ids, 4 * i, 4);
+      if (!seen.has(id)) lines.push(line_of(call_in(this.#copy, 'unknown_product', this.#file, this.#lists[0], i)));
+      seen.add(id);
+    }
+    return lines.join('');
+  }
+}
+
+/** A text of notices, bytes, that was read once, for many tables. One with a bad line throws BadLine. */
+export class Notices {
+  #said;
+  #calls = new Uint32Array(CALLS);
+  #ids = new Uint8Array(NOTICE_IDS);
+
+  constructor(text) {
+    this.#said = call('read_notices', bytes_of(text), this.#calls, this.#ids);
+    const bad = get(this.#said, 'notices', 'bad');
+    if (bad) throw new BadLine(bad);
+    this.#calls = this.#calls.slice(0, 5 * this.count);
+    this.#ids = this.#ids.slice(0, 4 * this.count);
+  }
+
+  /** The day of the opening. */
+  get date() {
+    return get(this.#said, 'notices', 'date');
+  }
+
+  /** The number of the line of the opening. */
+  get opened() {
+    return get(this.#said, 'notices', 'opened');
+  }
+
+  /** How many notices there are after the opening. */
+  get count() {
+    return get(this.#said, 'notices', 'count');
+  }
+
+  /** The notices: of each the number of its line, its kind, 0 a roll, 1 a close, 2 a reopening, 3 a measure, and its day, or
+   * of a measure the product, p, q and the price. */
+  get calls() {
+    return Array.from({ length: this.count }, (_, i) => {
+      const [line, kind, first, q, price] = this.#calls.subarray(5 * i, 5 * i + 5);
+      return kind === 3 ? { line, kind, id: text_of(this.#ids.subarray(4 * i, 4 * i + 4)), p: first, q, price } : { line, kind, day: first };
+    });
+  }
+
+  // The table of the product with an id, and the number of each notice's refusal.
+  #deliver({ said: of_file, file }, id) {
+    const refusals = new Uint8Array(this.count);
+    return [call('deliver', of_file, file, this.#said, this.#calls, this.#ids, id, refusals), refusals];
+  }
+
+  /** The table of a product of the file after the notices, and what was refused: the number of the line and of the refusal
+   * of each such call. A product whose opening is refused has none. */
+  table(master, id) {
+    const [delivered, refusals] = this.#deliver(judged_of(master), id_of(id));
+    const table = Table.from_bytes(get(judged(delivered, 'delivered'), 'delivered', 'table'));
+    return { table, refused: [...refusals].flatMap((number, i) => number ? [{ line: this.#calls[5 * i], number }] : []) };
+  }
+
+  /** The rows of all products of the file, under their heading, as deliver prints them. */
+  rows(master) {
+    const judged_file = judged_of(master), buffer = new Uint8Array(TABLE_TEXT), lines = [told('rows_heading')];
+    for (const product of judged_file.products) {
+      const [delivered] = this.#deliver(judged_file, get(product, 'product', 'id'));
+      lines.push(said(buffer, get(call('rows', get(delivered, 'delivered', 'table'), buffer), 'text', 'length')));
+    }
+    return lines.join('');
+  }
+
+  /** What was refused, a line for each call, as deliver tells it. */
+  refused(master) {
+    const judged_file = judged_of(master), lines = [];
+    for (const product of judged_file.products) {
+      const id = get(product, 'product', 'id'), [delivered, refusals] = this.#deliver(judged_file, id), refusal = get(delivered, 'delivered', 'refusal');
+      for (let i = 0; i <= this.count; i++) lines.push(told('refused_call', id, this.#said, refusal, this.#calls, refusals, i));
+    }
+    for (let i = 0; i < this.count; i++) lines.push(told('unknown_measure', judged_file.file, this.#calls, this.#ids, i));
+    return lines.join('');
+  }
+
+  /** What differs between the tables after the notices and rows that came from elsewhere, bytes in the form that reconcile
+   * reads: the heading and the lines under it, as reconcile prints them, '' where there was a row too many; how many lines
+   * stand under the heading, how many good rows there were, the numbers of the bad lines, and whether there was a good row
+   * too many. */
+  differences(master, text) {
+    const steps = this.differing(master, text);
+    let step = steps.next();
+    while (!step.done) step = steps.next();
+    return step.value;
+  }
+
+  /** The same a step at a time, for a program with other work: each step yields how far it is, from 0 to 1. */
+  *differing(master, text) {
+    const judged_file = judged_of(master), rows = new Rows(), { products } = judged_file, lines = [];
+    for (const share of rows.take(judged_file.file, bytes_of(text))) yield share / 2;
+    const { bad, count, over } = rows;
+    if (over) return { text: '', differ: 0, rows: count, bad, over };
+    for (const [i, product] of products.entries()) {
+      const [delivered] = this.#deliver(judged_file, get(product, 'product', 'id'));
+      lines.push(rows.differences(product, delivered));
+      yield 0.5 + i / products.length / 2;
+    }
+    const found = lines.join('') + rows.unknown(products);
+    return { text: told('differences_heading') + found, differ: found.split('\n').length - 1, rows: count, bad, over };
   }
 }
 

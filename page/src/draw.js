@@ -96,7 +96,7 @@ export function legend() {
   const box = () => svg('rect', { x: -16, y: -16, width: 32, height: 32, rx: 4 });
   return html('ul', { class: 'legend' },
     sign('last', 'last trading day', box(), svg('circle', { r: 13, class: 'disc' })),
-    sign('third', 'usual day (third Friday)', box(), svg('circle', { r: 15, class: 'ring' })),
+    sign('third', 'usual day', box(), svg('circle', { r: 15, class: 'ring' })),
     sign('closed', 'closed', box(), svg('path', { d: 'M -11 11 L 11 -11', class: 'stroke' })),
     sign('closed exchange', 'closed, but payments run', box(), svg('path', { d: 'M -11 11 L 11 -11', class: 'stroke' }), svg('circle', { cy: 13, r: 2.5, class: 'dot' })),
     sign('today', 'date of the table', box()),

@@ -1,10 +1,9 @@
-// The tables of all products after the notices, what each notice did, and what of a delivery differs, by the proved calls.
+// A master file, notices and a delivery, by the proved calls: what the page asks of them, and in which steps.
 
-import { read_notices } from './notices.js';
-import { products_of, years_of } from './master.js';
 import * as scullpouch from '../../bindings/js/scullpouch.js';
 
 const SLICE = 12; // milliseconds of work before the page is drawn again
+const LETTERS = ['R', 'C', 'E', 'M']; // of the kinds of notices, in the order of their numbers
 
 /** Why a key differs, in a clerk's words. */
 export const WHY = {
@@ -17,7 +16,7 @@ export const WHY = {
   product: 'the master file has no such product',
 };
 
-// A call's value, or its refusal.
+/** A call's value, or its refusal. */
 export function asked(call) {
   try {
     return call();
@@ -29,7 +28,7 @@ export function asked(call) {
 
 export const is_refused = said => said instanceof scullpouch.Refused;
 
-// Gives the page time to be drawn, at most so often; progress is told as a share.
+/** Gives the page time to be drawn, at most so often; progress is told as a share. */
 export function pace(told = () => {}) {
   let since = performance.now();
   return async share => {
@@ -44,21 +43,31 @@ export function pace(told = () => {}) {
 export function open_file(bytes) {
   const judged = asked(() => new scullpouch.Master(bytes));
   if (is_refused(judged)) return { refusal: judged.number };
-  const products = products_of(bytes);
-  return { refusal: 0, judged, products, years: years_of(bytes), kinds: new Map(products.map(one => [one.id, one.kind])) };
+  const { products, calendar } = judged;
+  return { refusal: 0, judged, products, calendar, kinds: new Map(products.map(one => [one.id, one.kind])) };
 }
 
-/** What a text of notices says. */
+/** What a text of notices says: the number of its first bad line, or its calls, the opening first. */
 export function notices_of(text) {
-  return read_notices(text, (...date) => {
-    const day = asked(() => scullpouch.day(...date));
-    return is_refused(day) ? null : day;
-  });
+  try {
+    const read = new scullpouch.Notices(new TextEncoder().encode(text));
+    const calls = read.calls.map(call => ({ ...call, kind: LETTERS[call.kind] }));
+    return { bad: 0, read, calls: [{ line: read.opened, kind: 'O', day: read.date }, ...calls] };
+  } catch (error) {
+    if (error instanceof scullpouch.BadLine) return { bad: error.number };
+    throw error;
+  }
+}
+
+/** The table of a product after the notices, or the number of its opening's refusal. */
+export function table_of(file, notices, id) {
+  const said = asked(() => notices.read.table(file.judged, id));
+  return is_refused(said) ? { table: null, refusal: said.number } : { ...said, refusal: 0 };
 }
 
 const days_of = table => table.maturities.map(one => `${one.key}:${one.day}`).join();
 
-// One call on a table: whether its maturities moved, or its refusal.
+// One call on a table: whether its maturities moved; of a measure the price after it.
 function step(table, call) {
   if (call.kind === 'M') return { price: table.measure(Math.min(call.p, 65535), Math.min(call.q, 65535), call.price) };
   if (call.kind === 'R') {
@@ -70,31 +79,32 @@ function step(table, call) {
   return { moved: days_of(table) !== before };
 }
 
-/** The tables of all products after the notices: by id, each with its table or the number of its opening's refusal. Each
- * call gets what it did: `moved` and `refused`, and of a measure the price after it and the size. */
-export async function tables_of(file, calls, told) {
-  const tables = new Map(), next = pace(told), [opening, ...notices] = calls;
-  const done = calls.map(call => ({ ...call, moved: [], refused: [], after: null, size: null }));
+// What each notice does to one product, call by call.
+function steps_of(file, { calls: [opening, ...calls] }, id, done) {
+  const table = asked(() => file.judged.open(id, opening.day));
+  if (is_refused(table)) return done[0].refused.push({ id, number: table.number });
+  done[0].moved.push(id);
+  for (const [i, call] of calls.entries()) {
+    if (call.kind === 'M' && call.id !== id) continue;
+    const said = asked(() => step(table, call)), { moved, refused } = done[i + 1];
+    if (is_refused(said)) refused.push({ id, number: said.number });
+    else if (said.price !== undefined) Object.assign(done[i + 1], { moved: [id], after: said.price, size: table.product.size });
+    else if (said.moved) moved.push(id);
+  }
+  return null;
+}
+
+/** What each notice did: which products moved, which were refused it, and of a measure the price after it and the size. Null
+ * where it is not wanted any more. */
+export async function done_of(file, notices, told, current) {
+  const next = pace(told), done = notices.calls.map(call => ({ ...call, moved: [], refused: [], after: null, size: null }));
   for (const [place, { id }] of file.products.entries()) {
-    const table = asked(() => file.judged.open(id, opening.day));
-    if (is_refused(table)) {
-      done[0].refused.push({ id, number: table.number });
-      tables.set(id, { table: null, refusal: table.number });
-    } else {
-      done[0].moved.push(id);
-      for (const [i, call] of notices.entries()) {
-        if (call.kind === 'M' && call.id !== id) continue;
-        const said = asked(() => step(table, call));
-        if (is_refused(said)) done[i + 1].refused.push({ id, number: said.number });
-        else if (said.price !== undefined) Object.assign(done[i + 1], { moved: [id], after: said.price, size: table.product.size });
-        else if (said.moved) done[i + 1].moved.push(id);
-      }
-      tables.set(id, { table, refusal: 0 });
-    }
+    steps_of(file, notices, id, done);
     await next((place + 1) / file.products.length);
+    if (!current()) return null;
   }
   for (const call of done) if (call.kind === 'M' && !file.kinds.has(call.id)) call.refused.push({ id: call.id, number: 9 });
-  return { tables, done };
+  return done;
 }
 
 const month_text = key => `${2000 + Math.floor(key / 12)}-${String(key % 12 + 1).padStart(2, '0')}`;
@@ -102,36 +112,20 @@ const month_text = key => `${2000 + Math.floor(key / 12)}-${String(key % 12 + 1)
 /** A maturity as it is written: its month, of a weekly option its Friday. */
 export const key_text = (kind, key) => kind === scullpouch.WEEKLY ? scullpouch.date_text(key) : month_text(key);
 
-// What is said of a key: why it differs, what was delivered and what is right; null where it does not.
-function difference(listed, rows) {
-  if (rows.length === 0) return ['missing', '', scullpouch.date_text(listed.day)];
-  const [, , day, number, back] = rows[0];
-  if (!listed) return ['extra', day, ''];
-  const right = scullpouch.date_text(listed.day);
-  if (rows.length > 1) return ['twice', day, right];
-  if (day !== right) return ['day', day, right];
-  if (number !== undefined && Number(number) !== listed.number) return ['number', String(Number(number)), String(listed.number)];
-  if (back !== undefined && Number(back) !== listed.back) return ['days_back', String(Number(back)), String(listed.back)];
-  return null;
+// A line of the differences, as reconcile prints it.
+function difference_of(line) {
+  const [product, maturity, why, delivered, right] = line.split(',');
+  return { product, maturity, why, delivered, right };
 }
 
-function of_product({ id, kind }, table, rows) {
-  const listed = new Map(table ? table.maturities.map(one => [key_text(kind, one.key), one]) : []), given = new Map();
-  for (const row of rows) given.set(row[1], [...given.get(row[1]) ?? [], row]);
-  return [...new Set([...listed.keys(), ...given.keys()])].sort().flatMap(maturity => {
-    const said = difference(listed.get(maturity), given.get(maturity) ?? []);
-    return said ? [{ product: id, maturity, why: said[0], delivered: said[1], right: said[2] }] : [];
-  });
-}
-
-/** What differs between rows and tables: products in the file's order, maturities rising, then ids that the file has not. */
-export async function differences_of(file, tables, rows, told) {
-  const next = pace(told), given = new Map(file.products.map(({ id }) => [id, []])), found = [];
-  for (const row of rows) given.has(row[0]) ? given.get(row[0]).push(row) : given.set(row[0], [row]);
-  for (const [place, product] of file.products.entries()) {
-    found.push(...of_product(product, tables.get(product.id)?.table, given.get(product.id)));
-    await next((place + 1) / file.products.length);
+/** What differs between rows, lines as `deliver` writes them, and the tables after the notices: products in the file's order,
+ * maturities rising, then ids that the file has not; and whether there are too many rows. Null where it is not wanted any
+ * more. */
+export async function differences_of(file, notices, lines, told, current) {
+  const next = pace(told), steps = notices.read.differing(file.judged, new TextEncoder().encode(lines.map(line => `${line}\n`).join('')));
+  for (let step = steps.next(); ; step = steps.next()) {
+    if (step.done) return { found: step.value.text.split('\n').slice(1, -1).map(difference_of), over: step.value.over };
+    await next(step.value);
+    if (!current()) return null;
   }
-  for (const id of given.keys()) if (!file.kinds.has(id)) found.push({ product: id, maturity: '', why: 'product', delivered: '', right: '' });
-  return found;
 }

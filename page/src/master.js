@@ -1,12 +1,10 @@
-// What a master file holds, and where it is wrong. Whether it is right is the call's to say; this finds the block or record
-// that a refusal is about, for the clerk to look at.
+// Where a master file is wrong. Whether it is right is the call's to say; this finds the block or record that a refusal is
+// about, for the clerk to look at.
 
-export const BLOCK = 512;
-const RECORD = 32, FIRST = 16, RECORDS = 15, CHECK = 510, MODULUS = 65521;
+const BLOCK = 512, RECORD = 32, FIRST = 16, RECORDS = 15, CHECK = 510, MODULUS = 65521;
 
 /** The kinds of products, in words. */
 export const KINDS = ['future', 'option of 12 months', 'option of 24 months', 'option of 60 months', 'future of 2005', 'weekly option'];
-export const WEEKLY = 5;
 
 const word = (bytes, at) => bytes[at] << 8 | bytes[at + 1];
 const text = (bytes, from, to) => String.fromCharCode(...bytes.subarray(from, to));
@@ -20,17 +18,6 @@ function blocks_of(file) {
 
 // The records of a product block.
 const records_of = block => Array.from({ length: Math.min(RECORDS, word(block, 2)) }, (_, k) => block.subarray(FIRST + RECORD * k, FIRST + RECORD * (k + 1)));
-
-/** The products of an accepted file, in its order. */
-export function products_of(file) {
-  return blocks_of(file).filter(block => block[0] === 2).flatMap(records_of).map(record => ({
-    id: text(record, 0, 4).trimEnd(), group: text(record, 4, 8), market: text(record, 8, 12), kind: record[12],
-    size: word(record, 13) * 10000 + word(record, 20), tick: word(record, 15), currency: text(record, 17, 20),
-  }));
-}
-
-/** The years of an accepted file. */
-export const years_of = file => blocks_of(file).filter(block => block[0] === 1).map(block => word(block, 2));
 
 function check_of(block) {
   let sum = 0;

@@ -2,7 +2,7 @@
 
 import { kit, start } from '../../bindings/js/scullpouch.js';
 import { by_id, fill } from './elements.js';
-import { tables_of } from './judge.js';
+import { done_of } from './judge.js';
 import { EXAMPLE, WASM } from './packed.js';
 import * as part_delivery from './part_delivery.js';
 import * as part_file from './part_file.js';
@@ -11,9 +11,9 @@ import * as part_product from './part_product.js';
 
 const unpacked = text => Uint8Array.from(atob(text), letter => letter.charCodeAt(0));
 
-// What was put in: the master file, the calls of the notices, the delivery; and what follows: the tables, the differences.
+// What was put in: the master file, the notices, the delivery; and what follows: the differences, what each notice did.
 // What is put in later makes work that is under way worthless, so each run has a number.
-const state = { file: null, notices: null, delivery: null, tables: null, product: null, found: [], filter: { why: '', product: '' }, order: { by: null, down: false } };
+const state = { file: null, notices: null, delivery: null, done: null, product: null, found: [], filter: { why: '', product: '' }, order: { by: null, down: false } };
 let run = 0;
 
 function told(words) {
@@ -29,17 +29,14 @@ async function follow(what) {
     part_delivery.guess_again(state);
   }
   if (what === 'file' || what === 'notices') {
-    state.tables = null;
-    part_product.show(state, null);
-  }
-  if (!state.tables && state.file && state.notices) {
-    const { tables, done } = await tables_of(state.file, state.notices, told('Working out the tables'));
-    if (!current()) return;
-    state.tables = tables;
-    part_notices.show_done(done);
-    part_product.show(state, by_id('product').value || state.file.products[0].id);
+    state.done = null;
+    part_product.show(state, by_id('product').value);
   }
   await part_delivery.judge(state, told('Judging the delivery'), current);
+  if (current() && !state.done && state.file && state.notices) {
+    state.done = await done_of(state.file, state.notices, told('Going through the notices'), current);
+    if (current()) part_notices.show_done(state.done);
+  }
   if (current()) by_id('working').hidden = true;
 }
 

@@ -4,13 +4,14 @@ import { iso, read_date } from './dates.js';
 import { by_id, counted, fill, html, listed, scrolled, table } from './elements.js';
 import { bytes_of, taken } from './files.js';
 import { WHY, differences_of, pace } from './judge.js';
-import { COLUMNS, ROWS_AT_MOST, TEXT_AT_MOST, guess, lines_of, order_of, row_of, text_of } from './rows.js';
+import { COLUMNS, ROWS_AT_MOST, TEXT_AT_MOST, guess, line_of, lines_of, order_of, row_of, text_of } from './rows.js';
 
 const NAMES = { product: 'Product', maturity: 'Maturity', day: 'Last trading day', number: 'Listing number', back: 'Days moved back' };
 const SEPARATORS = { ',': 'comma', ';': 'semicolon', '\t': 'tab', '|': 'bar', ' ': 'spaces' };
 const TITLES = ['Product', 'Maturity', 'Delivered', 'Right', 'Why'];
 const FIELDS = ['product', 'maturity', 'delivered', 'right', 'why'];
-const SHOWN_AT_MOST = 500, UNREAD_AT_MOST = 200;
+const SHOWN_AT_MOST = 500, UNREAD_AT_MOST = 200; // rows of a table, as long as not all are asked for
+const PAUSE = 250; // milliseconds after the last key before a text is read
 
 // ---- What it is taken to be ----
 
@@ -73,10 +74,10 @@ function show_plan(state) {
 
 // ---- The verdict ----
 
-// All rows of the text, and the lines that are none.
+// All rows of the text, as far as they may be judged and one more, and the lines that are none.
 async function read_rows({ text, plan, order }, kinds, told) {
   const rows = [], bad = [], next = pace(told);
-  let skipped = !plan.heading, many = false, unread = 0;
+  let skipped = !plan.heading, unread = 0;
   for (const { number, line } of lines_of(text)) {
     if (!skipped) {
       skipped = true;
@@ -86,19 +87,16 @@ async function read_rows({ text, plan, order }, kinds, told) {
     if (row.bad) {
       unread++;
       if (bad.length < UNREAD_AT_MOST) bad.push({ number, why: row.bad, line });
-    } else if (rows.length === ROWS_AT_MOST) {
-      many = true;
-      break;
-    } else rows.push(row.fields);
+    } else if (rows.push(row.fields) > ROWS_AT_MOST) break;
     await next(0);
   }
-  return { rows, bad, unread, many };
+  return { rows, bad, unread };
 }
 
 // The verdict in one sentence.
-function sentence({ rows, unread, many }, found, file) {
+function sentence({ rows, unread }, { found, over }, file) {
   const products = new Set(rows.map(([id]) => id)).size, all = `${counted(rows.length, 'row')} of ${counted(products, 'product')}`;
-  if (many) return ['no', `There are more than ${ROWS_AT_MOST.toLocaleString('en')} rows, so nothing is said of them.`];
+  if (over) return ['no', `There are more than ${ROWS_AT_MOST.toLocaleString('en')} rows, so nothing is said of them.`];
   const lines = unread > 0 ? ` ${counted(unread, 'line')} could not be read.` : '';
   if (found.length === 0) return [unread > 0 ? 'no' : 'yes', unread > 0 ? `Of what could be read, nothing differs (${all}).${lines}` : `The delivery is right: ${all}, and nothing differs.`];
   const which = [...new Set(found.map(one => one.product))];
@@ -118,15 +116,15 @@ export async function judge(state, told, current) {
   fill(by_id('differences'));
   fill(by_id('unread'));
   const missing = said_of(state, null);
-  if (missing || !state.tables) return fill(by_id('verdict'), missing && html('p', { class: 'said ask' }, missing));
+  if (missing) return fill(by_id('verdict'), html('p', { class: 'said ask' }, missing));
   const read = await read_rows(delivery, state.file.kinds, told);
   if (!current()) return;
-  const found = read.many ? [] : await differences_of(state.file, state.tables, read.rows, told);
-  if (!current()) return;
-  const [how, words] = sentence(read, found, state.file);
+  const judged = await differences_of(state.file, state.notices, read.rows.map(line_of), told, current);
+  if (!judged) return;
+  const [how, words] = sentence(read, judged, state.file);
   fill(by_id('verdict'), html('p', { class: `said verdict ${how}` }, words));
   show_unread(read);
-  state.found = found;
+  Object.assign(state, { found: judged.found, all: false });
   state.order = { by: null, down: false };
   show_found(state);
 }
@@ -178,17 +176,21 @@ function found_rows(state) {
     const sorted = state.order.by === FIELDS[i] ? (state.order.down ? 'descending' : 'ascending') : 'none';
     return html('th', { scope: 'col', 'aria-sort': sorted }, html('button', { type: 'button', 'data-sort': FIELDS[i], onclick: () => sort_by(FIELDS[i]) }, title, { ascending: ' ▲', descending: ' ▼', none: '' }[sorted]));
   });
-  const shown = left.slice(0, SHOWN_AT_MOST);
-  return [left, scrolled('Differences', html('table', { class: 'stacked' },
+  const shown = state.all ? left : left.slice(0, SHOWN_AT_MOST), show_all = () => {
+    state.all = true;
+    show_rows(state);
+  };
+  return [scrolled('Differences', html('table', { class: 'stacked' },
     html('caption', {}, `${counted(left.length, 'difference')}${left.length < state.found.length ? ` of ${state.found.length.toLocaleString('en')}` : ''}${shown.length < left.length ? `; the first ${SHOWN_AT_MOST} are shown, all are copied and saved` : ''}`),
     html('thead', {}, html('tr', {}, titles)),
     html('tbody', {}, shown.map(one => html('tr', { 'data-why': one.why }, cells(one).map((text, i) => html(i === 0 ? 'th' : 'td', { 'data-title': TITLES[i], ...(i === 0 ? { scope: 'row' } : {}) },
-      i === 0 && state.tables.has(text) ? html('button', { type: 'button', class: 'to-product', title: `Show ${text}`, onclick: () => state.show(text, one.maturity) }, text) : text)))))))];
+      i === 0 && state.file.kinds.has(text) ? html('button', { type: 'button', class: 'to-product', title: `Show ${text}`, onclick: () => state.show(text, one.maturity) }, text) : text))))))),
+  shown.length < left.length && html('p', { class: 'no-print' }, html('button', { type: 'button', class: 'plain', id: 'all', onclick: show_all }, `Show all ${left.length.toLocaleString('en')}`))];
 }
 
 function show_rows(state) {
-  const focused = document.activeElement?.dataset?.sort, [, rows] = found_rows(state);
-  fill(by_id('found-rows'), rows);
+  const focused = document.activeElement?.dataset?.sort;
+  fill(by_id('found-rows'), found_rows(state));
   if (focused) document.querySelector(`[data-sort="${focused}"]`)?.focus();
 }
 
@@ -240,7 +242,9 @@ function take_bytes(state, { name, size, cut, bytes }) {
 
 export function set_up(state) {
   taken('part-delivery', 'delivery-file', async file => take_bytes(state, await bytes_of(file, TEXT_AT_MOST)));
-  by_id('delivery-text').addEventListener('change', event => {
-    if (event.target.value.trim() !== '') take_text(state, 'Pasted rows', event.target.value.slice(0, TEXT_AT_MOST));
+  let waiting = 0;
+  by_id('delivery-text').addEventListener('input', event => {
+    clearTimeout(waiting);
+    if (event.target.value.trim() !== '') waiting = setTimeout(() => take_text(state, 'Pasted rows', event.target.value.slice(0, TEXT_AT_MOST)), PAUSE);
   });
 }

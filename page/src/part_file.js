@@ -8,9 +8,10 @@ import { KINDS, where } from './master.js';
 import { refusal } from './words.js';
 
 const found = (file, name) => {
+  const { first_year, years } = file.calendar;
   const kinds = KINDS.map((words, kind) => [words, file.products.filter(one => one.kind === kind).length]).filter(([, count]) => count > 0);
   return html('div', { class: 'said yes' },
-    html('p', {}, html('strong', {}, `${name}: ${counted(file.products.length, 'product')}, ${counted(file.years.length, 'year')}, ${file.years[0]} to ${file.years.at(-1)}.`)),
+    html('p', {}, html('strong', {}, `${name}: ${counted(file.products.length, 'product')}, ${counted(years, 'year')}, ${first_year} to ${first_year + years - 1}.`)),
     html('p', { class: 'soft' }, `${listed(kinds.map(([words, count]) => counted(count, words, words.replace(/future|option/, '$&s'))))}.`));
 };
 

@@ -40,7 +40,7 @@ export function read(state) {
     fill(said);
     fill(by_id('notices-done'));
   } else {
-    const { bad, calls } = notices_of(text);
+    const said_of = notices_of(text), { bad, calls } = said_of;
     if (bad) {
       const line = text.split('\n')[bad - 1];
       fill(said, html('div', { class: 'said no' }, html('p', {},
@@ -48,7 +48,7 @@ export function read(state) {
           : `Line ${bad} is not a notice: “${line.slice(0, 80)}”. Nothing is judged until it is mended. The first notice is the opening, O and a date, and there is one only.`)));
       fill(by_id('notices-done'));
     } else {
-      state.notices = calls;
+      state.notices = said_of;
       fill(said, html('div', { class: 'said yes' }, html('p', {}, `${counted(calls.length, 'notice')}: ${words_of(calls[0], date)}; ${counted(calls.filter(call => call.kind === 'R').length, 'morning')}.`)));
     }
   }

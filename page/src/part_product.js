@@ -4,7 +4,7 @@ import { WEEKLY, date, day } from '../../bindings/js/scullpouch.js';
 import { MONTHS, day_words, iso, month_words, read_date, weekday } from './dates.js';
 import { legend, month_picture, strip } from './draw.js';
 import { by_id, fill, html, scrolled, table } from './elements.js';
-import { asked, is_refused, key_text } from './judge.js';
+import { asked, is_refused, key_text, table_of } from './judge.js';
 import { KINDS } from './master.js';
 import { price_of, refusal, ten_thousandths } from './words.js';
 
@@ -54,10 +54,10 @@ function show_pictures(state) {
 
 /** Shows a product, and of its maturities one: the one that is named, or the first that was moved, or the first. */
 export function show(state, id, maturity = null) {
-  const entry = state.tables?.get(id), said = by_id('product-said');
+  const entry = state.file && state.notices && state.file.kinds.has(id) ? table_of(state.file, state.notices, id) : null, said = by_id('product-said');
   by_id('product-shown').hidden = !entry?.table;
   state.product = null;
-  if (!entry) return fill(said, state.tables ? '' : 'Put in a master file and notices first.');
+  if (!entry) return fill(said, 'Put in a master file and notices first.');
   by_id('product').value = id;
   if (!entry.table) return fill(said, refusal(`${id} has no table: its opening was refused`, entry.refusal));
   const held = entry.table, { kind, group, market, currency, size, tick } = held.product, marks = marks_of(held);

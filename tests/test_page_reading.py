@@ -1,8 +1,10 @@
-"""Tests of how the page reads the rows of a delivery: python3 tests/test_page_rows.py
+"""Tests of how the page reads a delivery, and where it finds a master file wrong: python3 tests/test_page_reading.py
 
 Against the second program's reading (second/rows.py): texts of the form that `deliver` writes are
 read line by line as it reads them; the same rows in the forms of other vendors are read as they
-are there. Without node they are left out, and a line says so.
+are there. Of every stored master file that is refused the page names the block that was damaged.
+Faults that are planted in the page's modules are found. Without node these tests are left out, and
+a line says so.
 """
 
 import base64
@@ -12,16 +14,19 @@ import re
 import shutil
 import subprocess
 import sys
+import tempfile
 import unittest
 from itertools import permutations
 
+import cases
 from runs import rows as some_rows
 from runs.case import Chance
 from runs.histories import ITEMS
 from second import dates, rows, terms
 
 TESTS = os.path.dirname(os.path.abspath(__file__))
-EXAMPLE = os.path.join(os.path.dirname(TESTS), 'examples', 'morning')
+ROOT = os.path.dirname(TESTS)
+EXAMPLE = os.path.join(ROOT, 'examples', 'morning')
 KINDS = {'ABBN': 3, 'ALVF': 0, 'AXA': 3, 'AXAF': 0, 'AXAW': 5, 'BMW': 2, 'CIS': 1, 'EIA': 1, 'ENL5': 3, 'ENTF': 0, 'SIEW': 5, 'TOT5': 4}
 MONTHS = ('Jan', 'Feb', 'Mar', 'Apr', 'May', 'Jun', 'Jul', 'Aug', 'Sep', 'Oct', 'Nov', 'Dec')
 NAMES = ('January', 'February', 'March', 'April', 'May', 'June', 'July', 'August', 'September', 'October', 'November', 'December')
@@ -32,13 +37,20 @@ def stored(name):
         return file.read()
 
 
-# What the page reads of some texts.
-def read(texts, kinds=None, order=None):
-    asked = [{'bytes': base64.b64encode(text).decode(), 'kinds': kinds or KINDS, 'order': order} for text in texts]
-    ran = subprocess.run(['node', os.path.join(TESTS, 'page_rows.mjs')], input=json.dumps(asked).encode(), capture_output=True, timeout=300)
+SOURCE = None  # the page's modules, where they are not those of page/src
+
+
+# What the page's modules say of some texts or files.
+def answers(asked):
+    ran = subprocess.run(['node', os.path.join(TESTS, 'page_reading.mjs'), *([SOURCE] if SOURCE else [])], input=json.dumps(asked).encode(), capture_output=True, timeout=300)
     if ran.returncode != 0:
         raise AssertionError(ran.stderr.decode())
     return json.loads(ran.stdout)
+
+
+# What the page reads of some texts.
+def read(texts, kinds=None, order=None):
+    return answers([{'bytes': base64.b64encode(text).decode(), 'kinds': kinds or KINDS, 'order': order} for text in texts])
 
 
 # The second program's rows of a text, as fields.
@@ -177,7 +189,7 @@ class Forms(unittest.TestCase):
 
     # Two columns of days: the heading's words say which is the maturity.
     def test_full_dates(self):
-        weekly = [(id, key, day) for id, _, key, day, _ in morning() if KINDS[id] == 5]
+        weekly = [(id, key, day - 1) for id, _, key, day, _ in morning() if KINDS[id] == 5]
         for heading, swapped in ((('Id', 'Expiry Friday', 'Last trading day'), False), (('Id', 'Last trading day', 'Maturity'), True), (None, False)):
             lines = [','.join(heading)] if heading else []
             for id, key, day in weekly:
@@ -200,6 +212,11 @@ class Forms(unittest.TestCase):
         [found] = read([b'AXA;Jun 2008;06/06/2008\nABBN;Jun 2008;6/6/08\n'])
         self.assertEqual((found['open'], [row[2] for row in found['rows']]), (None, ['2008-06-06'] * 2))
 
+    # Days that only some years have, and quotes within quotes.
+    def test_days_and_quotes(self):
+        [found] = read([b'Id;Note;Month;Last\nAXA;"a ""b;"" c";Feb 2008;29.02.2008\nAXA;"";Feb 2009;29.02.2009\nBMW;x;Mar 2008;31-Mar-08\nBMW;x;Apr 2008;31-Apr-08\nBMW;x;May 2008;16-May-08\nBMW;x;Jun 2008;20-Jun-08\n'])
+        self.assertEqual((found['rows'], found['bad']), ([['AXA', '2008-02', '2008-02-29'], ['BMW', '2008-03', '2008-03-31'], ['BMW', '2008-05', '2008-05-16'], ['BMW', '2008-06', '2008-06-20']], [3, 5]))
+
     # Lines that are no rows, each with its number; the others are read.
     def test_bad(self):
         text = 'Product;Month;Last day\nAXA;Jun 2008;20 Jun 2008\n\nAXA;Jul 2008;31 Jun 2008\nAXAW;Jun 2008;20 Jun 2008\n;Jun 2008;20 Jun 2008\n<b>AXA</b>;Jun 2008;20 Jun 2008\nAXA;Jun 2108;20 Jun 2008\nAXA\nBMW;20 Jun 2008;20 Jun 2008\nBMW;Sep 2008;19 Sep 2008\n'
@@ -216,7 +233,85 @@ class Forms(unittest.TestCase):
             self.assertEqual(found['rows'], [])
 
 
+# ---- Master files ----
+
+# The blocks of the six-block files that the names of cases speak of, and the word that the page has for a field.
+PLACES = {'block': {'first': 0, 'middle': 2, 'last': 5}, 'calendar': {'first': 0, 'middle': 1, 'last': 2}, 'products': {'first': 3, 'middle': 4, 'last': 5}}
+FIELDS = {'id': 'its id', 'group': 'its group', 'market': 'market', 'kind': 'kind', 'size': 'size', 'tick': 'tick', 'currency': 'currency'}
+
+
+@unittest.skipUnless(shutil.which('node'), 'no node')
+class Where(unittest.TestCase):
+
+    # Of every refused file something is named; of those with one damage the block and the field of it.
+    def test_cases(self):
+        refused = [(name, data) for name, data in cases.cases() if cases.refusal_of(name)]
+        found = answers([{'bytes': base64.b64encode(data).decode(), 'refusal': cases.refusal_of(name)} for name, data in refused])
+        blocks = fields = 0
+        for (name, _), words in zip(refused, found, strict=True):
+            self.assertIsNotNone(words, name)
+            place = re.search(r'(first|middle|last)-(block|calendar|products)', name)
+            if place and name[:2] in ('q2', 'q3', 'q5'):
+                blocks += 1
+                self.assertTrue(words.startswith(f'block {PLACES[place[2]][place[1]]}: '), (name, words))
+            field = re.match(r'q7-(id|group|market|kind|size|tick|currency)-\d+-[0-9a-f]+$', name)
+            if field:
+                fields += 1
+                self.assertIn(FIELDS[field[1]], words, name)
+        self.assertGreater(blocks, 25)
+        self.assertGreater(fields, 40)
+
+
+# ---- Planted faults ----
+
+# A module of the page, what stands there, what stands there instead, and the test that finds it.
+FAULTS = (
+    ('dates.js', 'as_day(year_of(m[3]), +m[2], +m[1])]', 'as_day(year_of(m[3]), +m[1], +m[2])]', 'Forms.test_dates'),
+    ('dates.js', 'first === second ? by_day : { either: { day: by_day.day, month: by_month.day } }', 'by_day', 'Forms.test_asked'),
+    ('dates.js', '2000 + Number(digits)', '1900 + Number(digits)', 'Forms.test_dates'),
+    ('dates.js', 'leap ? 29 : 28', '28', 'Forms.test_days_and_quotes'),
+    ('rows.js', r'const ends = /\r\n|\n|\r/g;', r'const ends = /\n/g;', 'Forms.test_separators_and_quotes'),
+    ('rows.js', """else if (line[i + 1] === '"') field += line[++i];""", '', 'Forms.test_days_and_quotes'),
+    ('rows.js', "take('maturity', swapped ? other : one);", "take('maturity', one);", 'Forms.test_full_dates'),
+    ('rows.js', 'iso(date.month ?? day.slice(0, 2))', 'iso(date.month ?? day)', 'Forms.test_bad'),
+    ('rows.js', '[id, maturity, day, ...numbers] : null', '[id, maturity, day] : null', 'Own.test_the_morning'),
+    ('rows.js', 'bytes[0] === 0xff && bytes[1] === 0xfe', 'false', 'Forms.test_marks_and_letters'),
+    ('rows.js', 'if (weekly && !day)', 'if (false)', 'Forms.test_bad'),
+    ('rows.js', 'found.open = { number, text: field }', 'found.open = null', 'Forms.test_asked'),
+    ('master.js', '(sum + (i + 1) * block[i]) % MODULUS', '(sum + i * block[i]) % MODULUS', 'Where.test_cases'),
+    ('master.js', 'if (word(block, 4) !== index)', 'if (false)', 'Where.test_cases'),
+    ('master.js', '![1, 5, 10, 100].includes', '![1, 2, 5, 10, 100].includes', 'Where.test_cases'),
+)
+
+
+@unittest.skipUnless(shutil.which('node'), 'no node')
+class Faults(unittest.TestCase):
+
+    # Whether a test fails with the modules of a folder.
+    def fails(self, folder, test):
+        global SOURCE
+        SOURCE = folder
+        try:
+            with open(os.devnull, 'w', encoding='utf-8') as nowhere:
+                tests = unittest.defaultTestLoader.loadTestsFromName(test, sys.modules[__name__])
+                return not unittest.TextTestRunner(stream=nowhere).run(tests).wasSuccessful()
+        finally:
+            SOURCE = None
+
+    def test_found(self):
+        for name, old, new, test in FAULTS:
+            with self.subTest(fault=(name, new)), tempfile.TemporaryDirectory() as folder:
+                source = shutil.copytree(os.path.join(ROOT, 'page'), os.path.join(folder, 'page'), ignore=shutil.ignore_patterns('*.html', '*.png'))
+                path = os.path.join(source, 'src', name)
+                with open(path, encoding='utf-8') as file:
+                    text = file.read()
+                self.assertEqual(text.count(old), 1, (name, old))
+                with open(path, 'w', encoding='utf-8') as out:
+                    out.write(text.replace(old, new))
+                self.assertTrue(self.fails(os.path.join(source, 'src'), test))
+
+
 if __name__ == '__main__':
     if not shutil.which('node'):
-        print("page: no node, so the page's reading of rows is left out")
+        print("page: no node, so the page's reading of deliveries and master files is left out")
     sys.exit(unittest.main())
