@@ -10,7 +10,8 @@ import tempfile
 NAMES = ('chromium', 'chromium-browser')
 PATIENCE = 300
 QUIET = ['--headless', '--disable-gpu', '--hide-scrollbars', '--no-first-run', '--disable-dev-shm-usage',
-         '--disable-background-networking', '--host-resolver-rules=MAP * ~NOTFOUND']
+         '--disable-background-networking']
+NOWHERE = '--host-resolver-rules=MAP * ~NOTFOUND'
 
 
 def installed():
@@ -19,14 +20,17 @@ def installed():
 
 
 class Browser:
-    """A browser with one page; `with Browser() as browser:` ends it."""
+    """A browser with one page; `with Browser() as browser:` ends it. It finds no machine, but for this one where `here` is."""
+
+    def __init__(self, here=False):
+        self.rules = NOWHERE + (', EXCLUDE 127.0.0.1' if here else '')
 
     def __enter__(self):
         self.folder = tempfile.TemporaryDirectory()
         read_by_browser, self.to_browser = os.pipe()
         self.from_browser, written_by_browser = os.pipe()
         self.process = subprocess.Popen(
-            ['sh', '-c', f'exec "$0" "$@" 3<&{read_by_browser} 4>&{written_by_browser}', installed(), *QUIET,
+            ['sh', '-c', f'exec "$0" "$@" 3<&{read_by_browser} 4>&{written_by_browser}', installed(), *QUIET, self.rules,
              *(['--no-sandbox'] if os.geteuid() == 0 else []), '--remote-debugging-pipe', f'--user-data-dir={self.folder.name}'],
             pass_fds=(read_by_browser, written_by_browser), stdout=subprocess.DEVNULL, stderr=subprocess.DEVNULL)
         os.close(read_by_browser)
@@ -82,10 +86,10 @@ class Browser:
         self.call('Emulation.setEmulatedMedia', {'media': medium, 'features': [{'name': 'prefers-color-scheme', 'value': scheme}]})
 
     def open(self, path):
-        """Opens a file and waits until it is there."""
+        """Opens a file, or an address, and waits until it is there."""
         self.events.clear()
         self.told.clear()
-        self.call('Page.navigate', {'url': path.resolve().as_uri()})
+        self.call('Page.navigate', {'url': path if isinstance(path, str) else path.resolve().as_uri()})
         while 'Page.loadEventFired' not in self.events:
             self.keep(self.message())
 

@@ -16,13 +16,17 @@ import shutil
 import subprocess
 import sys
 import tempfile
+import threading
+import time
 import unittest
+from functools import partial
+from http.server import SimpleHTTPRequestHandler, ThreadingHTTPServer
 
+import browser
+import sessions
 import test_bindings as bindings
 from second import terms
 from test_bindings import BINDINGS, CRATE, EXAMPLES, ROOT, SECONDS, TESTS, read, run
-
-import sessions
 
 JS = os.path.join(BINDINGS, 'js')
 MODULE = 'scullpouch.js'
@@ -216,6 +220,44 @@ class Made(unittest.TestCase):
         self.assertEqual(sorted(os.listdir(BUILT)), ['package.json', 'scullpouch.d.ts', 'scullpouch.js', 'scullpouch.wasm'])
 
 
+# A page that imports the module as a server hands it out, and shows what README's program prints.
+PAGE = '''<!DOCTYPE html><title>waits</title><script type="module">
+import * as scullpouch from './scullpouch.js';
+const lines = [];
+try {
+  await scullpouch.start();
+  const table = scullpouch.open(await (await fetch('master.bin')).arrayBuffer(), 'AXA', '2008-03-20');
+  table.roll('2008-03-21');
+  for (const m of table.maturities) lines.push(`${m.number} ${m.key} ${m.day} ${m.back}`);
+  table.roll('2008-03-20');
+} catch (error) { lines.push(error.message); }
+document.body.textContent = lines.join('\\n') + '\\n';
+document.title = 'ready';
+</script>'''
+
+
+@unittest.skipUnless(shutil.which('node') and browser.installed(), 'no node or no chromium')
+class InABrowser(unittest.TestCase):
+
+    def test_served(self):
+        with tempfile.TemporaryDirectory() as folder:
+            shutil.copytree(BUILT, folder, dirs_exist_ok=True)
+            shutil.copy(os.path.join(EXAMPLES, 'master.bin'), folder)
+            with open(os.path.join(folder, 'index.html'), 'w', encoding='utf-8') as out:
+                out.write(PAGE)
+            handler = type('Handler', (SimpleHTTPRequestHandler,), {'log_message': lambda *_: None})
+            with ThreadingHTTPServer(('127.0.0.1', 0), partial(handler, directory=folder)) as server:
+                threading.Thread(target=server.serve_forever, daemon=True).start()
+                with browser.Browser(here=True) as one:
+                    one.open(f'http://127.0.0.1:{server.server_port}/index.html')
+                    end = time.monotonic() + SECONDS
+                    while one.evaluate('document.title') != 'ready' and time.monotonic() < end:
+                        time.sleep(0.1)
+                    printed = one.evaluate('document.body.textContent')
+                server.shutdown()
+        self.assertEqual(printed, bindings.fenced('text')[0])
+
+
 # ---- Planted faults ----
 
 # What stands in the module, and what stands there instead.
@@ -312,6 +354,8 @@ def main(arguments):
     bindings.SEED = asked.seed
     if not shutil.which('node'):
         print('js: no node, so the calls for JavaScript are left out; their layouts, names and types are compared')
+    elif not browser.installed():
+        print('js: chromium is not installed, so the module in a browser is left out')
     print(f'js: seed {asked.seed}', flush=True)
     unittest.main(argv=[__file__, *rest])
 

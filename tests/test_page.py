@@ -77,6 +77,12 @@ class TheFile(unittest.TestCase):
         build(FOLDER / 'again.html')
         self.assertEqual((FOLDER / 'again.html').read_bytes(), PAGE.read_bytes())
 
+    # The README's picture is there and small; page/picture makes it.
+    def test_picture(self):
+        self.assertIn('](page/scullpouch.png)', (ROOT / 'README.md').read_text(encoding='utf-8'))
+        picture = (ROOT / 'page' / 'scullpouch.png').read_bytes()
+        self.assertTrue(picture.startswith(b'\x89PNG') and len(picture) < 200_000)
+
     # No part of the sources reads a text as HTML or runs one.
     def test_sources(self):
         for path in sorted((ROOT / 'page' / 'src').glob('*.js')):
