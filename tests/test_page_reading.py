@@ -166,8 +166,19 @@ class Forms(unittest.TestCase):
             self.assertEqual((told(found), found['bad']), (self.right(case[0]), []), (case, found['plan']))
 
     def test_separators_and_quotes(self):
-        self.same([(columns, {'separator': separator, 'quotes': quotes, 'end': end}) for columns in (THREE, FIVE) for separator in ',;\t| '
+        self.same([(columns, {'separator': separator, 'quotes': quotes, 'end': end}) for columns in (THREE, FIVE) for separator in (*',;\t| ', '    ')
                    for quotes in (False, True) for end in ('\n', '\r\n', '\r')])
+
+    # Columns that are lined up with spaces, their dates in several words.
+    def test_lined_up(self):
+        self.same([(columns, {'separator': '   ', 'day': day, 'month': 'named'}) for columns in (THREE, FIVE) for day in ('words', 'named', 'english')])
+
+    # A first line for spreadsheets.
+    def test_spreadsheets(self):
+        text = written(FIVE, separator=';', heading=[TITLES[name] for name in FIVE])
+        for first in ('sep=;\r\n', '"sep=;"\n', 'SEP=;\r'):
+            [found] = read([(first + text).encode()])
+            self.assertEqual((told(found), found['bad']), (self.right(FIVE), []))
 
     def test_marks_and_letters(self):
         self.same([(FIVE, {'end': '\r\n'}, encoding) for encoding in ('utf-8-sig', 'utf-16', 'utf-8', 'latin-1')])

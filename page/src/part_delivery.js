@@ -7,7 +7,7 @@ import { WHY, differences_of, pace } from './judge.js';
 import { COLUMNS, ROWS_AT_MOST, TEXT_AT_MOST, guess, line_of, lines_of, order_of, row_of, text_of } from './rows.js';
 
 const NAMES = { product: 'Product', maturity: 'Maturity', day: 'Last trading day', number: 'Listing number', back: 'Days moved back' };
-const SEPARATORS = { ',': 'comma', ';': 'semicolon', '\t': 'tab', '|': 'bar', ' ': 'spaces' };
+const SEPARATORS = { ',': 'comma', ';': 'semicolon', '\t': 'tab', '|': 'bar', ' ': 'spaces', '  ': 'two spaces or more' };
 const TITLES = ['Product', 'Maturity', 'Delivered', 'Right', 'Why'];
 const FIELDS = ['product', 'maturity', 'delivered', 'right', 'why'];
 const SHOWN_AT_MOST = 500, UNREAD_AT_MOST = 200; // rows of a table, as long as not all are asked for

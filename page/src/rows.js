@@ -6,7 +6,7 @@ import { iso, read_date } from './dates.js';
 export const TEXT_AT_MOST = 16 * 1024 * 1024;
 export const ROWS_AT_MOST = 65536;
 const SAMPLE = 200;
-const SEPARATORS = ['\t', ';', ',', '|', ' '];
+const SEPARATORS = ['\t', ';', ',', '|', '  ', ' ']; // two spaces: two or more
 const ID = /^[A-Z0-9]{1,4}$/;
 const NUMBER = /^\d+$/;
 const NUMBER_AT_MOST = 65535;
@@ -44,19 +44,21 @@ export function text_of(bytes) {
   return /[\0-\x08\x0e-\x1a\x1c-\x1f]/.test(text) ? { text: '', binary: true } : { text, binary: false };
 }
 
-/** The lines of a text that are not empty, with their numbers from 1, whatever ends them. */
+/** The lines of a text that are not empty, with their numbers from 1, whatever ends them. A first line `sep=;`, which tells
+ * a spreadsheet how the fields are parted, is none. */
 export function* lines_of(text) {
   const ends = /\r\n|\n|\r/g;
   for (let from = 0, number = 1; from < text.length; number++) {
     const end = ends.exec(text);
     const line = text.slice(from, end ? end.index : text.length);
-    if (line.trim() !== '') yield { number, line };
+    if (line.trim() !== '' && !(number === 1 && /^"?sep=.?"?$/i.test(line))) yield { number, line };
     from = end ? ends.lastIndex : text.length;
   }
 }
 
 /** The fields of a line, without the quotes and blanks around them. A separator inside quotes is no separator. */
 export function fields_of(line, separator) {
+  if (separator === '  ') return line.trim().split(/\s{2,}/).map(field => field.replace(/^"(.*)"$/, '$1').trim());
   const fields = [];
   let field = '', quoted = false;
   for (let i = 0; i < line.length; i++) {
