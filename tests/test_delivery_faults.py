@@ -195,12 +195,13 @@ class Reads(Programs, faults.FailingReads):
                 self.assertEqual(self.run_with('reconcile', 'input', FAULT_AT=str(at), FAULT_ENDS=ends),
                                  (b'', line('reconcile', 'standard input', errno.EIO)), at)
 
-    # With bad rows before it: what was told of them stays, and the fault is the last line.
+    # With bad rows before it: what was told of them stays, and the fault is the last line. The
+    # heading after them is a bad row too.
     def test_bad_rows(self):
         self.needs('reconcile')
         rows = b'x\n' * 5 + ROWS
         printed, errors = self.run_with('reconcile', 'input', rows, FAULT_AT=str(len(rows) - 3))
-        told = b''.join(b'standard input:%d: BAD\n' % place for place in range(1, 6))
+        told = b''.join(b'standard input:%d: BAD\n' % place for place in range(1, 7))
         fault = line('reconcile', 'standard input', errno.EIO)
         self.assertTrue(errors.endswith(fault), errors)
         self.assertTrue(told.startswith(errors.removesuffix(fault)), errors)
