@@ -36,7 +36,7 @@ module _ (listed : List Maturity) (rows : List DeliveredRow) (s : NothingFound l
   unfolding differsIn
   same-key k = rw (s .same k) refl
 
-  none-differ : (n from : ℕ) → differing listed rows n from ≡ []
+  pub none-differ : (n from : ℕ) → differing listed rows n from ≡ []
   unfolding differing
   none-differ zero from = refl
   none-differ (suc n) from = rw (same-key from) (none-differ n (suc from))
