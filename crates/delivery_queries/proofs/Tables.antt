@@ -21,7 +21,7 @@ use Rattle.delivery_questions.specs.QuestionLines.{Question, last, due, tick, c
 use Rattle.delivery_answers.specs.declared.Standing.{Standing}
 use Rattle.delivery_answers.specs.Replies.{noText, questionText, replyText, misfits, badText, askedText, answerText}
 use Rattle.delivery_queries.specs.Queries.{standingOf}
-use Rattle.delivery_queries.specs.Tables.{answered, OfTable, EveryAnswer}
+use Rattle.delivery_queries.specs.Tables.{withReply, OfTable, EveryAnswer}
 
 -- of an id that is not in the file both forms of a maturity are taken
 unknown-fits : (s : Standing) (q : Question) → s .known ≡ false → misfits s q ≡ false
@@ -37,7 +37,7 @@ module _ (of : List ℕ → Standing) (k : ℕ) (line id : List ℕ) (q : Questi
   unfolding answerText askedText
   misfit m = rw (a, m) refl
 
-  replied : misfits (of id) q ≡ false → answerText of k line ≡ answered line (replyText (of id) q)
+  replied : misfits (of id) q ≡ false → answerText of k line ≡ withReply line (replyText (of id) q)
   unfolding answerText askedText
   replied m = rw (a, m) refl
 
@@ -65,7 +65,7 @@ module _ (f : List ℕ) (date : ℕ) (ns : List Notice) (k : ℕ) (line id : Lis
       let h = from-file f id date z (callsFor id ns) [] in
       record {
         there = t;
-        answer = replied (standingOf f date ns) k line id q a m ∙ ap (answered line) (opened f date ns id q t z);
+        answer = replied (standingOf f date ns) k line id q a m ∙ ap (withReply line) (opened f date ns id q t z);
         kind = ap (λ (x : Table). tableRun x (callsFor id ns) .product .kind) (h .opened) ∙ ap (λ (p : Product). p .kind) (h .demand .product);
         history = from-file f id date z (callsFor id ns);
       }
@@ -75,8 +75,8 @@ module _ (f : List ℕ) (date : ℕ) (ns : List Notice) (k : ℕ) (line id : Lis
       record {
         unknown = λ e.
             replied (standingOf f date ns) k line id q a (unknown-fits (standingOf f date ns id) q (known-is f date ns id q ∙ e))
-            ∙ ap (answered line) (no-product f date ns id q e);
+            ∙ ap (withReply line) (no-product f date ns id q e);
         other-sort = misfit (standingOf f date ns) k line id q a;
-        no-table = λ e m n. replied (standingOf f date ns) k line id q a m ∙ ap (answered line) (no-opening f date ns id q e n);
+        no-table = λ e m n. replied (standingOf f date ns) k line id q a m ∙ ap (withReply line) (no-opening f date ns id q e n);
         of-table = of-that-table;
       }

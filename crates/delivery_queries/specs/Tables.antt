@@ -16,20 +16,20 @@ use Rattle.delivery_answers.specs.Replies.{noText, questionText, misfits, answe
 use Rattle.delivery_queries.specs.Queries.{standingOf}
 
 -- 'The answer is the line, without blanks at its end, a space and ..': a line with what stands after it
-abbrev pub answered : List ℕ → List ℕ → List ℕ
-answered line said = trimmed line ++ ((32 ∷ []) ++ (said ++ (10 ∷ [])))
+abbrev pub withReply : List ℕ → List ℕ → List ℕ
+withReply line said = trimmed line ++ ((32 ∷ []) ++ (said ++ (10 ∷ [])))
 
 -- of a line that asks something of a product that opened: 'last trading day, due, tick, cash, size of that table', and demand 3 of the table, with the product's calls among the notices as its list, and of any more calls
 pub record OfTable (f : List ℕ) (date : ℕ) (ns : List Notice) (k : ℕ) (line id : List ℕ) (q : Question) : Type 0 where
   pub there : found f id ≡ true
-  pub answer : answerText (standingOf f date ns) k line ≡ answered line (questionText (tableAfter f id date ns) q)
+  pub answer : answerText (standingOf f date ns) k line ≡ withReply line (questionText (tableAfter f id date ns) q)
   pub kind : tableAfter f id date ns .product .kind ≡ productOf f id .kind
   pub history : (ds : List Call) → FromFile f id date (callsFor id ns) ds
 
 -- of a line that asks something of the product with an id: '9 of an id that is not in the file, the opening's number of a product without a table', else the answer is of its table; '`last` in the form of the other sort of maturity' is bad
 pub record EveryAnswer (f : List ℕ) (date : ℕ) (ns : List Notice) (k : ℕ) (line id : List ℕ) (q : Question) : Type 0 where
-  pub unknown : found f id ≡ false → answerText (standingOf f date ns) k line ≡ answered line (noText 9)
+  pub unknown : found f id ≡ false → answerText (standingOf f date ns) k line ≡ withReply line (noText 9)
   pub other-sort : misfits (standingOf f date ns id) q ≡ true → answerText (standingOf f date ns) k line ≡ badText k
   pub no-table : found f id ≡ true → misfits (standingOf f date ns id) q ≡ false → (openCall f id date .refusal ≡ 0 → ⊥)
-      → answerText (standingOf f date ns) k line ≡ answered line (noText (openCall f id date .refusal))
+      → answerText (standingOf f date ns) k line ≡ withReply line (noText (openCall f id date .refusal))
   pub of-table : openCall f id date .refusal ≡ 0 → misfits (standingOf f date ns id) q ≡ false → OfTable f date ns k line id q
