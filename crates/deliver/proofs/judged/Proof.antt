@@ -1,3 +1,4 @@
+-- The verdict that is passed on is the file's own.
 use mathlib.Core.Path.{sym}
 use lib.Seq.{length-take-le}
 use borrow.Author.Needs.{needs}
@@ -7,32 +8,26 @@ use Rattle.deliver.proofs.judged.Tie as tie
 judge-requires : tie.Need-judge-requires
 judge-requires c κs = tt
 
-master-line-requires : tie.Need-master-line-requires
-master-line-requires c κs = tt
-
-tell-requires : tie.Need-tell-requires
-tell-requires c κs = tt
-
-returns : tie.Need-returns
-returns c = search needs
-
-read-notices-requires : tie.Need-read-notices-requires
-read-notices-requires c κs = tt
+notices-of-requires : tie.Need-notices-of-requires
+notices-of-requires c κs = tt
 
 same-length : tie.Need-same-length
 same-length c = search needs
 
-returns-2 : tie.Need-returns-2
-returns-2 c = search needs
+returns : tie.Need-returns
+returns c = tt
 
-slice-reshare-prefix-run : tie.Need-slice-reshare-prefix-run
-slice-reshare-prefix-run c = search needs
+slice-reshare-prefix-answer : tie.Need-slice-reshare-prefix-answer
+slice-reshare-prefix-answer c = search needs
 
-slice-aggregate-run : tie.Need-slice-aggregate-run
-slice-aggregate-run c = sym (length-take-le _ _ (search needs))
+slice-aggregate-answer : tie.Need-slice-aggregate-answer
+slice-aggregate-answer c = sym (length-take-le _ _ (search needs))
 
-run-requires : tie.Need-run-requires
-run-requires c κs = tt
+answer-requires : tie.Need-answer-requires
+answer-requires c κs =
+    let at-judge = c .before .before .before .before .before .before .before .before .before .before in
+    let pre = at-judge .before .before .before .before .before .before .before .pre in
+    (at-judge .judge .ensures, pre .0, pre .1, pre .2, pre .3, pre .4)
 
 same-length-2 : tie.Need-same-length-2
 same-length-2 c = search needs
@@ -49,26 +44,23 @@ same-length-5 c = search needs
 same-length-6 : tie.Need-same-length-6
 same-length-6 c = search needs
 
-returns-3 : tie.Need-returns-3
-returns-3 c = search needs
+returns-2 : tie.Need-returns-2
+returns-2 c = tt
 
 pub judged-spec : {M : Type 1} → statement M
 judged-spec =
     tie.close
     (tie.spec
     judge-requires
-    master-line-requires
-    tell-requires
-    returns
-    read-notices-requires
+    notices-of-requires
     same-length
-    returns-2
-    slice-reshare-prefix-run
-    slice-aggregate-run
-    run-requires
+    returns
+    slice-reshare-prefix-answer
+    slice-aggregate-answer
+    answer-requires
     same-length-2
     same-length-3
     same-length-4
     same-length-5
     same-length-6
-    returns-3)
+    returns-2)

@@ -35,7 +35,7 @@ slice-aggregate-judged-6 : tie.Need-slice-aggregate-judged-6
 slice-aggregate-judged-6 c = search needs
 
 judged-requires : tie.Need-judged-requires
-judged-requires c κs = tt
+judged-requires c κs = (search needs, search needs, search needs, search needs, search needs)
 
 returns-2 : tie.Need-returns-2
 returns-2 c = search needs

@@ -1,44 +1,125 @@
-use Prim.Native.Nat.{_-_, _≤_}
+-- What was told is as long as the lines before the next one; each line comes next, and at the end all lines of the place are there.
+use mathlib.Core.Path.{_≡_, refl, _∙_, sym, ap}
+use mathlib.Core.Bool.{Bool, true, false, cond}
+use mathlib.Core.List.{List, []}
+use Prim.Native.Nat.{ℕ, _+_, _-_, _≤_}
 use native.Mathlib.Omega.{arith}
-use borrow.Author.Needs.{needs}
+use lib.ListN.{length, length-map}
+use borrow.Author.Tests.{not-true, not-false}
+use Rattle.delivery_refusals.specs.Refusals.{refusalLines}
+use Rattle.delivery_parts.specs.Next.{NextOf}
+use Rattle.delivery_parts.proofs.Handing.{line-long, line-next, no-refusals, more-refusals, next-refusal, refusal-line-short, few-refusals}
 use Rattle.deliver.proofs.tell_place.Statement.{statement}
 use Rattle.deliver.proofs.tell_place.Tie as tie
 
+-- a place with a record, and one without
+held : (b : Bool) (all lines : List ℕ) (at : ℕ) → b ≡ true → NextOf all at (cond b lines []) → NextOf all at lines
+held b all lines at e n = rw e at n
+
+held-long : (b : Bool) (lines : List ℕ) → b ≡ true → length (cond b lines []) ≡ length lines
+held-long b lines e = rw e refl
+
+none-long : (b : Bool) (lines : List ℕ) → b ≡ false → length (cond b lines []) ≡ 0
+none-long b lines e = rw e refl
+
 abbrev Inv-loop : tie.InvT-loop
-Inv-loop part opened calls refusals count id i₀ i = i ≤ count
+Inv-loop file text part opened calls refusals count id h₀ i₀ h i =
+    (i ≤ count + 1) × (h .sent ≡ h₀ .sent) × (h .told ≡ h₀ .told + length (refusalLines (part .id) opened (part .refusal) calls refusals i))
 
 abbrev μ-loop : tie.MeasureT-loop
-μ-loop part opened calls refusals count id i₀ i = count - i
+μ-loop file text part opened calls refusals count id h₀ i₀ h i = count + 1 - i
 
 returns : tie.Need-returns Inv-loop μ-loop
-returns c = tt
+returns c =
+    let start = c .before .before .before .before .before .before in
+    let p = start .args .part in
+    let lines = refusalLines (p .id) (start .args .opened) (p .refusal) (start .args .calls .now) (start .args .refusals .now) (start .args .count + 1) in
+    (refl, omega (arith, none-long (p .holds) lines (not-true _ (c .if1 .taken))), omega arith)
 
 loop-holds : tie.Need-loop-holds Inv-loop μ-loop
-loop-holds c = omega arith
+loop-holds c =
+    let start = c .before .before .before .before .before .before .before in
+    let p = start .args .part in
+    (omega arith, refl, omega (arith, no-refusals (p .id) (start .args .opened) (p .refusal) (start .args .calls .now) (start .args .refusals .now)))
+
+add-loop : tie.Need-add-loop Inv-loop μ-loop
+add-loop c =
+    let start = c .before .before .before .before .before .before .before .before in
+    omega (arith, start .pre .0)
 
 refusal-line-requires : tie.Need-refusal-line-requires Inv-loop μ-loop
 refusal-line-requires c κs = tt
 
 tell-requires : tie.Need-tell-requires Inv-loop μ-loop
-tell-requires c κs = tt
+tell-requires c κs =
+    let at-in = c .before in
+    let at-loop = at-in .before in
+    let at-else = at-loop .before .before in
+    let start = at-else .before .before .before .before .before .before in
+    let p = start .args .part in
+    let o = start .args .opened in
+    let calls = start .args .calls .now in
+    let rs = start .args .refusals .now in
+    let i = at-loop .loop .i in
+    let made = c .refusal-line .ensures in
+    let v = at-loop .loop .inv in
+    let four : length (p .id) ≡ 4 = simp length-map at (start .good .1 .1 .1 .0 .1 .1 .1 .1 .0 .1 .0 .1) in
+    let short = refusal-line-short (p .id) o (p .refusal) calls rs four i in
+    let next = held (p .holds) _ _ _ (not-false _ (at-else .if1 .left)) (start .pre .2) in (
+      omega (arith, line-long made short, short),
+      omega (arith, v .0, v .2, few-refusals (p .id) o (p .refusal) calls rs four i, start .pre .0, start .pre .1),
+      rw (v .2) (line-next made short (next-refusal (p .id) o (p .refusal) calls rs _ _ _ i (at-in .loop-test .taken) next)),
+    )
 
 add-i : tie.Need-add-i Inv-loop μ-loop
-add-i c = search needs
+add-i c =
+    let at-in = c .before .before in
+    let start = at-in .before .before .before .before .before .before .before .before .before in
+    omega (arith, at-in .loop-test .taken, start .pre .0)
 
 loop-less : tie.Need-loop-less Inv-loop μ-loop
-loop-less c = omega arith
+loop-less c = omega (arith, c .before .before .loop-test .taken)
 
 loop-again : tie.Need-loop-again Inv-loop μ-loop
-loop-again c = omega arith
-
-refusal-line-requires-2 : tie.Need-refusal-line-requires-2 Inv-loop μ-loop
-refusal-line-requires-2 c κs = tt
-
-tell-requires-2 : tie.Need-tell-requires-2 Inv-loop μ-loop
-tell-requires-2 c κs = tt
+loop-again c =
+    let at-line = c .before in
+    let at-in = at-line .before in
+    let at-loop = at-in .before in
+    let start = at-loop .before .before .before .before .before .before .before .before in
+    let p = start .args .part in
+    let o = start .args .opened in
+    let calls = start .args .calls .now in
+    let rs = start .args .refusals .now in
+    let i = at-loop .loop .i in
+    let four : length (p .id) ≡ 4 = simp length-map at (start .good .1 .1 .1 .0 .1 .1 .1 .1 .0 .1 .0 .1) in
+    let made = at-line .refusal-line .ensures in
+    let v = at-loop .loop .inv in
+    let u = c .tell .ensures in (
+      omega (arith, at-in .loop-test .taken),
+      u .0 ∙ v .1,
+      omega (arith, u .1, v .2, line-long made (refusal-line-short (p .id) o (p .refusal) calls rs four i), more-refusals (p .id) o (p .refusal) calls rs i),
+    )
 
 returns-2 : tie.Need-returns-2 Inv-loop μ-loop
-returns-2 c = tt
+returns-2 c =
+    let at-loop = c .before in
+    let at-else = at-loop .before .before in
+    let start = at-else .before .before .before .before .before .before in
+    let p = start .args .part in
+    let o = start .args .opened in
+    let calls = start .args .calls .now in
+    let rs = start .args .refusals .now in
+    let n = start .args .count + 1 in
+    let v = at-loop .loop .inv in
+    let four : length (p .id) ≡ 4 = simp length-map at (start .good .1 .1 .1 .0 .1 .1 .1 .1 .0 .1 .0 .1) in
+    let e : at-loop .loop .i ≡ n = omega (arith, v .0, c .loop-test .left) in
+    let t : at-loop .loop .h .told ≡ start .args .handed .told + length (refusalLines (p .id) o (p .refusal) calls rs n) =
+    v .2 ∙ ap (λ (k : ℕ). start .args .handed .told + length (refusalLines (p .id) o (p .refusal) calls rs k)) e
+    in (
+      v .1,
+      omega (arith, t, held-long (p .holds) (refusalLines (p .id) o (p .refusal) calls rs n) (not-false _ (at-else .if1 .left))),
+      omega (arith, t, few-refusals (p .id) o (p .refusal) calls rs four n, start .pre .0),
+    )
 
 pub tell-place-spec : {M : Type 1} → statement M
 tell-place-spec =
@@ -48,11 +129,10 @@ tell-place-spec =
     μ-loop
     returns
     loop-holds
+    add-loop
     refusal-line-requires
     tell-requires
     add-i
     loop-less
     loop-again
-    refusal-line-requires-2
-    tell-requires-2
     returns-2)

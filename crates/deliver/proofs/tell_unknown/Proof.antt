@@ -1,35 +1,76 @@
-use Prim.Native.Nat.{_-_, _≤_}
+-- What was told is as long as the lines before the next one; each line comes next, and at the end all lines are there.
+use mathlib.Core.Path.{_≡_, refl, _∙_, sym, ap}
+use Prim.Native.Nat.{ℕ, _+_, _-_, _≤_}
 use native.Mathlib.Omega.{arith}
-use borrow.Author.Needs.{needs}
+use lib.ListN.{length}
+use Rattle.delivery_refusals.specs.Refusals.{unknownLines}
+use Rattle.delivery_parts.proofs.Handing.{line-long, line-next, no-unknown, more-unknown, next-unknown, unknown-short, few-unknown}
 use Rattle.deliver.proofs.tell_unknown.Statement.{statement}
 use Rattle.deliver.proofs.tell_unknown.Tie as tie
 
 abbrev Inv-loop : tie.InvT-loop
-Inv-loop file calls ids count i₀ i = i ≤ count
+Inv-loop file text calls ids count h₀ i₀ h i =
+    (i ≤ count) × (h .sent ≡ h₀ .sent) × (h .told ≡ h₀ .told + length (unknownLines file calls ids i))
 
 abbrev μ-loop : tie.MeasureT-loop
-μ-loop file calls ids count i₀ i = count - i
+μ-loop file text calls ids count h₀ i₀ h i = count - i
 
 loop-holds : tie.Need-loop-holds Inv-loop μ-loop
-loop-holds c = omega arith
+loop-holds c =
+    let start = c .before .before .before .before in
+    (omega arith, refl, omega (arith, no-unknown (start .args .file .now) (start .args .calls .now) (start .args .ids .now)))
 
 unknown-line-requires : tie.Need-unknown-line-requires Inv-loop μ-loop
 unknown-line-requires c κs = tt
 
 tell-requires : tie.Need-tell-requires Inv-loop μ-loop
-tell-requires c κs = tt
+tell-requires c κs =
+    let at-in = c .before in
+    let at-loop = at-in .before in
+    let start = at-loop .before .before .before .before .before in
+    let f = start .args .file .now in
+    let calls = start .args .calls .now in
+    let ids = start .args .ids .now in
+    let i = at-loop .loop .i in
+    let made = c .unknown-line .ensures in
+    let v = at-loop .loop .inv in
+    let short = unknown-short f calls ids i in (
+      omega (arith, line-long made short, short),
+      omega (arith, v .0, v .2, few-unknown f calls ids i, start .pre .0, start .pre .1),
+      rw (v .2) (line-next made short (next-unknown f calls ids _ _ _ i (at-in .loop-test .taken) (start .pre .2))),
+    )
 
 add-i : tie.Need-add-i Inv-loop μ-loop
-add-i c = search needs
+add-i c =
+    let at-in = c .before .before in
+    let start = at-in .before .before .before .before .before .before in
+    omega (arith, at-in .loop-test .taken, start .pre .0)
 
 loop-less : tie.Need-loop-less Inv-loop μ-loop
-loop-less c = omega arith
+loop-less c = omega (arith, c .before .before .loop-test .taken)
 
 loop-again : tie.Need-loop-again Inv-loop μ-loop
-loop-again c = omega arith
+loop-again c =
+    let at-line = c .before in
+    let at-in = at-line .before in
+    let at-loop = at-in .before in
+    let start = at-loop .before .before .before .before .before in
+    let f = start .args .file .now in
+    let calls = start .args .calls .now in
+    let ids = start .args .ids .now in
+    let i = at-loop .loop .i in
+    let made = at-line .unknown-line .ensures in
+    let v = at-loop .loop .inv in
+    let u = c .tell .ensures in
+    (omega (arith, at-in .loop-test .taken), u .0 ∙ v .1, omega (arith, u .1, v .2, line-long made (unknown-short f calls ids i), more-unknown f calls ids i))
 
 returns : tie.Need-returns Inv-loop μ-loop
-returns c = tt
+returns c =
+    let at-loop = c .before in
+    let start = at-loop .before .before .before .before .before in
+    let v = at-loop .loop .inv in
+    let e : at-loop .loop .i ≡ start .args .count = omega (arith, v .0, c .loop-test .left) in
+    (v .1, v .2 ∙ ap (λ (n : ℕ). start .args .handed .told + length (unknownLines (start .args .file .now) (start .args .calls .now) (start .args .ids .now) n)) e)
 
 pub tell-unknown-spec : {M : Type 1} → statement M
 tell-unknown-spec =

@@ -1,39 +1,28 @@
--- The bytes that are written lie within the buffer.
-use mathlib.Core.Path.{sym}
+-- All of the bytes are handed to the library's write, whose count grows by their number; the sum is small.
+use mathlib.Core.Path.{_≡_, refl, sym}
+use lib.ListN.{length, take}
 use lib.Seq.{length-take-le}
+use native.Mathlib.Omega.{arith}
 use borrow.Author.Needs.{needs}
 use Rattle.deliver.proofs.output.write_out.Statement.{statement}
 use Rattle.deliver.proofs.output.write_out.Tie as tie
-
-within-requires : tie.Need-within-requires
-within-requires c κs = tt
-
-nothing-sent-requires : tie.Need-nothing-sent-requires
-nothing-sent-requires c κs = tt
 
 slice-aggregate-write-next : tie.Need-slice-aggregate-write-next
 slice-aggregate-write-next c = search needs
 
 slice-aggregate-write-next-2 : tie.Need-slice-aggregate-write-next-2
-slice-aggregate-write-next-2 c = sym (length-take-le _ _ (search needs))
+slice-aggregate-write-next-2 c = sym (length-take-le _ _ (c .before .before .before .before .before .pre .0))
 
 write-next-requires : tie.Need-write-next-requires
 write-next-requires c κs = tt
 
-is-open-requires : tie.Need-is-open-requires
-is-open-requires c κs = tt
-
 returns : tie.Need-returns
-returns c = search needs
+returns c =
+    let start = c .before .before .before .before .before .before in
+    let l : length (take (start .args .n) (start .args .out .now)) ≡ start .args .n = length-take-le _ _ (start .pre .0) in
+    ((λ e. omega (arith, c .write-next .ensures e .1, l, start .pre .1)), refl)
 
 pub write-out-spec : {M : Type 1} → statement M
 write-out-spec =
     tie.close
-    (tie.spec
-    within-requires
-    nothing-sent-requires
-    slice-aggregate-write-next
-    slice-aggregate-write-next-2
-    write-next-requires
-    is-open-requires
-    returns)
+    (tie.spec slice-aggregate-write-next slice-aggregate-write-next-2 write-next-requires returns)
