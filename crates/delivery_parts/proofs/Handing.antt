@@ -91,6 +91,9 @@ module _ {text : List ℕ} {l : Line} (made : LineWith emptyLine text l) (h : le
   pub line-long : l .length ≡ length text
   line-long = rw (made .is) (fed-is text h .0)
 
+  pub line-few : l .length ≤ 64
+  line-few = omega (arith, line-long, h)
+
   pub line-next : {all : List ℕ} {at : ℕ} → NextOf all at text → NextOf all at (take (l .length) (l .bytes))
   line-next n =
       let e : take (l .length) (l .bytes) ≡ text = rw (made .is) (fed-is text h .1) in

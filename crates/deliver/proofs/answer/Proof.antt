@@ -5,7 +5,7 @@ use native.Mathlib.Omega.{arith}
 use lib.ListN.{length}
 use borrow.Author.Needs.{needs}
 use Rattle.streams.specs.declared.output.Sent.{Sent}
-use Rattle.delivery_parts.proofs.Handing.{line-long, line-next, master-short, bad-short, lists-fit, refused-rows, refused-told, next-refused, bad-rows, bad-told, next-bad}
+use Rattle.delivery_parts.proofs.Handing.{line-long, line-few, line-next, master-short, bad-short, lists-fit, refused-rows, refused-told, next-refused, bad-rows, bad-told, next-bad}
 use Rattle.deliver.proofs.answer.Statement.{statement}
 use Rattle.deliver.proofs.answer.Tie as tie
 
@@ -24,11 +24,10 @@ tell-requires c κs =
     let at-then = at-line .before in
     let start = at-then .before .before .before .before .before .before .before in
     let made = at-line .master-line .ensures in
-    let none = c .nothing-handed .ensures in
-    let short = master-short (start .args .judged .refusal) in (
-      omega (arith, line-long made short, short),
+    let none = c .nothing-handed .ensures in (
+      line-few made (master-short _),
       omega (arith, none .1),
-      rw (none .1) (line-next made short (next-refused _ _ _ (start .pre .0) (at-then .if1 .taken))),
+      rw (none .1) (line-next made (master-short _) (next-refused _ _ _ (start .pre .0) (at-then .if1 .taken))),
     )
 
 returns : tie.Need-returns
@@ -41,7 +40,7 @@ returns c = λ e.
     let u = c .tell .ensures in (
       ap (λ (s : Sent). s .bytes) (u .0) ∙ none .0 ∙ ap length (sym (refused-rows _ _ _ (start .pre .0) (at-then .if1 .taken))),
       total _ _ _ _ (u .1) (none .1)
-          (line-long made (master-short (start .args .judged .refusal)) ∙ ap length (sym (refused-told _ _ _ (start .pre .0) (at-then .if1 .taken)))),
+          (line-long made (master-short _) ∙ ap length (sym (refused-told _ _ _ (start .pre .0) (at-then .if1 .taken)))),
     )
 
 read-notices-requires : tie.Need-read-notices-requires
@@ -63,11 +62,10 @@ tell-requires-2 c κs =
     let x = at-read .read-notices .ensures in
     let held = x .is (x .fits ∙ lists-fit _ _ (start .pre .2) (start .pre .3)) in
     let made = at-line .bad-line .ensures in
-    let none = c .nothing-handed2 .ensures in
-    let short = bad-short (at-read .read-notices .result .bad) in (
-      omega (arith, line-long made short, short),
+    let none = c .nothing-handed2 .ensures in (
+      line-few made (bad-short _),
       omega (arith, none .1),
-      rw (none .1) (line-next made short (next-bad _ _ _ (start .pre .0) (at-else .if1 .left) _ _ (at-read .read-notices .result) held (at-then .if2 .taken))),
+      rw (none .1) (line-next made (bad-short _) (next-bad _ _ _ (start .pre .0) (at-else .if1 .left) _ _ (at-read .read-notices .result) held (at-then .if2 .taken))),
     )
 
 same-length : tie.Need-same-length
@@ -91,7 +89,7 @@ returns-2 c = λ e.
       ap (λ (s : Sent). s .bytes) (u .0) ∙ none .0
           ∙ ap length (sym (bad-rows _ _ _ (start .pre .0) (at-else .if1 .left) _ _ (at-read .read-notices .result) held (at-then .if2 .taken))),
       total _ _ _ _ (u .1) (none .1)
-          (line-long made (bad-short (at-read .read-notices .result .bad))
+          (line-long made (bad-short _)
           ∙ ap length (sym (bad-told _ _ _ (start .pre .0) (at-else .if1 .left) _ _ (at-read .read-notices .result) held (at-then .if2 .taken)))),
     )
 

@@ -8,7 +8,7 @@ use borrow.Author.Needs.{needs}
 use Rattle.questions.proofs.Bools.{said-no, said-yes}
 use Rattle.streams.specs.declared.output.Sent.{Sent}
 use Rattle.delivery_rows.specs.Delivery.{headingText}
-use Rattle.delivery_parts.proofs.Handing.{heading-long, line-long, line-next, next-heading, no-place, count-few, next-unknowns, all-rows, all-told}
+use Rattle.delivery_parts.proofs.Handing.{heading-long, line-long, line-few, line-next, next-heading, no-place, count-few, next-unknowns, all-rows, all-told}
 use Rattle.deliver.proofs.print_all.Statement.{statement}
 use Rattle.deliver.proofs.print_all.Tie as tie
 
@@ -26,7 +26,7 @@ write-line-requires c κs =
     let made = c .heading-line .ensures in
     let none = c .before .nothing-handed .ensures in
     let pre = c .before .before .before .before .before .before .before .before .pre in (
-      omega (arith, line-long made short, heading-long),
+      line-few made short,
       omega (arith, none .0),
       rw (none .0) (line-next made short (next-heading _ _ _ _ _ _ (pre .0))),
     )

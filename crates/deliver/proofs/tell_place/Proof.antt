@@ -8,7 +8,7 @@ use lib.ListN.{length, length-map}
 use borrow.Author.Tests.{not-true, not-false}
 use Rattle.delivery_refusals.specs.Refusals.{refusalLines}
 use Rattle.delivery_parts.specs.Next.{NextOf}
-use Rattle.delivery_parts.proofs.Handing.{line-long, line-next, no-refusals, more-refusals, next-refusal, refusal-line-short, few-refusals}
+use Rattle.delivery_parts.proofs.Handing.{line-long, line-few, line-next, no-refusals, more-refusals, next-refusal, refusal-line-short, few-refusals}
 use Rattle.deliver.proofs.tell_place.Statement.{statement}
 use Rattle.deliver.proofs.tell_place.Tie as tie
 
@@ -64,11 +64,10 @@ tell-requires c κs =
     let made = c .refusal-line .ensures in
     let v = at-loop .loop .inv in
     let four : length (p .id) ≡ 4 = simp length-map at (start .good .1 .1 .1 .0 .1 .1 .1 .1 .0 .1 .0 .1) in
-    let short = refusal-line-short (p .id) o (p .refusal) calls rs four i in
     let next = held (p .holds) _ _ _ (not-false _ (at-else .if1 .left)) (start .pre .2) in (
-      omega (arith, line-long made short, short),
+      line-few made (refusal-line-short _ _ _ _ _ four _),
       omega (arith, v .0, v .2, few-refusals (p .id) o (p .refusal) calls rs four i, start .pre .0, start .pre .1),
-      rw (v .2) (line-next made short (next-refusal (p .id) o (p .refusal) calls rs _ _ _ i (at-in .loop-test .taken) next)),
+      rw (v .2) (line-next made (refusal-line-short _ _ _ _ _ four _) (next-refusal (p .id) o (p .refusal) calls rs _ _ _ i (at-in .loop-test .taken) next)),
     )
 
 add-i : tie.Need-add-i Inv-loop μ-loop

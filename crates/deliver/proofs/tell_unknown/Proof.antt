@@ -4,7 +4,7 @@ use Prim.Native.Nat.{ℕ, _+_, _-_, _≤_}
 use native.Mathlib.Omega.{arith}
 use lib.ListN.{length}
 use Rattle.delivery_refusals.specs.Refusals.{unknownLines}
-use Rattle.delivery_parts.proofs.Handing.{line-long, line-next, no-unknown, more-unknown, next-unknown, unknown-short, few-unknown}
+use Rattle.delivery_parts.proofs.Handing.{line-long, line-few, line-next, no-unknown, more-unknown, next-unknown, unknown-short, few-unknown}
 use Rattle.deliver.proofs.tell_unknown.Statement.{statement}
 use Rattle.deliver.proofs.tell_unknown.Tie as tie
 
@@ -33,11 +33,10 @@ tell-requires c κs =
     let ids = start .args .ids .now in
     let i = at-loop .loop .i in
     let made = c .unknown-line .ensures in
-    let v = at-loop .loop .inv in
-    let short = unknown-short f calls ids i in (
-      omega (arith, line-long made short, short),
+    let v = at-loop .loop .inv in (
+      line-few made (unknown-short _ _ _ _),
       omega (arith, v .0, v .2, few-unknown f calls ids i, start .pre .0, start .pre .1),
-      rw (v .2) (line-next made short (next-unknown f calls ids _ _ _ i (at-in .loop-test .taken) (start .pre .2))),
+      rw (v .2) (line-next made (unknown-short _ _ _ _) (next-unknown f calls ids _ _ _ i (at-in .loop-test .taken) (start .pre .2))),
     )
 
 add-i : tie.Need-add-i Inv-loop μ-loop
