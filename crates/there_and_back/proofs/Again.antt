@@ -1,9 +1,11 @@
--- The text of an accepted file says that file's calendar and records again; and so does what is printed of a file that a text gave.
+-- The text of an accepted file says that file's calendar and records again, and `compose` makes that file of it;
+-- what is printed of a file that a text gave says what the text says.
 -- Assumes nothing.
 use mathlib.Core.Path.{_≡_, refl, sym, ap, _∙_}
 use mathlib.Core.List.{List}
 use mathlib.Core.Bool.{true}
 use Prim.Native.Nat.{ℕ, _≤_}
+use lib.ListN.{length}
 use Rattle.questions.specs.Questions.{firstNo, Answer, answer}
 use Rattle.calendar.specs.declared.Calendar.{Calendar}
 use Rattle.calendar.specs.Trading.{closedOn, inSecondMap}
@@ -14,16 +16,20 @@ use Rattle.master.specs.Load.{loadAsks, loadCall, Accepted}
 use Rattle.master.proofs.Answers.{load-accepted}
 use Rattle.master.proofs.Accepting.{accepted-file}
 use Rattle.drafts.specs.Drafts.{fileOf, writeAsks}
-use Rattle.writing.specs.Theorems.{areBytes, recordsOf, Holds}
+use Rattle.writing.specs.Writing.{writeCall, bufferAfter}
+use Rattle.writing.specs.Theorems.{areBytes, recordsOf, allFull, Holds, SameFile}
 use Rattle.writing.proofs.Holding.{holds}
+use Rattle.writing.proofs.Same.{same-file}
 use Rattle.contents.specs.Contents.{coverDays, lineCount, linesText}
 use Rattle.contents.specs.Whole.{decomposeText}
-use Rattle.lists.specs.Lists.{Content, contentOf}
-use Rattle.there_and_back.specs.Again.{SaysAgain}
+use Rattle.list_faults.specs.Faults.{noFault, faultKept}
+use Rattle.lists.specs.Lists.{Content, contentOf, idleDay, composed, composedFile}
+use Rattle.there_and_back.specs.Again.{SaysAgain, FileAgain}
 use Rattle.there_and_back.proofs.Telling.{Says}
 use Rattle.there_and_back.proofs.FileText.{calendarTold, recordsTold, told-cover, told-text}
 use Rattle.there_and_back.proofs.Records.{records-told}
 use Rattle.there_and_back.proofs.Days.{days-told, second-told}
+use Rattle.there_and_back.proofs.Maps.{file-calendar-told}
 
 -- what is printed of an accepted file is its text
 text-is : (f : List ℕ) → firstNo (loadAsks f) ≡ 0 → decomposeText f ≡ linesText (calendarOf f) f (lineCount (calendarOf f) f)
@@ -52,6 +58,42 @@ file-again room enough f bytes e =
     (recordsTold f (placeCount f))
     (told-text f bytes e room enough) (told-cover (calendarOf f) (coverDays (calendarOf f .cover)))
     (days-told (calendarOf f) (a .cover) (a .closures)) (second-told (calendarOf f) (a .cover) (a .closures)))
+
+-- what `compose` makes of a text that says a calendar and records
+module _ (c : Content) (cal : Calendar) (records : List ℕ) (s : Says c cal records) where
+  composed-says : (space n : ℕ) → writeCall cal records space ≡ record { refusal = 0; value = n }
+      → composed c space ≡ record { bad = 0; refusal = 0; fault = noFault; day = 0; length = n }
+  unfolding composed faultKept idleDay
+  composed-says space n w = rw (s .good, s .calendar, s .records-are, w) refl
+
+  file-says : (before : List ℕ) → composedFile c before ≡ bufferAfter cal records before
+  unfolding composedFile
+  file-says before = rw (s .good, s .calendar, s .records-are) refl
+
+-- the text of an accepted file of bytes says that file's calendar, and its records
+file-says-all : (room : ℕ) → 61440 ≤ room → (f : List ℕ) → areBytes f ≡ true → firstNo (loadAsks f) ≡ 0
+    → Says (contentOf room (decomposeText f)) (calendarOf f) (recordsOf f)
+file-says-all room enough f bytes e =
+    let s = told-text f bytes e room enough in
+    rw (text-is f e)
+    (record {
+      begun = s .begun;
+      seeded = s .seeded;
+      good = s .good;
+      calendar = s .calendar ∙ file-calendar-told f bytes e;
+      records-are = s .records-are ∙ records-told f e;
+    })
+
+-- of an accepted file of bytes whose product blocks but the last are full: composed, what is printed of it is that file
+pub file-composed : (room : ℕ) → 61440 ≤ room → (f : List ℕ) → areBytes f ≡ true → firstNo (loadAsks f) ≡ 0 → allFull f ≡ true → FileAgain room f
+file-composed room enough f bytes e full =
+    let s = file-says-all room enough f bytes e in
+    let w : SameFile f = same-file f bytes e full in
+    let c = contentOf room (decomposeText f) in
+    record {
+      answer = λ space h. composed-says c (calendarOf f) (recordsOf f) s space (length f) (w .accepted space h);
+      file = λ before h. file-says c (calendarOf f) (recordsOf f) s before ∙ w .buffer before h;
+    }
 
 -- a file that was written is accepted
 asked : (f : List ℕ) → loadCall f .refusal ≡ firstNo (loadAsks f)

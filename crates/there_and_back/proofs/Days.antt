@@ -58,14 +58,14 @@ module _ (b old : ℕ → Bool) (d : ℕ) (is : (x : ℕ) → old x ≡ (b x && 
 
 -- ---- maps
 
-zeros-at : (i : ℕ) → getD (replicate 736 zero) i zero ≡ zero
+pub zeros-at : (i : ℕ) → getD (replicate 736 zero) i zero ≡ zero
 zeros-at i = go (lt-or-ge i 736)
   where
     go : (i < 736) ⊎ (736 ≤ i) → getD (replicate 736 zero) i zero ≡ zero
     go (inl h) = getD-replicate 736 i 0 0 h
     go (inr h) = List·getD-eq-default (replicate 736 zero) 0 h
 
-no-bit : (slot : ℕ) → bitAt (replicate 736 0) slot ≡ false
+pub no-bit : (slot : ℕ) → bitAt (replicate 736 0) slot ≡ false
 unfolding bitAt
 no-bit slot = simp (zeros-at (slot / 8), zero-div (2 ^ (7 - slot % 8)))
 
@@ -109,7 +109,7 @@ module _ (cal : Calendar) (valid : validCover (cal .cover) ≡ true) (tidy : cle
   start = coverStart (cal .cover)
 
   -- a day of the second map is closed
-  second-closed : (d : ℕ) → inSecondMap cal d ≡ true → closedOn cal d ≡ true
+  pub second-closed : (d : ℕ) → inSecondMap cal d ≡ true → closedOn cal d ≡ true
   unfolding inSecondMap closedOn clean bitsClean
   second-closed d h =
       let s = both (inCover (cal .cover) d) (bitAt (cal .exchange) (slotOf (cal .cover) d)) h in

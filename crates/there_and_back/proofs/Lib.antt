@@ -7,4 +7,5 @@ pub mod Text
 pub mod FileText
 pub mod Records
 pub mod Days
+pub mod Maps
 pub mod Again
