@@ -8,10 +8,10 @@ use output::Handed;
 use streams::Transfer;
 use years::FileCalendar;
 ghost use mathlib.Core.Path.{_≡_};
-ghost use mathlib.Core.Bool.{true, cond};
+ghost use mathlib.Core.Bool.{true, false, cond};
 ghost use mathlib.Core.List.{[]};
 ghost use Prim.Native.Nat.{_+_, _≤_, _<_};
-ghost use lib.ListN.{length};
+ghost use lib.ListN.{length, take};
 ghost use Rattle.streams.specs.Transfers.{Within};
 ghost use Rattle.ids.specs.Ids.{placeCount};
 ghost use Rattle.years.specs.Calendars.{calendarAnswer};
@@ -216,7 +216,13 @@ fn notices_of(refusal: u8, text: &mut [u8]) -> Transfer
     input::read_notices(text)
 }
 
-// The notices of a file that was read; the file is judged first.
+// What was read of the notices, and what was handed out.
+struct Delivery {
+    read: Transfer,
+    handed: Handed,
+}
+
+// The notices of a file that was read; the file is judged first. Where they cannot be read nothing is handed out.
 fn judged(
     file: &[u8],
     text: &mut [u8],
@@ -224,16 +230,19 @@ fn judged(
     ids: &mut [u8],
     refusals: &mut [u8],
     out: &mut [u8],
-)
+) -> Delivery
     requires { ⌜ (length (now file) ≤ 65537) × (32770 ≤ length (now calls)) × (26216 ≤ length (now ids)) × (6554 ≤ length (now refusals)) × (length (now out) ≡ 1024) ⌝ }
+    ensures { λ r. ⌜ (r .read .failed ≡ false → r .handed .sent .open ≡ true → (r .handed .sent .bytes ≡ length (deliverText (now (file .entry)) (take (r .read .length) (now (text .exit))))) × (r .handed .told ≡ length (deliverRefusals (now (file .entry)) (take (r .read .length) (now (text .exit)))))) ⌝ }
 {
     let judged = master::judge(file);
     let read = notices_of(judged.refusal, text);
     if read.failed {
-        return;
+        let handed = output::nothing_handed();
+        return Delivery { read, handed };
     }
     let n = read.length;
-    answer(file, judged, &text[..n], calls, ids, refusals, out);
+    let handed = answer(file, judged, &text[..n], calls, ids, refusals, out);
+    Delivery { read, handed }
 }
 
 fn main() {

@@ -1,7 +1,8 @@
--- The verdict that is passed on is the file's own.
+-- The verdict that is passed on is the file's own, and the notices are those that were read.
 use mathlib.Core.Path.{sym}
 use lib.Seq.{length-take-le}
 use borrow.Author.Needs.{needs}
+use Rattle.questions.proofs.Bools.{clash}
 use Rattle.deliver.proofs.judged.Statement.{statement}
 use Rattle.deliver.proofs.judged.Tie as tie
 
@@ -14,8 +15,11 @@ notices-of-requires c κs = tt
 same-length : tie.Need-same-length
 same-length c = search needs
 
+nothing-handed-requires : tie.Need-nothing-handed-requires
+nothing-handed-requires c κs = tt
+
 returns : tie.Need-returns
-returns c = tt
+returns c = λ e. clash (c .before .if1 .taken) e
 
 slice-reshare-prefix-answer : tie.Need-slice-reshare-prefix-answer
 slice-reshare-prefix-answer c = search needs
@@ -45,7 +49,7 @@ same-length-6 : tie.Need-same-length-6
 same-length-6 c = search needs
 
 returns-2 : tie.Need-returns-2
-returns-2 c = tt
+returns-2 c = λ e. c .before .before .before .before .before .before .before .before .answer .ensures
 
 pub judged-spec : {M : Type 1} → statement M
 judged-spec =
@@ -53,6 +57,7 @@ judged-spec =
     (tie.spec
     judge-requires
     notices-of-requires
+    nothing-handed-requires
     same-length
     returns
     slice-reshare-prefix-answer
