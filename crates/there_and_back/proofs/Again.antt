@@ -12,7 +12,7 @@ use Rattle.calendar.specs.Trading.{closedOn, inSecondMap}
 use Rattle.ids.specs.Ids.{placeCount}
 use Rattle.years.specs.Calendars.{calendarOf}
 use Rattle.master.specs.declared.Counts.{Counts}
-use Rattle.master.specs.Load.{loadAsks, loadCall, Accepted}
+use Rattle.master.specs.Load.{loadAsks, loadCall}
 use Rattle.master.proofs.Answers.{load-accepted}
 use Rattle.master.proofs.Accepting.{accepted-file}
 use Rattle.drafts.specs.Drafts.{fileOf, writeAsks}
@@ -30,6 +30,7 @@ use Rattle.there_and_back.proofs.FileText.{calendarTold, recordsTold, t
 use Rattle.there_and_back.proofs.Records.{records-told}
 use Rattle.there_and_back.proofs.Days.{days-told, second-told}
 use Rattle.there_and_back.proofs.Maps.{file-calendar-told}
+use Rattle.there_and_back.proofs.TextBytes.{text-file-bytes}
 
 -- what is printed of an accepted file is its text
 text-is : (f : List ℕ) → firstNo (loadAsks f) ≡ 0 → decomposeText f ≡ linesText (calendarOf f) f (lineCount (calendarOf f) f)
@@ -101,16 +102,16 @@ unfolding loadCall answer
 asked f = refl
 
 -- 'for every text that `compose` accepts, what `decompose` prints of it says the same calendar and records': of the file that it makes
-pub text-again : (room : ℕ) → 61440 ≤ room → (text : List ℕ) (space : ℕ)
+pub text-again : (room : ℕ) → 61440 ≤ room → (text : List ℕ) → areBytes text ≡ true → (space : ℕ)
     → firstNo (writeAsks (contentOf room text .calendar) (contentOf room text .records) space) ≡ 0
-    → areBytes (fileOf (contentOf room text .calendar) (contentOf room text .records)) ≡ true
-    → SaysAgain room (decomposeText (fileOf (contentOf room text .calendar) (contentOf room text .records))) (contentOf room text .calendar) (contentOf room text .records)
-text-again room enough text space e bytes =
+    → SaysAgain room (decomposeText (fileOf (contentOf room text .calendar) (contentOf room text .records))) (contentOf room text .calendar)
+    (contentOf room text .records)
+text-again room enough text bytes space e =
     let cal = contentOf room text .calendar in
     let records = contentOf room text .records in
     let h : Holds cal records = holds cal records space e in
     let n : firstNo (loadAsks (fileOf cal records)) ≡ 0 = sym (asked (fileOf cal records)) ∙ ap (λ (x : Answer Counts). x .refusal) (h .loads) in
-    let s = file-again room enough (fileOf cal records) bytes n in
+    let s = file-again room enough (fileOf cal records) (text-file-bytes room text space bytes e) n in
     record {
       good = s .good;
       cover = s .cover ∙ h .cover;

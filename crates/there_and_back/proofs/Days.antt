@@ -58,7 +58,7 @@ module _ (b old : ℕ → Bool) (d : ℕ) (is : (x : ℕ) → old x ≡ (b x && 
 
 -- ---- maps
 
-pub zeros-at : (i : ℕ) → getD (replicate 736 zero) i zero ≡ zero
+zeros-at : (i : ℕ) → getD (replicate 736 zero) i zero ≡ zero
 zeros-at i = go (lt-or-ge i 736)
   where
     go : (i < 736) ⊎ (736 ≤ i) → getD (replicate 736 zero) i zero ≡ zero

@@ -62,7 +62,7 @@ below-take l b n i = go (lt-or-ge i n)
 below-drop : (l : List ℕ) → ((i : ℕ) → getD l i 0 < 256) → (n i : ℕ) → getD (drop n l) i 0 < 256
 below-drop l b n i = omega (arith, getD-drop n l i 0, b (n + i))
 
-are-bytes : (l : List ℕ) → ((i : ℕ) → getD l i 0 < 256) → areBytes l ≡ true
+pub are-bytes : (l : List ℕ) → ((i : ℕ) → getD l i 0 < 256) → areBytes l ≡ true
 unfolding areBytes
 are-bytes l b = every-all (λ i. ltb (getD l i 0) 256) (length l) (λ i h. lt-ltb (getD l i 0) 256 (b i))
 

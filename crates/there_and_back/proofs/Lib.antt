@@ -7,5 +7,6 @@ pub mod Text
 pub mod FileText
 pub mod Records
 pub mod Days
+pub mod TextBytes
 pub mod Maps
 pub mod Again

@@ -7,11 +7,10 @@ use mathlib.Core.Bool.{Bool, true, false, not, _||_, cond}
 use mathlib.Core.Logic.{_⊎_, inl, inr}
 use Prim.Native.Nat.{ℕ, zero, suc, _+_, _-_, _*_, _/_, _%_, _^_, _≤_, _<_}
 use native.Mathlib.Omega.{arith}
-use lib.Bits.{bitOr, or-lt}
+use lib.Bits.{bitOr}
 use lib.Dec.{eqb, ltb}
 use lib.ListN.{length, getD, set, replicate, length-set, length-replicate, List·getD-eq-default}
-use lib.Pow.{pow-lt}
-use lib.Seq.{ext-getD, getD-set-same, getD-set-other, set-out}
+use lib.Seq.{ext-getD}
 use borrow.Author.Tests.{lt-ltb, eqb-true, eqb-false, ltb-true}
 use Rattle.questions.specs.Questions.{firstNo}
 use Rattle.questions.proofs.Bools.{both, and-fst, and-snd, clash, lt-or-ge}
@@ -39,7 +38,8 @@ use Rattle.writing.proofs.Bytes.{byte-below}
 use Rattle.contents.specs.Contents.{coverDays}
 use Rattle.lists.specs.Lists.{closeExchangeDay}
 use Rattle.there_and_back.proofs.FileText.{dayTold, calendarTold, told-cover}
-use Rattle.there_and_back.proofs.Days.{second-closed, no-bit, zeros-at, days-told, second-told}
+use Rattle.there_and_back.proofs.TextBytes.{OfBytes, zero-bytes, bit-bytes}
+use Rattle.there_and_back.proofs.Days.{second-closed, no-bit, days-told, second-told}
 
 -- ---- maps and their bits
 
@@ -74,7 +74,7 @@ same-map a b la lb ba bb h =
 -- a map of 736 bytes with no bit that another has not
 record Within (whole map : List ℕ) : Type 0 where
   long : length map ≡ 736
-  bytes : (i : ℕ) → getD map i 0 < 256
+  bytes : OfBytes map
   bits : (s : ℕ) → bitAt map s ≡ true → bitAt whole s ≡ true
 
 module _ (whole : List ℕ) where
@@ -82,28 +82,17 @@ module _ (whole : List ℕ) where
   none-within =
       record {
         long = length-replicate {A = ℕ} 736 0;
-        bytes = λ i. omega (arith, zeros-at i);
+        bytes = zero-bytes 736;
         bits = λ s e. clash e (no-bit s);
       }
 
   module _ (map : List ℕ) (w : Within whole map) where
-    set-byte : (n v : ℕ) → v < 256 → (i : ℕ) → getD (set map n v) i 0 < 256
-    set-byte n v h i = go (eqb i n) refl (lt-or-ge n (length map))
-      where
-        go : (b : Bool) → eqb i n ≡ b → (n < length map) ⊎ (length map ≤ n) → getD (set map n v) i 0 < 256
-        go b q (inr l) = rw (set-out map n v l) (w .bytes i)
-        go true q (inl l) = rw (eqb-true i n q, getD-set-same map n v 0 l) h
-        go false q (inl l) = rw (getD-set-other map n i v 0 (eqb-false i n q)) (w .bytes i)
-
     set-within : (s : ℕ) → bitAt whole s ≡ true → Within whole (setBit map s)
     unfolding setBit
     set-within s m =
-        let l : 7 - s % 8 < 8 = omega arith in
         record {
           long = length-set {A = ℕ} map (s / 8) (bitOr (getD map (s / 8) 0) (2 ^ (7 - s % 8))) ∙ w .long;
-          bytes =
-              set-byte (s / 8) (bitOr (getD map (s / 8) 0) (2 ^ (7 - s % 8)))
-              (or-lt 8 (getD map (s / 8) 0) (2 ^ (7 - s % 8)) (w .bytes (s / 8)) (pow-lt l));
+          bytes = bit-bytes map s (w .bytes);
           bits = bits-set s m;
         }
       where
@@ -289,8 +278,8 @@ module _ (cal : Calendar) (valid : validCover (cal .cover) ≡ true) (tidy : cle
       → ((i : ℕ) → getD (cal .exchange) i 0 < 256) → told ≡ cal
   calendar-told la lb ba bb =
       same-calendar told cal (more .cover)
-      (same-map (told .closed) (cal .closed) (more .first .long) la (more .first .bytes) ba first-bits)
-      (same-map (told .exchange) (cal .exchange) (more .second .long) lb (more .second .bytes) bb second-bits)
+      (same-map (told .closed) (cal .closed) (more .first .long) la (more .first .bytes .at) ba first-bits)
+      (same-map (told .exchange) (cal .exchange) (more .second .long) lb (more .second .bytes .at) bb second-bits)
 
 -- ---- an accepted file of bytes
 
