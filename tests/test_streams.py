@@ -28,7 +28,7 @@ from second.reconcile import reconcile  # noqa: E402
 
 ROOT = os.path.dirname(TESTS)
 SECONDS = 60
-NAMES = ('terms', 'compose', 'deliver')  # those that are tested where none is named
+NAMES = ('terms', 'compose', 'decompose', 'confirm', 'gateway', 'deliver', 'reconcile', 'query')
 
 FILE = cases.example()
 OPENS = b'O XTAF 2008-03-20\nR 2008-03-21\nO XTAF\n' * 100
@@ -68,6 +68,18 @@ def runs():
 
 
 PRINTED_UNREAD = {'gateway': b'NO 1\n'}  # what a program prints where its input cannot be read
+
+
+# The reason of a call that failed, and the words for a write that took nothing; gateway, which has no room for the
+# system's words, has the name of the error.
+def reason(name, number):
+    return errno.errorcode[number] if name == 'gateway' else os.strerror(number)
+
+
+def nothing_written(name):
+    return '0 bytes' if name == 'gateway' else 'nothing was written'
+
+
 programs = os.path.join(ROOT, 'target', 'bin')
 
 
@@ -116,7 +128,7 @@ class Directories(Programs):
                         printed, told = self.run_of(run, source)
                     finally:
                         os.close(source)
-                    self.assertEqual(told, f'{run.name}: standard input: {os.strerror(errno.EISDIR)}\n'.encode())
+                    self.assertEqual(told, f'{run.name}: standard input: {reason(run.name, errno.EISDIR)}\n'.encode())
                     self.assertEqual(printed, PRINTED_UNREAD.get(run.name, b''))
 
     def test_no_fault(self):
@@ -152,7 +164,7 @@ class Writes(Programs, faults.FailingWrites):
                     with self.subTest(f'{run.name}: {taken}'):
                         printed, told = self.run_of(run, LD_PRELOAD=self.library, FAULT_WRITE_NOTHING=str(taken))
                         self.assertEqual(printed, run.printed[:taken])
-                        last = f'{run.name}: standard output: nothing was written\n'.encode()
+                        last = f'{run.name}: standard output: {nothing_written(run.name)}\n'.encode()
                         self.assertTrue(told.endswith(last), told)
 
 
