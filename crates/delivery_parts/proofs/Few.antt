@@ -27,7 +27,8 @@ lines-size begun [] = go (eqb (length begun) 0)
     go false = omega arith
 lines-size begun (byte ∷ rest) = go (eqb byte 10) (lines-size [] rest) (lines-size (begun ++ (byte ∷ [])) rest)
   where
-    go : (b : Bool) → size (linesFrom [] rest) ≤ 0 + length rest + 1 → size (linesFrom (begun ++ (byte ∷ [])) rest) ≤ length (begun ++ (byte ∷ [])) + length rest + 1
+    go : (b : Bool) → size (linesFrom [] rest) ≤ 0 + length rest + 1
+        → size (linesFrom (begun ++ (byte ∷ [])) rest) ≤ length (begun ++ (byte ∷ [])) + length rest + 1
         → size (cond b (begun ∷ linesFrom [] rest) (linesFrom (begun ++ (byte ∷ [])) rest)) ≤ length begun + suc (length rest) + 1
     go true e k = omega arith
     go false e k = omega (arith, k, length-append begun (byte ∷ []))
@@ -50,15 +51,25 @@ said-few t line nothing e = omega arith
 said-few t line bad e = omega (arith, bad-few t)
 said-few t line (opening day) e = go (eqb (t .opened) 0)
   where
-    go : (b : Bool) → 10 * length (cond b (record { opened = t .lines + 1; date = day; notices = t .notices; lines = t .lines + 1; bad = 0 }) (badTold t) .notices) ≤ 10 * length (t .notices) + length line + 1
+    first : Told
+    first = record { opened = t .lines + 1; date = day; notices = t .notices; lines = t .lines + 1; bad = 0 }
+
+    go : (b : Bool) → 10 * length (cond b first (badTold t) .notices) ≤ 10 * length (t .notices) + length line + 1
     go true = omega arith
     go false = omega (arith, bad-few t)
 said-few t line (notice call id) e = go (eqb (t .opened) 0)
   where
-    more : List Notice
-    more = t .notices ++ (record { line = t .lines + 1; call = call; id = id } ∷ [])
+    more : Told
+    more =
+        record {
+          opened = t .opened;
+          date = t .date;
+          notices = t .notices ++ (record { line = t .lines + 1; call = call; id = id } ∷ []);
+          lines = t .lines + 1;
+          bad = 0;
+        }
 
-    go : (b : Bool) → 10 * length (cond b (badTold t) (record { opened = t .opened; date = t .date; notices = more; lines = t .lines + 1; bad = 0 }) .notices) ≤ 10 * length (t .notices) + length line + 1
+    go : (b : Bool) → 10 * length (cond b (badTold t) more .notices) ≤ 10 * length (t .notices) + length line + 1
     go true = omega (arith, bad-few t)
     go false = omega (arith, call-long line call id e, length-append (t .notices) (record { line = t .lines + 1; call = call; id = id } ∷ []))
 

@@ -121,7 +121,8 @@ module _ (id : List ℕ) (opened refusal : ℕ) (calls refusals : List ℕ) wher
   no-refusals = ap length (refusals-are 0) ∙ parts-none (refusalLine id opened refusal calls refusals)
 
   pub more-refusals : (i : ℕ)
-      → length (refusalLines id opened refusal calls refusals (i + 1)) ≡ length (refusalLines id opened refusal calls refusals i) + length (refusalLine id opened refusal calls refusals i)
+      → length (refusalLines id opened refusal calls refusals (i + 1))
+      ≡ length (refusalLines id opened refusal calls refusals i) + length (refusalLine id opened refusal calls refusals i)
   more-refusals i = rw (refusals-are (i + 1), refusals-are i) (parts-more (refusalLine id opened refusal calls refusals) i)
 
   pub next-refusal : (all : List ℕ) (at n i : ℕ) → i < n → NextOf all at (refusalLines id opened refusal calls refusals n)

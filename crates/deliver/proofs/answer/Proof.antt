@@ -65,7 +65,8 @@ tell-requires-2 c κs =
     let none = c .nothing-handed2 .ensures in (
       line-few made (bad-short _),
       omega (arith, none .1),
-      rw (none .1) (line-next made (bad-short _) (next-bad _ _ _ (start .pre .0) (at-else .if1 .left) _ _ (at-read .read-notices .result) held (at-then .if2 .taken))),
+      rw (none .1)
+          (line-next made (bad-short _) (next-bad _ _ _ (start .pre .0) (at-else .if1 .left) _ _ (at-read .read-notices .result) held (at-then .if2 .taken))),
     )
 
 same-length : tie.Need-same-length

@@ -1,5 +1,6 @@
 -- What was told is as long as the lines before the next one; each line comes next, and at the end all lines are there.
 use mathlib.Core.Path.{_≡_, refl, _∙_, sym, ap}
+use mathlib.Core.List.{List}
 use Prim.Native.Nat.{ℕ, _+_, _-_, _≤_}
 use native.Mathlib.Omega.{arith}
 use lib.ListN.{length}
@@ -69,7 +70,8 @@ returns c =
     let start = at-loop .before .before .before .before .before in
     let v = at-loop .loop .inv in
     let e : at-loop .loop .i ≡ start .args .count = omega (arith, v .0, c .loop-test .left) in
-    (v .1, v .2 ∙ ap (λ (n : ℕ). start .args .handed .told + length (unknownLines (start .args .file .now) (start .args .calls .now) (start .args .ids .now) n)) e)
+    let lines : ℕ → List ℕ = unknownLines (start .args .file .now) (start .args .calls .now) (start .args .ids .now) in
+    (v .1, v .2 ∙ ap (λ (n : ℕ). start .args .handed .told + length (lines n)) e)
 
 pub tell-unknown-spec : {M : Type 1} → statement M
 tell-unknown-spec =
