@@ -4,18 +4,27 @@
 use mathlib.Core.Path.{_≡_, refl, sym, ap, _∙_}
 use mathlib.Core.List.{List}
 use mathlib.Core.Bool.{true}
-use Prim.Native.Nat.{ℕ, _≤_}
+use Prim.Native.Nat.{ℕ, _+_, _-_, _≤_, _<_}
+use native.Mathlib.Omega.{arith}
+use lib.Dec.{eqb}
 use lib.ListN.{length}
+use borrow.Author.Tests.{eq-eqb}
 use Rattle.questions.specs.Questions.{firstNo, Answer, answer}
+use Rattle.questions.proofs.Search.{every-all}
 use Rattle.calendar.specs.declared.Calendar.{Calendar}
 use Rattle.calendar.specs.Trading.{closedOn, inSecondMap}
+use Rattle.blocks.specs.Blocks.{blockCount, blockOf, recordsOfBlock}
 use Rattle.ids.specs.Ids.{placeCount}
-use Rattle.years.specs.Calendars.{calendarOf}
+use Rattle.years.specs.Calendars.{yearCount, calendarOf}
 use Rattle.master.specs.declared.Counts.{Counts}
 use Rattle.master.specs.Load.{loadAsks, loadCall}
 use Rattle.master.proofs.Answers.{load-accepted}
 use Rattle.master.proofs.Accepting.{accepted-file}
-use Rattle.drafts.specs.Drafts.{fileOf, writeAsks}
+use Rattle.drafts.specs.Drafts.{recordsWithin, fileOf, writeAsks}
+use Rattle.drafts.proofs.Blocks.{file-blocks}
+use Rattle.drafts.proofs.Calendars.{years-written}
+use Rattle.drafts.proofs.Records.{count-is}
+use Rattle.drafts.proofs.Answers.{Counted, counted, writable}
 use Rattle.writing.specs.Writing.{writeCall, bufferAfter}
 use Rattle.writing.specs.Theorems.{areBytes, recordsOf, allFull, Holds, SameFile}
 use Rattle.writing.proofs.Holding.{holds}
@@ -119,3 +128,38 @@ text-again room enough text bytes space e =
       second-days = λ d. s .second-days d ∙ h .second-days d;
       records-said = s .records-said ∙ h .records-held;
     }
+
+-- 'as those that it makes are': the product blocks but the last of a file that was written are full
+module _ (cal : Calendar) (records : List ℕ) (space : ℕ) (e : firstNo (writeAsks cal records space) ≡ 0) where
+  abbrev made : List ℕ
+  made = fileOf cal records
+
+  k : Counted cal records space
+  k = counted cal records space (writable cal records space e)
+
+  full-block : (n : ℕ) → n < blockCount made - 1 - yearCount made → recordsOfBlock (blockOf made (yearCount made + n)) ≡ 15
+  full-block n h =
+      let y : yearCount made ≡ cal .cover .years = years-written cal records in
+      let b = file-blocks cal records in
+      let i : cal .cover .years + n - cal .cover .years ≡ n = omega arith in
+      ap (λ (x : ℕ). recordsOfBlock (blockOf made (x + n))) y
+      ∙ count-is cal records (k .records-whole) (cal .cover .years + n) (omega arith) (omega arith)
+      ∙ ap (recordsWithin records) i
+      ∙ omega arith
+
+  written-full : allFull made ≡ true
+  unfolding allFull
+  written-full =
+      every-all (λ n. eqb (recordsOfBlock (blockOf made (yearCount made + n))) 15) (blockCount made - 1 - yearCount made)
+      (λ n h. eq-eqb (recordsOfBlock (blockOf made (yearCount made + n))) 15 (full-block n h))
+
+-- so `compose` makes its own file again of what is printed of it
+pub text-composed : (room : ℕ) → 61440 ≤ room → (text : List ℕ) → areBytes text ≡ true → (space : ℕ)
+    → firstNo (writeAsks (contentOf room text .calendar) (contentOf room text .records) space) ≡ 0
+    → FileAgain room (fileOf (contentOf room text .calendar) (contentOf room text .records))
+text-composed room enough text bytes space e =
+    let cal = contentOf room text .calendar in
+    let records = contentOf room text .records in
+    let n : firstNo (loadAsks (fileOf cal records)) ≡ 0 =
+    sym (asked (fileOf cal records)) ∙ ap (λ (x : Answer Counts). x .refusal) (holds cal records space e .loads) in
+    file-composed room enough (fileOf cal records) (text-file-bytes room text space bytes e) n (written-full cal records space e)
