@@ -633,6 +633,7 @@ class Looks(Page):
     @unittest.skipUnless(shutil.which('pdftotext'), 'pdftotext is not installed')
     def test_paper(self):
         self.morning()
+        self.browser.width(test_pages.PRINT_WIDTH, 'print')
         (FOLDER / 'page.pdf').write_bytes(self.browser.printed())
         text = subprocess.run(['pdftotext', '-layout', FOLDER / 'page.pdf', '-'], capture_output=True, text=True, check=True).stdout
         for words in ('The delivery is not right: 3 differences', 'ABBN', 'AXAW', 'TOT5', 'What is proved of this page'):
