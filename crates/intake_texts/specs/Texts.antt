@@ -1,4 +1,4 @@
--- What `gateway` prints of an input (02, note 8; README, Programs, and docs/DECISIONS.md, Loading with one block of memory, from which the quotations are).
+-- What `gateway` prints of an input (02, note 8; README, For the applications specialist, and docs/DECISIONS.md, Loading with one block of memory, from which the quotations are).
 -- Assumes nothing.
 use Prim.Native.Nat.{ℕ, zero, suc, _+_, _*_, _/_, _%_, _≤_}
 use mathlib.Core.Path.{_≡_}

@@ -36,7 +36,7 @@ atFault question before e =
 unfoldable pub idAfter : List ℕ → Entry → List ℕ
 idAfter before e = cond (eqb (e .letter) 80) (fourBytes (e .«record») 0) before
 
--- before the first product: four zeros, which no id that 7 passes is less than
+-- before the first product: four zeros; every id that 7 passes is greater
 abbrev pub noId : List ℕ
 noId = replicate 4 0
 

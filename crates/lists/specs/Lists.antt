@@ -239,7 +239,7 @@ pub record CalendarPasses (f : List ℕ) : Type 0 where
   pub yes5 : calendarsClean f ≡ true
   pub yes6 : weeksRight f ≡ true
 
--- of a text whose lines are all those of a list: what is kept for a question is its first line at fault (proofs, Where: `says-where`)
+-- where no line is bad (the law that gives it asks so): what is kept for a question is its first line at fault (proofs, Where: `says-where`)
 pub record SaysWhere (room : ℕ) (input : List ℕ) : Type 0 where
   pub line5 : faultKept (contentOf room input .faults) 5 ≡ firstFault 5 (numberedLines input)
   pub line7 : faultKept (contentOf room input .faults) 7 ≡ firstFault 7 (numberedLines input)

@@ -83,7 +83,7 @@ openingIn verdict f id date =
     })
     (refusedOpening (firstNo (asksIn verdict f id date)))
 
--- the same but for the calendar, which is the verdict's
+-- the same but for the calendar: an accepted opening has the verdict's, a refused one a calendar of zeros
 unfoldable pub listingIn : Answer Calendar → List ℕ → List ℕ → ℕ → Listed
 listingIn verdict f id date =
     let o = openingIn verdict f id date in

@@ -124,7 +124,7 @@ pub record Handed (opening : List ℕ → ℕ → Outcome) (h : Kept) (l : Line)
   pub state : (rest : List ℕ) → restKept opening h l (part ++ rest) ≡ restKept opening h′ l′ (left ++ rest)
   pub count : n′ ≡ counted n (length text)
 
--- an input that arrives in parts
+-- the parts in which an input arrives, joined
 unfoldable pub inOne : List (List ℕ) → List ℕ
 inOne [] = []
 inOne (part ∷ parts) = part ++ inOne parts

@@ -1,4 +1,4 @@
--- The whole input of the program `confirm`, and the line that it prints (02, note 12; README, Programs, and docs/DECISIONS.md, Listings from elsewhere, from which the quotations are).
+-- The whole input of the program `confirm`, and the line that it prints (02, note 12; README, For the applications specialist, and docs/DECISIONS.md, Listings from elsewhere, from which the quotations are).
 -- Assumes nothing.
 use Prim.Native.Nat.{ℕ, suc}
 use mathlib.Core.Bool.{Bool, _&&_, _||_, cond}
