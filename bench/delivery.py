@@ -5,8 +5,8 @@ and notices, how much memory they hold and, where valgrind is installed, the ins
 a product and notice, beside those of the same calls in terms. A benchmark, not a test:
 nothing here passes or fails.
 
-  python3 bench/delivery.py [FOLDER]        FOLDER holds the programs, target/bin else
-  python3 bench/delivery.py --write FOLDER  writes master.bin, notices.txt, rows and input,
+  python3 -m bench.delivery [FOLDER]        FOLDER holds the programs, target/bin else
+  python3 -m bench.delivery --write FOLDER  writes master.bin, notices.txt, rows and input,
                                             which is the same for terms
 
 Run `rt check deliver reconcile terms` first.
@@ -19,14 +19,12 @@ import sys
 import tempfile
 import time
 
-ROOT = os.path.dirname(os.path.dirname(os.path.abspath(__file__)))
-sys.path.insert(0, os.path.join(ROOT, 'tests'))
-
-import cases  # noqa: E402
-from second import dates, master, words  # noqa: E402
-from second.deliver import deliver  # noqa: E402
-from second.notices import read  # noqa: E402
-from second.terms import day_text  # noqa: E402
+from tests import ROOT
+from tests.inputs import cases
+from tests.second import dates, master, words
+from tests.second.deliver import deliver
+from tests.second.notices import read
+from tests.second.terms import day_text
 
 RUNS = 5
 FIRST = (2008, 1, 2)

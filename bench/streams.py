@@ -4,7 +4,7 @@ rolls and closes on 3 years with 15 records and on 16 years with 1,000; and the 
 their seed. Of the rolls most move the listing, as some weeks lie between two of them;
 of the many rolls most leave it as it is, as one from a day to the next does.
 
-  python3 bench/streams.py FOLDER    a folder of FOLDER for each stream, with the
+  python3 -m bench.streams FOLDER    a folder of FOLDER for each stream, with the
                                      files master.bin and input, and the text
                                      made-up.txt, from which compose makes the
                                      master.bin of the last four
@@ -13,12 +13,10 @@ import os
 import random
 import sys
 
-ROOT = os.path.dirname(os.path.dirname(os.path.abspath(__file__)))
-sys.path.insert(0, os.path.join(ROOT, 'tests'))
-
-import cases  # noqa: E402
-from second import listing, lists, master, trading  # noqa: E402
-from second.terms import day_text  # noqa: E402
+from tests.inputs import cases
+from tests.inputs.products import item
+from tests.second import listing, lists, master, trading
+from tests.second.terms import day_text
 
 SEED = 1
 FIRST_YEAR = 2008
@@ -31,13 +29,13 @@ MADE_UP_SEED = 14
 # So many products by their ids. A13, the first to be taken, is a future, A12 an option
 # with 12 months, A24 an option with 24 months.
 def products_of(records):
-    named = [cases.item(b'A13', group=b'FR01', kind=0), cases.item(b'A12'), cases.item(b'A24', kind=2)]
+    named = [item(b'A13', group=b'FR01', kind=0), item(b'A12'), item(b'A24', kind=2)]
     others = cases.many_products(1680)
     products = named[:records] + others[len(others) - max(records - len(named), 0):]
     return sorted(products, key=lambda one: one.id)
 
 
-# A file of some years with the closures of the calendar in tests/data.
+# A file of some years with the closures of the calendar in tests/inputs/data.
 def file_of(years, records=15):
     with open(os.path.join(cases.DATA, 'closures-2000-2099.csv')) as lines:
         calendar = master.calendar_from_csv(lines, FIRST_YEAR, years)
@@ -120,7 +118,7 @@ def streams_of(file, years):
         yield name, make(file, rng, count)
 
 
-# Each stream of a file with the calendar in tests/data: its name, its file, its lines.
+# Each stream of a file with the calendar in tests/inputs/data: its name, its file, its lines.
 def streams():
     for years, records in SIZES:
         file = file_of(years, records)

@@ -579,7 +579,7 @@ static inline unsigned scullpouch_make_into(scullpouch_calendar *calendar, uint3
 
 /* ---- A delivery by pointers ---- */
 
-/* The notices of a text, 165 KB. */
+/* The notices of a text, 164 KB. */
 typedef struct {
     scullpouch_notices said;
     uint32_t calls[SCULLPOUCH_CALLS];
@@ -587,7 +587,7 @@ typedef struct {
     uint8_t refusals[SCULLPOUCH_NOTICES];
 } scullpouch_notices_lists;
 
-/* The rows of a text, 984 KB. state is all zeros before the first line. */
+/* The rows of a text, 983 KB. state is all zeros before the first line. */
 typedef struct {
     scullpouch_receipt state;
     uint8_t ids[SCULLPOUCH_ROW_IDS];

@@ -1,14 +1,11 @@
 #!/usr/bin/env python3
 """A line of input for each call of the module scullpouch, a line of output for each answer (bindings/README.md)."""
 
-import os
 import sys
 import time
 from operator import mul
 
-sys.path.insert(0, os.path.dirname(os.path.abspath(__file__)))
-
-import scullpouch  # noqa: E402
+import scullpouch
 
 LOOPS = 50
 SUM_MODULUS = 65521

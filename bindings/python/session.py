@@ -1,13 +1,9 @@
 #!/usr/bin/env python3
 """The program `terms` in Python over libscullpouch: master.bin and commands in, answers out."""
 
-import os
 import re
-import sys
 
-sys.path.insert(0, os.path.dirname(os.path.abspath(__file__)))
-
-import scullpouch  # noqa: E402
+import scullpouch
 
 DATE = rb'([0-9]{4})-([0-9]{2})-([0-9]{2})'
 COMMAND = re.compile(rb'(?:(O) ([A-Z0-9]{1,4})|([RC])) ' + DATE)

@@ -1,16 +1,32 @@
 // Files that are chosen or dropped in.
 
-import { by_id } from './elements.js';
+import { by_id, counted, fill, html } from './elements.js';
 
 /** The first bytes of a file, and whether there are more. */
 export async function bytes_of(file, most) {
   return { name: file.name, size: file.size, cut: file.size > most, bytes: new Uint8Array(await file.slice(0, most).arrayBuffer()) };
 }
 
-/** Files that are chosen in an input or dropped on its part of the page are handed on, one at a time. */
+/** A file that is chosen in an input or dropped on its part of the page is handed on. Of several at once none is taken,
+ * since each part takes one; that, and that a file cannot be read, is said there. */
 export function taken(part, input, take) {
-  const section = by_id(part), chooser = by_id(input);
-  chooser.addEventListener('change', () => chooser.files[0] && take(chooser.files[0]));
+  const section = by_id(part), chooser = by_id(input), dropped = html('p', { class: 'said ask dropped no-print', role: 'status', hidden: true });
+  chooser.parentElement.after(dropped);
+  const say = words => {
+    dropped.hidden = words === '';
+    fill(dropped, words);
+  };
+  const take_one = async files => {
+    say(files.length > 1 ? `${counted(files.length, 'file')} were dropped here, and none was taken. Drop one at a time, each on its own part.` : '');
+    if (files.length !== 1) return;
+    try {
+      await take(files[0]);
+    } catch (error) {
+      if (!(error instanceof DOMException)) throw error;
+      say(`${files[0].name} cannot be read: it is a folder, or was moved or changed meanwhile. Nothing was taken; choose it again.`);
+    }
+  };
+  chooser.addEventListener('change', () => take_one(chooser.files));
   section.addEventListener('dragover', event => {
     event.preventDefault();
     section.classList.add('over');
@@ -19,6 +35,6 @@ export function taken(part, input, take) {
   section.addEventListener('drop', event => {
     event.preventDefault();
     section.classList.remove('over');
-    if (event.dataTransfer.files[0]) take(event.dataTransfer.files[0]);
+    take_one(event.dataTransfer.files);
   });
 }

@@ -57,6 +57,11 @@ await start(unpacked(WASM));
 fill(by_id('kit'), kit());
 for (const part of [part_file, part_notices, part_delivery, part_product]) part.set_up(state);
 by_id('example').addEventListener('click', example);
-// A file that is dropped beside the parts is not opened in place of the page.
+// A file that is dropped beside the parts is not opened in place of the page; where it belongs is said.
 for (const name of ['dragover', 'drop']) document.addEventListener(name, event => event.preventDefault());
+document.addEventListener('drop', ({ target }) => {
+  const beside = target.closest?.('.drop') === null;
+  by_id('beside').hidden = !beside;
+  fill(by_id('beside'), beside && 'Drop a file on its part: 1 for the master file, 2 for the notices, 3 for the delivery.');
+});
 document.documentElement.dataset.ready = 'yes';

@@ -12,6 +12,7 @@ const TITLES = ['Product', 'Maturity', 'Delivered', 'Right', 'Why'];
 const FIELDS = ['product', 'maturity', 'delivered', 'right', 'why'];
 const SHOWN_AT_MOST = 500, UNREAD_AT_MOST = 200; // rows of a table, as long as not all are asked for
 const PAUSE = 250; // milliseconds after the last key before a text is read
+const PASTED = 'Pasted rows';
 
 // ---- What it is taken to be ----
 
@@ -103,26 +104,42 @@ function sentence({ rows, unread }, { found, over }, file) {
   return ['no', `The delivery is not right: ${counted(found.length, 'difference')}, in ${listed(which)} (${all}, ${counted(file.products.length, 'product')} in the master file).${lines}`];
 }
 
-const said_of = (state, rest) => {
-  if (!state.file) return 'Put in a master file first.';
-  if (!state.notices) return 'The notices are missing, or have to be mended first.';
-  return state.delivery.waits ? 'One question has to be answered first; it stands above.' : rest;
-};
+// What a delivery has not, and is not judged without: rows, and a column for each of the three that a row needs.
+function lacking({ name, plan }) {
+  if (plan.own && plan.sample.length > 0) return null;
+  if (plan.heading && plan.sample.length === 0) return `${name} has no rows: nothing stands under its first line.`;
+  const without = COLUMNS.slice(0, 3).filter(column => plan.columns[column] < 0).map(column => NAMES[column].toLowerCase());
+  return without.length === 0 ? null : `No column is taken for the ${listed(without)}. Choose it above; nothing is judged without it.`;
+}
+
+// What is missing before the delivery can be judged, or null.
+function missing_of({ file, notices, delivery }) {
+  if (!file) return 'Put in a master file first.';
+  if (!notices) return 'The notices are missing, or have to be mended first.';
+  return lacking(delivery) ?? (delivery.waits ? 'One question has to be answered first; it stands above.' : null);
+}
+
+// What of the rows is not compared: the calls read listing number and days moved back together, or neither.
+const not_compared = rows => rows.some(row => row.length === 3) && html('p', { class: 'soft' },
+  'Listing numbers and days moved back are not compared in rows that do not have both.');
 
 /** Judges the delivery, as far as all that it needs is there. `current` says whether the answer is still wanted. */
 export async function judge(state, told, current) {
   const { delivery } = state;
   if (!delivery) return;
-  fill(by_id('differences'));
-  fill(by_id('unread'));
-  const missing = said_of(state, null);
+  for (const part of ['verdict', 'differences', 'unread']) fill(by_id(part));
+  const missing = missing_of(state);
   if (missing) return fill(by_id('verdict'), html('p', { class: 'said ask' }, missing));
   const read = await read_rows(delivery, state.file.kinds, told);
   if (!current()) return;
+  if (read.rows.length === 0) {
+    fill(by_id('verdict'), html('p', { class: 'said verdict no' }, `No line of ${delivery.name} could be read as a row, so nothing is judged. Why stands below.`));
+    return show_unread(read);
+  }
   const judged = await differences_of(state.file, state.notices, read.rows.map(line_of), told, current);
   if (!judged) return;
   const [how, words] = sentence(read, judged, state.file);
-  fill(by_id('verdict'), html('p', { class: `said verdict ${how}` }, words));
+  fill(by_id('verdict'), html('p', { class: `said verdict ${how}` }, words), not_compared(read.rows));
   show_unread(read);
   Object.assign(state, { found: judged.found, all: false });
   state.order = { by: null, down: false };
@@ -221,7 +238,8 @@ function show_found(state) {
 /** Takes the text of a delivery. One that is none leaves the one before. */
 export function take_text(state, name, text, notes = []) {
   state.delivery = { name, text, plan: guess(text, state.file?.kinds ?? new Map()), asked: null, order: null, waits: false, changed: false };
-  fill(by_id('delivery-said'), html('p', {}, html('strong', {}, name)), notes.map(note => html('p', { class: 'said ask' }, note)));
+  const beside = name !== PASTED && by_id('delivery-text').value.trim() !== '' ? ['The rows that are pasted are not judged now.'] : [];
+  fill(by_id('delivery-said'), html('p', {}, html('strong', {}, name)), [...notes, ...beside].map(note => html('p', { class: 'said ask' }, note)));
   show_plan(state);
   state.changed('delivery');
 }
@@ -245,6 +263,6 @@ export function set_up(state) {
   let waiting = 0;
   by_id('delivery-text').addEventListener('input', event => {
     clearTimeout(waiting);
-    if (event.target.value.trim() !== '') waiting = setTimeout(() => take_text(state, 'Pasted rows', event.target.value.slice(0, TEXT_AT_MOST)), PAUSE);
+    if (event.target.value.trim() !== '') waiting = setTimeout(() => take_text(state, PASTED, event.target.value.slice(0, TEXT_AT_MOST)), PAUSE);
   });
 }

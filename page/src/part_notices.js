@@ -84,12 +84,21 @@ function add(state) {
   take_text(state, `${text === '' ? '' : `${text}\n`}${line}\n`);
 }
 
+// Why a file does not replace the notices: it is no text, or has a line that is no notice while there are notices already.
+function unused({ name, cut }, { text, binary }) {
+  if (binary) return `${name} is not a text${cut ? ', and longer than 65,536 bytes' : ''}. The notices stay as they were.`;
+  const { bad } = notices_of(text), line = text.split('\n')[bad - 1];
+  if (!bad || by_id('notices').value.trim() === '') return null;
+  const why = line ? `line ${bad} is not a notice: “${line.slice(0, 80)}”` : text.trim() === '' ? 'it has no notice' : 'it has no opening, or is too long';
+  return `${name} is not used: ${why}. The notices stay as they were. To mend it here, clear their text first.`;
+}
+
 export function set_up(state) {
   taken('part-notices', 'notices-file', async file => {
-    const { bytes, cut } = await bytes_of(file, TEXT_AT_MOST + 1);
-    const { text, binary } = text_of(bytes);
-    if (binary) fill(by_id('notices-said'), html('div', { class: 'said no' }, html('p', {}, `${file.name} is not a text${cut ? ', and longer than 65,536 bytes' : ''}. The notices stay as they were.`)));
-    else take_text(state, text);
+    const read_bytes = await bytes_of(file, TEXT_AT_MOST + 1), said = by_id('notices-said');
+    const as_text = text_of(read_bytes.bytes), why = unused(read_bytes, as_text);
+    if (why) fill(said, html('div', { class: 'said no' }, html('p', {}, why)), said.querySelector('.yes'));
+    else take_text(state, as_text.text);
   });
   let waiting = 0;
   by_id('notices').addEventListener('input', () => {

@@ -88,24 +88,28 @@ function answer(at, what, call) {
 
 const typed = id => by_id(id).value.trim();
 
+// What is said of a field that has nothing, or something else than is asked for.
+const not_so = (id, question, words) => typed(id) === '' ? question : `“${typed(id)}” is not ${words}.`;
+
 function due(held) {
   const said = read_date(typed('due-day'));
   if (said?.either) return `“${typed('due-day')}” may be ${iso(said.either.day)} or ${iso(said.either.month)}: write it as one of these.`;
-  if (!said?.day) return `“${typed('due-day')}” is not a date.`;
+  if (!said?.day) return not_so('due-day', 'Which date?', 'a date');
   return `Due on ${in_words(held.due(iso(said.day)))}.`;
 }
 
 function tick(held) {
   const price = price_of(typed('tick-price'));
-  if (price === null) return `“${typed('tick-price')}” is not a price, as 12.3400.`;
+  if (price === null) return not_so('tick-price', 'Which price?', 'a price, as 12.3400');
   held.tick(price);
   return 'It passes: the price is a multiple of the tick.';
 }
 
 function cash(held) {
   const [agreed, final] = ['cash-agreed', 'cash-final'].map(id => price_of(typed(id))), contracts = typed('cash-contracts');
-  if (!/^\d+$/.test(contracts)) return `“${contracts}” is not a number of contracts.`;
-  if (agreed === null || final === null) return `“${typed(agreed === null ? 'cash-agreed' : 'cash-final')}” is not a price, as 12.3400.`;
+  if (!/^\d+$/.test(contracts)) return not_so('cash-contracts', 'How many contracts?', 'a number of contracts');
+  if (agreed === null) return not_so('cash-agreed', 'At which agreed price?', 'a price, as 12.3400');
+  if (final === null) return not_so('cash-final', 'At which final price?', 'a price, as 12.3400');
   const { negative, amount, rest } = held.cash(Math.min(Number(contracts), 2 ** 32 - 1), agreed, final);
   const money = `${amount / 10000n}.${String(amount % 10000n).padStart(4, '0')}${String(rest).padStart(4, '0')}`;
   if (amount === 0n && rest === 0) return 'Nothing is paid.';

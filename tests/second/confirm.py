@@ -1,19 +1,16 @@
-"""The program `confirm` (02, note 12; README, "For the broker's clerk").
+"""The program `confirm` (02, note 12; docs/CLERK.md, "Checking a vendor").
 
-python3 tests/second/confirm.py reads master.bin in the current folder and, from
+python3 -m tests.second.confirm reads master.bin in the current folder and, from
 standard input, `O id date`, any `R date` and `C date`, then a vendor's listing,
 and prints one line: YES, DIFFERS and a month or Friday, REFUSED and a number, or
 BAD and the number of a line.
 """
 
-import os
 import re
 import sys
 
-if __name__ == '__main__':
-    sys.path.insert(0, os.path.dirname(os.path.dirname(os.path.abspath(__file__))))
-
-from second import dates, product, terms, vendor  # noqa: E402
+from tests.second import dates, product, terms, vendor
+from tests.second.table import Table
 
 INPUT_AT_MOST = 65536
 MONTH_LINE = re.compile(rb'([0-9]{4})-([0-9]{2}) ' + terms.DATE)
@@ -21,20 +18,20 @@ FRIDAY_LINE = re.compile(terms.DATE + rb' ' + terms.DATE)
 
 
 # The month number of a year and a month, None where they are none of 2000-2099.
-def month_of(year, month):
+def month_of(year: int, month: int) -> int | None:
     number, day = dates.date_to_day(year, month, 1)
     return None if number else dates.month_of(day)
 
 
 # The day number of a date, None where it is none.
-def day_of(year, month, day):
+def day_of(year: int, month: int, day: int) -> int | None:
     number, value = dates.date_to_day(year, month, day)
     return None if number else value
 
 
 # The month or Friday and the last trading day of a vendor's line: "2008-03
 # 2008-03-20", of a weekly option "2008-03-07 2008-03-07"; None for another line.
-def entry(kind, line):
+def entry(kind: int, line: bytes) -> tuple[int, int] | None:
     weekly = product.is_weekly(kind)
     match = (FRIDAY_LINE if weekly else MONTH_LINE).fullmatch(line)
     if not match:
@@ -47,23 +44,24 @@ def entry(kind, line):
 
 # The lines that stand in the first 65,536 bytes with their line feeds, and whether
 # there is more.
-def whole_lines(text):
+def whole_lines(text: bytes) -> tuple[list[bytes], bool]:
     if len(text) <= INPUT_AT_MOST:
         return terms.lines_of(text), False
     return text[:INPUT_AT_MOST].split(b'\n')[:-1], True
 
 
 # What the program prints.
-def answer(file, text):
+def answer(file: bytes, text: bytes) -> bytes:
     lines, more = whole_lines(text)
-    held, numbers = None, []
+    held: Table | None = None
+    numbers: list[int] = []
     for place, line in enumerate(lines, 1):
         command = terms.parse(line)
         if held is None:
             moves = command is not None and command[0] == 'O'
         else:
             moves = command is not None and command[0] != 'O' and not numbers
-        if moves:
+        if moves and command is not None:
             number, held, _, _ = terms.call(file, held, *command)
             if number:
                 return b'REFUSED %d\n' % number
@@ -78,7 +76,7 @@ def answer(file, text):
 
 
 # What is said of the list.
-def said(held, numbers):
+def said(held: Table, numbers: list[int]) -> bytes:
     number, same, key = vendor.judge(held, numbers)
     if number:
         return b'REFUSED %d\n' % number
@@ -88,7 +86,7 @@ def said(held, numbers):
 
 
 # Reads, judges and writes.
-def main():
+def main() -> int:
     printed = answer(terms.read_master('master.bin'), terms.read_commands())
     try:
         with open(1, 'wb', closefd=False) as out:

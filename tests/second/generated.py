@@ -1,17 +1,17 @@
 """Made-up calendars for load tests (02, note 14)."""
 
-from second import dates, trading
-from second.trading import Calendar
+from tests.second import dates, trading
+from tests.second.trading import Calendar
 
 
 # 02, note 14: "The next value is (1,664,525 × value + 1,013,904,223) mod 2^32."
-def next_value(value):
+def next_value(value: int) -> int:
     return (1_664_525 * value + 1_013_904_223) % 2**32
 
 
 # Whether with a day closed some run of seven days that has it, wholly in the
 # cover, holds no trading day.
-def leaves_a_run(calendar, closed, day):
+def leaves_a_run(calendar: Calendar, closed: set[int], day: int) -> bool:
     first = max(trading.first_day(calendar), day - 6)
     last = min(trading.last_day(calendar) - 6, day)
     return any(all(one == day or one in closed or not dates.is_weekday(one)
@@ -23,12 +23,12 @@ def leaves_a_run(calendar, closed, day):
 # value each; close the day if value div 2^24 is below 8, unless that would leave
 # a seven-day run without a trading day. Days not yet visited count as open."
 # "[A]ny other cover gets 4 and a calendar of zeros." (number, calendar).
-def make(seed, first_year, years):
+def make(seed: int, first_year: int, years: int) -> tuple[int, Calendar]:
     cover = Calendar(first_year, years, frozenset())
     if not trading.cover_fits(cover):
         return 4, Calendar(0, 0, frozenset())
     value = seed
-    closed = set()
+    closed: set[int] = set()
     for day in range(trading.first_day(cover), trading.last_day(cover) + 1):
         if dates.is_weekday(day):
             value = next_value(value)

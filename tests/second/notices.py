@@ -15,8 +15,12 @@ by its number from 1; where no line says anything, by the number after the last 
 """
 
 import re
+from typing import Any
 
-from second import words
+from tests.second import words
+
+# A letter and a day; or M, an id, p, q and a price.
+Call = tuple[Any, ...]
 
 TEXT_AT_MOST = 65536
 
@@ -26,17 +30,17 @@ MEASURE_LINE = re.compile(b' '.join((b'M', words.ID, words.NUMBER, words.NUMBER,
 
 # The call of a line that says something: its letter and its day; or M, the id, p, q and
 # the price. None for another line.
-def call_of(line):
+def call_of(line: bytes) -> Call | None:
     return day_call(line) or measure_call(line)
 
 
-def day_call(line):
+def day_call(line: bytes) -> Call | None:
     match = DAY_LINE.fullmatch(line)
     day = words.day_of(match.group(2)) if match else None
-    return None if day is None else (match.group(1).decode(), day)
+    return None if match is None or day is None else (match.group(1).decode(), day)
 
 
-def measure_call(line):
+def measure_call(line: bytes) -> Call | None:
     match = MEASURE_LINE.fullmatch(line)
     if not match:
         return None
@@ -46,15 +50,16 @@ def measure_call(line):
 
 # The lines that may be good: of a text that is too long those before the line that holds
 # byte 65,537, its line feed among the bytes that a line holds.
-def lines_within(text):
+def lines_within(text: bytes) -> list[bytes]:
     lines = words.lines_of(text)
     return lines if len(text) <= TEXT_AT_MOST else lines[:text[:TEXT_AT_MOST].count(b'\n')]
 
 
 # What a text says: the number of its first bad line, 0 where none is; and the calls, each
 # with the number of its line, the opening first.
-def read(text):
-    lines, calls = lines_within(text), []
+def read(text: bytes) -> tuple[int, list[tuple[int, Call]]]:
+    lines = lines_within(text)
+    calls: list[tuple[int, Call]] = []
     for place, line in enumerate(lines, 1):
         if words.says_nothing(line):
             continue

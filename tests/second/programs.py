@@ -4,22 +4,27 @@ notices are read, and both before standard input is. The status is 0."""
 
 import os
 import sys
+from collections.abc import Callable
 
-from second import master, notices
+from tests.second import master, notices
 
 PART = 1 << 16
+
+# From master.bin, notices.txt and standard input: both outputs; whether the reading ends.
+Answers = Callable[[bytes, bytes, bytes], tuple[bytes, bytes]]
+Ends = Callable[[bytes, bytes, bytes], bool]
 
 
 # A read or a write that failed, with what was read before it.
 class Failure(Exception):
 
-    def __init__(self, name, error, before=b''):
+    def __init__(self, name: str, error: OSError, before: bytes = b'') -> None:
         super().__init__(f'{name}: {os.strerror(error.errno)}')
         self.before = before
 
 
 # The bytes of an open file, at most so many where there is a limit.
-def read_bytes(name, source, limit=None):
+def read_bytes(name: str, source: int, limit: int | None = None) -> bytes:
     parts, left = [], limit
     try:
         while left != 0 and (part := os.read(source, PART if left is None else min(PART, left))):
@@ -31,7 +36,7 @@ def read_bytes(name, source, limit=None):
 
 
 # The bytes of a file in the current folder, one more than it may have where it has more.
-def read_file(name, most):
+def read_file(name: str, most: int) -> bytes:
     try:
         source = os.open(name, os.O_RDONLY)
     except OSError as error:
@@ -43,7 +48,7 @@ def read_file(name, most):
 
 
 # Writes to standard output.
-def write(data):
+def write(data: bytes) -> None:
     try:
         while data:
             data = data[os.write(1, data):]
@@ -52,7 +57,7 @@ def write(data):
 
 
 # All of standard input. A failure is none where the whole lines before it end the reading.
-def read_input(ends):
+def read_input(ends: Callable[[bytes], bool]) -> bytes:
     try:
         return read_bytes('standard input', 0)
     except Failure as failure:
@@ -63,7 +68,7 @@ def read_input(ends):
 
 
 # Reads, answers and writes.
-def answer(answers, takes_input, ends):
+def answer(answers: Answers, takes_input: bool, ends: Ends) -> None:
     file = read_file('master.bin', master.FILE_AT_MOST)
     accepted = not master.file_refusal(file)
     text = read_file('notices.txt', notices.TEXT_AT_MOST) if accepted else b''
@@ -74,7 +79,7 @@ def answer(answers, takes_input, ends):
 
 
 # A run of a program; `ends` says whether some lines of standard input end the reading.
-def run(name, answers, takes_input=True, ends=lambda file, text, lines: False):
+def run(name: str, answers: Answers, takes_input: bool = True, ends: Ends = lambda file, text, lines: False) -> None:
     try:
         answer(answers, takes_input, ends)
     except Failure as failure:

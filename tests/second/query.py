@@ -9,18 +9,16 @@ the file, the opening's number of a product without a table, else the call's. An
 line, one of more than 255 bytes, and `last` in the form of the other sort of maturity:
 `BAD K`. Empty lines and comments are passed over. Refused notices are not told.
 
-python3 tests/second/query.py reads master.bin and notices.txt in the current folder and
+python3 -m tests.second.query reads master.bin and notices.txt in the current folder and
 questions from standard input.
 """
 
-import os
 import re
-import sys
+from collections.abc import Callable
 
-if __name__ == '__main__':
-    sys.path.insert(0, os.path.dirname(os.path.dirname(os.path.abspath(__file__))))
-
-from second import lists, programs, replay, rows, table, terms, words  # noqa: E402
+from tests.second import lists, programs, replay, rows, table, terms, words
+from tests.second.replay import Standing
+from tests.second.table import Table
 
 LINE_AT_MOST = 255
 QUESTIONS = {
@@ -32,29 +30,29 @@ QUESTIONS = {
 }
 
 
-def no(number):
+def no(number: int) -> bytes:
     return b'NO %d' % number
 
 
 # ---- The answers of a table ----
 
-def last(held, key):
+def last(held: Table, key: int) -> bytes:
     number, day, back = table.last_trading_day(held, key)
     return no(number) if number else b'%s %d' % (terms.day_text(day).encode(), back)
 
 
-def due(held, day):
+def due(held: Table, day: int) -> bytes:
     number, due_day = table.due(held, day)
     return no(number) if number else terms.day_text(due_day).encode()
 
 
-def tick(held, price):
+def tick(held: Table, price: int) -> bytes:
     number = table.tick(held, price)
     return no(number) if number else b'OK'
 
 
 # "(`48.00000000`, `-0.00000001`, zero without a sign)".
-def cash(held, contracts, agreed, final):
+def cash(held: Table, contracts: int, agreed: int, final: int) -> bytes:
     number, negative, amount, rest = table.cash(held, contracts, agreed, final)
     if number:
         return no(number)
@@ -62,25 +60,25 @@ def cash(held, contracts, agreed, final):
     return b'%s%d.%04d%04d' % (b'-' if negative else b'', whole, parts, rest)
 
 
-def size(held):
+def size(held: Table) -> bytes:
     return lists.size_word(held.product.size)
 
 
-ANSWERS = {'last': last, 'due': due, 'tick': tick, 'cash': cash, 'size': size}
+ANSWERS: dict[str, Callable[..., bytes]] = {'last': last, 'due': due, 'tick': tick, 'cash': cash, 'size': size}
 
 
 # ---- Questions ----
 
 # The maturity of a question, by its product; of an id that is not in the file both forms
 # are taken. None for another word.
-def maturity(standing, word):
+def maturity(standing: Standing | None, word: bytes) -> int | None:
     if standing is None:
         return 0 if rows.is_maturity(word) else None
     return rows.key_of(standing.item.kind, word)
 
 
 # The arguments of a question as numbers; None among them for a word that is none.
-def arguments(name, standing, found):
+def arguments(name: str, standing: Standing | None, found: tuple[bytes, ...]) -> list[int | None]:
     if name == 'last':
         return [maturity(standing, *found)]
     if name == 'due':
@@ -91,7 +89,7 @@ def arguments(name, standing, found):
 
 
 # The name of a question, its id and the other words; None for another line.
-def question_of(line):
+def question_of(line: bytes) -> tuple[str, bytes, tuple[bytes, ...]] | None:
     for name, form in QUESTIONS.items():
         match = form.fullmatch(line)
         if match:
@@ -100,7 +98,7 @@ def question_of(line):
 
 
 # What stands after a question; None where the line is bad.
-def answer(products, line):
+def answer(products: dict[bytes, Standing], line: bytes) -> bytes | None:
     question = question_of(line) if len(line) <= LINE_AT_MOST else None
     if question is None:
         return None
@@ -117,15 +115,15 @@ def answer(products, line):
 
 
 # The line that answers a line.
-def answer_line(products, place, line):
+def answer_line(products: dict[bytes, Standing], place: int, line: bytes) -> bytes:
     said = answer(products, line)
     return b'BAD %d\n' % place if said is None else b'%s %s\n' % (line, said)
 
 
 # Both outputs.
-def query(file, notices, text):
+def query(file: bytes, notices: bytes, text: bytes) -> tuple[bytes, bytes]:
     refused, morning = replay.begin(file, notices)
-    if refused:
+    if morning is None:
         return b'', refused
     products = {standing.item.id: standing for standing in morning.products}
     return b''.join(answer_line(products, place, line) for place, line in enumerate(words.lines_of(text), 1)

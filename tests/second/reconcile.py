@@ -9,22 +9,23 @@ for each id that is not in the file, in the order of their first rows. Standard 
 refused openings, bad lines by number, and last the summary, which is not there where there
 were too many rows; standard output is then empty.
 
-python3 tests/second/reconcile.py reads master.bin and notices.txt in the current folder
+python3 -m tests.second.reconcile reads master.bin and notices.txt in the current folder
 and rows from standard input.
 """
 
-import os
-import sys
+from collections.abc import Iterator
 
-if __name__ == '__main__':
-    sys.path.insert(0, os.path.dirname(os.path.dirname(os.path.abspath(__file__))))
+from tests.second import programs, replay, rows, table, terms, words
+from tests.second.replay import Morning, Standing
+from tests.second.rows import Row
 
-from second import programs, replay, rows, table, terms, words  # noqa: E402
+# Why a key differs, what was delivered, what is right.
+Said = tuple[bytes, bytes, bytes]
 
 HEADING = b'product,maturity,why,delivered,right\n'
 
 
-def day_word(day):
+def day_word(day: int) -> bytes:
     return terms.day_text(day).encode()
 
 
@@ -32,8 +33,9 @@ def day_word(day):
 # it does not differ. `listed` is its place in the table, None where it is not listed;
 # `given` are the rows with the key, in their order. "the first `why` that holds";
 # "`delivered` is that of the first row with the key".
-def difference(listed, given):
+def difference(listed: table.Place | None, given: list[Row]) -> Said | None:
     if not given:
+        assert listed is not None
         return b'missing', b'', day_word(listed[1])
     first = given[0]
     if listed is None:
@@ -47,8 +49,8 @@ def difference(listed, given):
 
 
 # The same of the two numbers, "of five fields".
-def number_difference(row, number, back):
-    if row.number is None:
+def number_difference(row: Row, number: int, back: int) -> Said | None:
+    if row.number is None or row.back is None:
         return None
     if row.number != number:
         return b'number', b'%d' % row.number, b'%d' % number
@@ -58,15 +60,16 @@ def number_difference(row, number, back):
 
 
 # The rows of a product by their keys.
-def by_key(given):
-    found = {}
+def by_key(given: list[Row]) -> dict[int, list[Row]]:
+    found: dict[int, list[Row]] = {}
     for row in given:
+        assert row.key is not None
         found.setdefault(row.key, []).append(row)
     return found
 
 
 # The lines of a product: "keys rising".
-def product_lines(standing, given):
+def product_lines(standing: Standing, given: list[Row]) -> Iterator[bytes]:
     held, item = standing.held, standing.item
     listed = {} if held is None else {maturity[0]: maturity for maturity in table.maturities(held)}
     delivered = by_key(given)
@@ -77,22 +80,22 @@ def product_lines(standing, given):
 
 
 # The lines under the heading.
-def lines(morning, good):
-    given = {standing.item.id: [] for standing in morning.products}
+def lines(morning: Morning, good: list[Row]) -> list[bytes]:
+    given: dict[bytes, list[Row]] = {standing.item.id: [] for standing in morning.products}
     for row in good:
         given.setdefault(row.code, []).append(row)
     said = [line for standing in morning.products for line in product_lines(standing, given.pop(standing.item.id))]
     return said + [b'%s,,product,,\n' % words.id_word(code) for code in given]
 
 
-def kinds_of(morning):
+def kinds_of(morning: Morning) -> dict[bytes, int]:
     return {standing.item.id: standing.item.kind for standing in morning.products}
 
 
 # Both outputs.
-def reconcile(file, notices, text):
+def reconcile(file: bytes, notices: bytes, text: bytes) -> tuple[bytes, bytes]:
     refused, morning = replay.begin(file, notices)
-    if refused:
+    if morning is None:
         return b'', refused
     read = rows.read(text, kinds_of(morning))
     told = [replay.opening_refusal(morning, standing) for standing in morning.products]
@@ -106,8 +109,9 @@ def reconcile(file, notices, text):
 
 
 # Whether some lines end the reading: there is a row too many among them.
-def ends(file, notices, lines):
-    return rows.read(lines, kinds_of(replay.begin(file, notices)[1])).too_many
+def ends(file: bytes, notices: bytes, lines: bytes) -> bool:
+    _, morning = replay.begin(file, notices)
+    return morning is not None and rows.read(lines, kinds_of(morning)).too_many
 
 
 if __name__ == '__main__':

@@ -9,7 +9,7 @@ TABLES = 200
 
 # 02, note 13: "Up to 200 tables"; "a queue of table numbers 0 to 199, each at
 # most once."
-def is_right(queue):
+def is_right(queue: list[int]) -> bool:
     return (len(queue) <= TABLES
             and all(0 <= table < TABLES for table in queue)
             and len(set(queue)) == len(queue))
@@ -19,7 +19,7 @@ def is_right(queue):
 # in that order, and puts them at the end in the same order." "A queue that breaks
 # this gets 10, first." "A refused call takes none and returns the queue as it
 # came." (number, taken, queue).
-def handle(queue, b):
+def handle(queue: list[int], b: int) -> tuple[int, list[int], list[int]]:
     if not is_right(queue):
         return 10, [], queue
     if not 1 <= b <= TABLES:
@@ -30,7 +30,7 @@ def handle(queue, b):
 
 # 02, note 13: "Tables join at the end"; 31: "for joining, is it not yet queued".
 # (number, queue).
-def join(queue, table):
+def join(queue: list[int], table: int) -> tuple[int, list[int]]:
     if not is_right(queue):
         return 10, queue
     if not 0 <= table < TABLES:
@@ -42,7 +42,7 @@ def join(queue, table):
 
 # 02, note 13: "and leave from anywhere, the rest keeping their order"; 31: "for
 # leaving, is it queued". (number, queue).
-def leave(queue, table):
+def leave(queue: list[int], table: int) -> tuple[int, list[int]]:
     if not is_right(queue):
         return 10, queue
     if not 0 <= table < TABLES:

@@ -13,7 +13,7 @@ not have (of an id that is not in the file both are taken); more than 255 bytes.
 import re
 from dataclasses import dataclass
 
-from second import product, words
+from tests.second import product, words
 
 SEPARATORS = re.compile(rb'[,;\t]')
 ID = re.compile(words.ID)
@@ -39,50 +39,51 @@ class Row:
 # too many.
 @dataclass(frozen=True)
 class Rows:
-    good: list
-    bad: list
+    good: list[Row]
+    bad: list[int]
     too_many: bool
 
 
 # A field without its quotes; None where it has another quote.
-def field_of(part):
+def field_of(part: bytes) -> bytes | None:
     if len(part) >= 2 and part[:1] == part[-1:] == b'"':
         part = part[1:-1]
     return None if b'"' in part else part
 
 
 # The fields of a line; None where one of them is none.
-def fields_of(line):
+def fields_of(line: bytes) -> list[bytes] | None:
     fields = [field_of(part) for part in SEPARATORS.split(line)]
-    return None if None in fields else fields
+    found = [field for field in fields if field is not None]
+    return found if len(found) == len(fields) else None
 
 
 # "the first line that is not empty where its first field is `product`": what stands in
 # the other fields, and how many there are, plays no part.
-def is_heading(line):
+def is_heading(line: bytes) -> bool:
     return SEPARATORS.split(line, maxsplit=1)[0] in TITLES
 
 
 # A number of five fields; None for another word and for a larger one.
-def number_of(word):
+def number_of(word: bytes) -> int | None:
     if not NUMBER.fullmatch(word) or words.number_of(word) > NUMBER_AT_MOST:
         return None
     return words.number_of(word)
 
 
 # The month or Friday of a maturity, by the kind of its product.
-def key_of(kind, word):
+def key_of(kind: int, word: bytes) -> int | None:
     return words.day_of(word) if product.is_weekly(kind) else words.month_of(word)
 
 
 # Whether a word is a month or a date.
-def is_maturity(word):
+def is_maturity(word: bytes) -> bool:
     return words.month_of(word) is not None or words.day_of(word) is not None
 
 
 # A row of three fields; None where one is wrong. `kinds` has the kinds of the file's
 # products by their ids.
-def short_row(name, maturity, last, kinds):
+def short_row(name: bytes, maturity: bytes, last: bytes, kinds: dict[bytes, int]) -> Row | None:
     day = words.day_of(last)
     if not ID.fullmatch(name) or day is None:
         return None
@@ -94,29 +95,35 @@ def short_row(name, maturity, last, kinds):
 
 
 # A row of five fields; None where one is wrong.
-def long_row(name, number, maturity, last, back, kinds):
+def long_row(name: bytes, number: bytes, maturity: bytes, last: bytes, back: bytes,
+             kinds: dict[bytes, int]) -> Row | None:
     row = short_row(name, maturity, last, kinds)
     numbers = number_of(number), number_of(back)
     return None if row is None or None in numbers else Row(row.code, row.key, row.day, *numbers)
 
 
 # The row of a line; None where the line is bad.
-def row_of(line, kinds):
+def row_of(line: bytes, kinds: dict[bytes, int]) -> Row | None:
     fields = fields_of(line) if len(line) <= LINE_AT_MOST else None
     if fields is None or len(fields) not in (3, 5):
         return None
-    return (short_row if len(fields) == 3 else long_row)(*fields, kinds)
+    if len(fields) == 3:
+        name, maturity, last = fields
+        return short_row(name, maturity, last, kinds)
+    name, number, maturity, last, back = fields
+    return long_row(name, number, maturity, last, back, kinds)
 
 
 # The lines that are neither empty nor a heading, with their numbers from 1.
-def lines_to_judge(text):
+def lines_to_judge(text: bytes) -> list[tuple[int, bytes]]:
     lines = [(place, line) for place, line in enumerate(words.lines_of(text), 1) if line]
     return lines[1:] if lines and is_heading(lines[0][1]) else lines
 
 
 # What a text holds.
-def read(text, kinds):
-    good, bad = [], []
+def read(text: bytes, kinds: dict[bytes, int]) -> Rows:
+    good: list[Row] = []
+    bad: list[int] = []
     for place, line in lines_to_judge(text):
         row = row_of(line, kinds)
         if row is None:

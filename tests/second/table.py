@@ -6,12 +6,15 @@ Every call answers first the number of the question that refused it, or 0.
 
 from dataclasses import dataclass, replace
 
-from second import listing, master, product, trading
-from second.product import NO_PRODUCT, Product
-from second.trading import Calendar
+from tests.second import listing, master, product, trading
+from tests.second.product import NO_PRODUCT, Product
+from tests.second.trading import Calendar
 
 PLACES = 15
 UNUSED = (0, 0, 0, 0)
+
+# A place: key, day, days back, number.
+Place = tuple[int, int, int, int]
 
 
 # 01, The table: "It holds the product's fields, the calendar, the date, up to
@@ -24,27 +27,30 @@ class Table:
     product: Product
     calendar: Calendar
     date: int
-    places: tuple
+    places: tuple[Place, ...]
     given: int
 
+
+# What a call answers: the number of its refusal, the table, entered, left.
+Answer = tuple[int, Table, int, int]
 
 # 01, Questions: "open: a table of zeros".
 ZERO_TABLE = Table(NO_PRODUCT, Calendar(0, 0, frozenset()), 0, (UNUSED,) * PLACES, 0)
 
 
 # The used places of a table.
-def maturities(table):
+def maturities(table: Table) -> list[Place]:
     return [place for place in table.places if place != UNUSED]
 
 
 # The fresh listing of a table's product for its calendar and date.
-def fresh_listing(table):
+def fresh_listing(table: Table) -> tuple[listing.Fresh, ...]:
     return listing.fresh_listing(table.calendar, table.product.group,
                                  table.product.kind, table.date)
 
 
 # 01, question 16, for a table's product, calendar and date.
-def listing_in_cover(table):
+def listing_in_cover(table: Table) -> bool:
     return listing.listing_in_cover(table.calendar, table.product.group,
                                     table.product.kind, table.date)
 
@@ -54,7 +60,7 @@ def listing_in_cover(table):
 # month left if the old table had it and the new has not." The same with Fridays of
 # weekly tables. The table comes with its new calendar and date and its old
 # maturities. (table, entered, left).
-def relist(table):
+def relist(table: Table) -> tuple[Table, int, int]:
     old = {key: number for key, _, _, number in maturities(table)}
     fresh = fresh_listing(table)
     given = table.given
@@ -75,7 +81,7 @@ def relist(table):
 
 # 01, The table: "its product fields and calendar satisfy questions 5, 6 and 7,
 # with 1 to 16 years from 2000 to 2099".
-def fields_are_sound(table):
+def fields_are_sound(table: Table) -> bool:
     calendar = table.calendar
     return (trading.cover_fits(calendar)
             and trading.is_clean(calendar)
@@ -86,7 +92,7 @@ def fields_are_sound(table):
 # 01, The table: "its months and days are the fresh listing, all of it in the
 # cover, and unused places are zero"; of the days stepped back, 02, note 2: "a
 # sound table has it right".
-def places_are_sound(table):
+def places_are_sound(table: Table) -> bool:
     fresh = fresh_listing(table)
     used = tuple((key, day, back) for key, day, back, _ in table.places[:len(fresh)])
     unused = table.places[len(fresh):]
@@ -97,7 +103,7 @@ def places_are_sound(table):
 # 01, The table: "its numbers are distinct, from 1 to the count given; and given
 # − listed is at least 0 and at most the number of cover months before the front
 # month", or of weekly Fridays before the front one (02, note 3).
-def numbers_are_sound(table):
+def numbers_are_sound(table: Table) -> bool:
     fresh = fresh_listing(table)
     numbers = [number for _, _, _, number in table.places[:len(fresh)]]
     before = listing.keys_before(table.calendar, table.product.kind, fresh[0][0])
@@ -107,7 +113,7 @@ def numbers_are_sound(table):
 
 
 # 01, question 10: "Is the table sound?" 02, note 3: "and the date passes 24".
-def is_sound(table):
+def is_sound(table: Table) -> bool:
     return (fields_are_sound(table)
             and trading.in_cover(table.calendar, table.date)
             and listing.passes_24(table.calendar, table.product.kind, table.date)
@@ -120,9 +126,9 @@ def is_sound(table):
 # 01, Questions: "Open: 1–9, 11, 16." "Open numbers the listed months 1, 2, ..
 # by rising month; entered is the months listed and left is 0." 02, note 3: "24,
 # after 11, in opening kind 5".
-def open_table(file, code, date):
+def open_table(file: bytes, code: bytes, date: int) -> Answer:
     number, calendar, item = master.find(file, code)
-    if number:
+    if calendar is None or item is None:
         return number, ZERO_TABLE, 0, 0
     if not trading.in_cover(calendar, date):
         return 11, ZERO_TABLE, 0, 0
@@ -136,7 +142,7 @@ def open_table(file, code, date):
 
 # 01, Questions: "Roll: 10, 11, 12, 16." "Roll sets the date it is given, a
 # later or equal one."
-def roll(table, date):
+def roll(table: Table, date: int) -> Answer:
     if not is_sound(table):
         return 10, table, 0, 0
     if not trading.in_cover(table.calendar, date):
@@ -150,7 +156,7 @@ def roll(table, date):
 
 
 # 01, Questions: "Close: 10, 11, 13–16." "Close marks one day closed."
-def close(table, day):
+def close(table: Table, day: int) -> Answer:
     if not is_sound(table):
         return 10, table, 0, 0
     if not trading.in_cover(table.calendar, day):
@@ -169,7 +175,7 @@ def close(table, day):
 
 # 02, note 9: "It asks 10, 11, 13, then the new questions", 26 and 27, "and clears the
 # day in both maps."
-def reopen(table, day):
+def reopen(table: Table, day: int) -> Answer:
     if not is_sound(table):
         return 10, table, 0, 0
     if not trading.in_cover(table.calendar, day):
@@ -186,7 +192,7 @@ def reopen(table, day):
 
 # 02, note 11, a measure, p for q: 10, 19, 21, 28, 29. "A measure changes no month, day or
 # number". (number, table, price).
-def measure(table, p, q, price):
+def measure(table: Table, p: int, q: int, price: int) -> tuple[int, Table, int]:
     if not is_sound(table):
         return 10, table, 0
     item = table.product
@@ -199,7 +205,7 @@ def measure(table, p, q, price):
 # 01, Questions: "Last trading day of a listed month: 10, 18."; 02, note 2: with
 # the days stepped back; note 3: "16 and 18 read with Fridays". (number, day, days
 # back).
-def last_trading_day(table, key):
+def last_trading_day(table: Table, key: int) -> tuple[int, int, int]:
     if not is_sound(table):
         return 10, 0, 0
     for listed, day, back, _ in maturities(table):
@@ -212,7 +218,7 @@ def last_trading_day(table, key):
 # given trading day." 02, note 4: "Due days count trading days and these days";
 # "question 17 reads with exchange days". 02, note 5: "Due now counts from any day in
 # the cover"; "due no longer gives 14". (number, day).
-def due(table, day):
+def due(table: Table, day: int) -> tuple[int, int]:
     if not is_sound(table):
         return 10, 0
     if not trading.in_cover(table.calendar, day):
@@ -225,7 +231,7 @@ def due(table, day):
 
 
 # 01, Questions: "Tick: 10, 19, 20." The number alone.
-def tick(table, price):
+def tick(table: Table, price: int) -> int:
     if not is_sound(table):
         return 10
     if not product.price_in_range(price):
@@ -237,7 +243,7 @@ def tick(table, price):
 
 # 01, Questions: "Cash: 10, 19–22." 02, note 11: (number, negative, amount in 1/10,000 of
 # the currency, rest in 1/100,000,000).
-def cash(table, contracts, agreed, final):
+def cash(table: Table, contracts: int, agreed: int, final: int) -> tuple[int, bool, int, int]:
     number = tick(table, agreed)
     if number:
         return number, False, 0, 0

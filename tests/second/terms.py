@@ -1,6 +1,6 @@
 """The program `terms` (01, "March 2008 and its neighbours"; 02, notes 2 and 3).
 
-python3 tests/second/terms.py reads master.bin in the current folder and
+python3 -m tests.second.terms reads master.bin in the current folder and
 commands from standard input, and prints the answers. It ends with status 0, or
 with 1 where standard output can't be written.
 """
@@ -9,10 +9,11 @@ import os
 import re
 import sys
 
-if __name__ == '__main__':
-    sys.path.insert(0, os.path.dirname(os.path.dirname(os.path.abspath(__file__))))
+from tests.second import dates, master, product, table
+from tests.second.table import Table
 
-from second import dates, master, product, table  # noqa: E402
+# The letter, the id (empty for R and C) and the day number of a command.
+Command = tuple[str, bytes, int]
 
 # 01: "`O id date`, `R date`, `C date`. An id is 1 to 4 characters as in a
 # record; a date is year, month, day in 4, 2 and 2 digits joined by hyphens".
@@ -23,7 +24,7 @@ MOVE = re.compile(rb'([RC]) ' + DATE)
 
 # 01: "A `master.bin` that can't be read counts as empty, and one of more than
 # 65,536 bytes gets 1."
-def read_master(path):
+def read_master(path: str) -> bytes:
     try:
         with open(path, 'rb') as file:
             return file.read(master.FILE_AT_MOST + 1)
@@ -33,7 +34,7 @@ def read_master(path):
 
 # All bytes of standard input. Where it can't be read, as when it is closed, the
 # input ends there.
-def read_commands():
+def read_commands() -> bytes:
     parts = []
     try:
         while part := os.read(0, 1 << 20):
@@ -45,16 +46,16 @@ def read_commands():
 
 # 01: "a line [..] ends with a line feed or with the input". A final line feed
 # starts no further line.
-def lines_of(commands):
+def lines_of(commands: bytes) -> list[bytes]:
     lines = commands.split(b'\n')
     if lines[-1] == b'':
         lines.pop()
     return lines
 
 
-# The letter, the id (empty for R and C) and the day number of a command; None
-# for another line, such as one with a date "that 23 refuses".
-def parse(line):
+# The command of a line; None for another line, such as one with a date "that 23
+# refuses".
+def parse(line: bytes) -> Command | None:
     match = OPEN.fullmatch(line)
     if match:
         letter, code, date = 'O', match.group(1), match.groups()[1:]
@@ -68,34 +69,35 @@ def parse(line):
 
 
 # A command's call: (number, table, entered, left).
-def call(file, held, letter, code, day):
+def call(file: bytes, held: Table | None, letter: str, code: bytes, day: int) -> table.Answer:
     if letter == 'O':
         return table.open_table(file, code.ljust(4), day)
+    assert held is not None
     if letter == 'R':
         return table.roll(held, day)
     return table.close(held, day)
 
 
 # A day as year, month and day in 4, 2 and 2 digits joined by hyphens.
-def day_text(day):
+def day_text(day: int) -> str:
     return '%04d-%02d-%02d' % dates.date_of(day)
 
 
 # A month as year and month in 4 and 2 digits joined by a hyphen.
-def month_text(month):
+def month_text(month: int) -> str:
     return '%04d-%02d' % dates.year_and_month(month)
 
 
 # The month of a maturity. 02, note 3: "its Friday, by whose date it is named and
 # printed".
-def key_text(kind, key):
+def key_text(kind: int, key: int) -> str:
     return day_text(key) if product.is_weekly(kind) else month_text(key)
 
 
 # 01: "It prints the call's letter, the table's date after the call, entered,
 # left, given; then number, month, last trading day for each maturity". 02, note
 # 2: it "prints [the days stepped back] as a fourth number on each maturity line".
-def report(letter, held, entered, left):
+def report(letter: str, held: Table, entered: int, left: int) -> list[str]:
     lines = ['%s %s %d %d %d' % (letter, day_text(held.date), entered, left, held.given)]
     for key, day, back, number in table.maturities(held):
         lines.append('%d %s %s %d' % (number, key_text(held.product.kind, key), day_text(day), back))
@@ -104,9 +106,9 @@ def report(letter, held, entered, left):
 
 # 01: "or `NO` and the number, keeping the table of the last accepted call; or
 # `BAD` for another line, or R or C before an accepted O".
-def answers(file, commands):
+def answers(file: bytes, commands: bytes) -> bytes:
     printed = []
-    held = None
+    held: Table | None = None
     for line in lines_of(commands):
         command = parse(line)
         if command is None or (command[0] != 'O' and held is None):
@@ -122,7 +124,7 @@ def answers(file, commands):
 
 
 # Reads, answers and writes.
-def main():
+def main() -> int:
     printed = answers(read_master('master.bin'), read_commands())
     try:
         with open(1, 'wb', closefd=False) as out:

@@ -2,9 +2,9 @@
 import re
 from pathlib import Path
 
-from edition.names import Homes, Linked, Names
-from edition.rows import Plain, Reader
-from edition.specs import library_words, stray_blocks
+from .names import Homes, Linked, Names
+from .rows import Plain, Reader
+from .specs import library_words, stray_blocks
 
 READING = 'docs/READING.md'
 

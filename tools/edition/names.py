@@ -2,8 +2,8 @@
 import re
 from dataclasses import dataclass, field
 
-from edition import specs
-from edition.sources import Declaration, Sources
+from . import specs
+from .sources import Declaration, Sources
 
 TOKEN = re.compile(
     r'`(?P<crate>\w+)` (?P<inside>[A-Z]\w*)(?=: `)'

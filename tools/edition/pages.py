@@ -1,20 +1,26 @@
 """The pages of the reading edition as HTML."""
+import base64
+import hashlib
 import re
 from html import escape
 from itertools import groupby
 
-from edition import days
-from edition.code import Scope, lines_html, linked
-from edition.names import Field, Linked, Named
-from edition.rows import Plain, Row
-from edition.sources import Declaration
-from edition.specs import Definition, names_in
+from . import days
+from .code import Scope, lines_html, linked
+from .names import Field, Linked, Named
+from .rows import Plain, Row
+from .sources import Declaration
+from .specs import Definition, names_in
 
 FOLDER = 'docs/reading'
 STYLE = 'reading.css'
+SCRIPT = 'ticks.js'
 NAMES = 'names.html'
 NAMES_TITLE = 'Names and their rows'
-LINK = f'<link rel="stylesheet" href="{STYLE}">'
+LINK = f'<link rel="stylesheet" href="{STYLE}">\n<script src="{SCRIPT}" defer></script>'
+BOX = '<input type="checkbox">'
+TICKS = '<p class="ticks"></p>\n'
+PICTURE = re.compile(r'!\[([^\]]+)\]\(([^)]+)\)')
 TITLE = 'Scullpouch: the reading edition'
 QUESTION = re.compile(r"(?:^|; |'; )(\d{1,2})(?=: '| '|, of )")
 DOCUMENTS = {'Document 01': 'document 01', 'Document 02': 'document 02'}
@@ -41,11 +47,17 @@ def from_page(target):
     return target.removeprefix('reading/') if target.startswith('reading/') else '../' + target
 
 
+def shown_picture(item):
+    """A line that is a picture, as HTML; None for another."""
+    found = PICTURE.fullmatch(item)
+    return f'<p class="picture"><img src="{from_page(found[2])}" alt="{escape(found[1])}"></p>\n' if found else None
+
+
 def said(text, boxed):
     """A text as a paragraph, with a box to tick where it is a sentence of a paper."""
     if not text:
         return ''
-    return f'<p><label><input type="checkbox"> {inline(text)}</label></p>' if boxed and text.startswith("'") else f'<p>{inline(text)}</p>'
+    return f'<p><label>{BOX} {inline(text)}</label></p>' if boxed and text.startswith("'") else f'<p>{inline(text)}</p>'
 
 
 def plain(html):
@@ -223,7 +235,13 @@ class Press:
             pairs = [(None, head, self.note(row))]
         shown = ''.join(f'<div class="pair"{f" id={chr(34)}{mark}{chr(34)}" if mark else ""}><div class="l">{left}</div><div class="r">{right}</div></div>\n'
                         for mark, left, right in pairs)
-        return f'<section id="r{row.label}">\n{shown}{self.under(row)}</section>\n'
+        return f'<section id="r{row.label}">\n{self.with_ticks(shown, row)}{self.under(row)}</section>\n'
+
+    def with_ticks(self, shown, row):
+        """The boxes of a row, each with the name under which its tick is kept."""
+        name = tick_name(row)
+        count = iter(range(1, shown.count(BOX) + 1))
+        return re.sub(re.escape(BOX), lambda box: f'{BOX[:-1]} data-tick="{name}-{next(count)}">', shown)
 
     # pages
 
@@ -241,7 +259,7 @@ class Press:
             elif isinstance(item, Plain):
                 shown.append(plain_table(item))
             elif item:
-                shown.append(f'<p class="text">{inline(item)}</p>\n')
+                shown.append(shown_picture(item) or f'<p class="text">{inline(item)}</p>\n')
         return ''.join(shown)
 
     def body(self, page):
@@ -249,6 +267,11 @@ class Press:
         kind = DOCUMENTS.get(page.part, '')
         head = f'<h1>{page.number}. {escape(page.title)}</h1>\n' + (f'<p class="text">{kind.capitalize()}</p>\n' if kind else '')
         return head + self.items(page)
+
+    def picture_inside(self, found):
+        """A picture's file within the page, for the edition in one file."""
+        file = self.book.root / 'docs' / found[1]
+        return f'src="data:image/svg+xml;base64,{base64.b64encode(file.read_bytes()).decode("ascii")}"'
 
     def page(self, page):
         place = self.book.pages.index(page)
@@ -259,7 +282,7 @@ class Press:
         turns += [f'<a href="{file_of(after)}">after: {escape(after.title)}</a>'] if after else []
         turns += [f'<a href="{NAMES}">names</a>']
         nav = f'<nav>{" ".join(turns)}</nav>\n'
-        return whole(f'{page.title} – {TITLE}', LINK, nav + self.body(page) + nav)
+        return whole(f'{page.title} – {TITLE}', LINK, nav + self.body(page) + TICKS + nav)
 
     def contents(self):
         shown, part = ['<h2>Contents</h2>\n'], None
@@ -291,18 +314,34 @@ class Press:
 
     def all(self):
         """Every page by the name of its file."""
-        made = {'index.html': whole(TITLE, LINK, self.first_body())}
+        made = {'index.html': whole(TITLE, LINK, self.first_body() + TICKS)}
         for page in self.book.pages:
             made[file_of(page)] = self.page(page)
         made[NAMES] = whole(f'{NAMES_TITLE} – {TITLE}', LINK, '<nav><a href="index.html">first page</a></nav>\n' + self.names_body())
         return made
 
-    def one_file(self, style):
-        """All pages as one, with the style sheet in it, for a print of the whole."""
+    def one_file(self, style, script):
+        """All pages as one, with the style sheet, the script and the pictures in it, for a print of the whole."""
         bodies = [self.first_body()] + [self.body(page) for page in self.book.pages] + [self.names_body()]
         body = re.sub(r'href="[^"#]+#', 'href="#', ''.join(bodies))
         body = re.sub(r'<a href="[^"#]+">(.*?)</a>', r'\1', body)
-        return whole(TITLE, f'<style>\n{style}</style>', body)
+        body = re.sub(r'src="\.\./(pictures/[^"]+)"', self.picture_inside, body)
+        return whole(TITLE, f'<style>\n{style}</style>', f'{body}{TICKS}<script>\n{script}</script>\n')
+
+
+def tick_name(row):
+    """A name of what stands in a row: another where its page, its sentence or the text of a definition that it names is another."""
+    text = [row.page.title, row.cells['sentence']] + [line for named in row.found['definition'].names for line in text_of(named.what)]
+    return hashlib.sha256('\n'.join(text).encode('utf-8')).hexdigest()[:16]
+
+
+def text_of(what):
+    """The lines of a definition or declaration with their comments, or the name of a file."""
+    if isinstance(what, Field):
+        return [what.name] + text_of(what.definition)
+    if isinstance(what, Definition):
+        return [line for part in what.parts for line in [part.comment] + part.lines]
+    return [what.comment] + what.lines if isinstance(what, Declaration) else [what.path]
 
 
 def part_with(field):

@@ -12,7 +12,7 @@ use borrow.Author.Tests.{leb-true, lt-ltb, le-ltb}
 use Rattle.questions.proofs.Bools.{and-fst, and-snd, lt-or-ge}
 use Rattle.product.specs.Fields.{sizeRight}
 use Rattle.amounts.specs.declared.Amount.{Amount}
-use Rattle.amounts.specs.Prices.{priceRight, finalRight, contractsRight, cashAmount, below, cashParts, cashAdmitted, distance, signed, Parts, Whole}
+use Rattle.amounts.specs.Prices.{priceRight, finalRight, contractsRight, cashAmount, below, cashParts, cashAdmitted, distance, signed, Parts, WholeSizes}
 
 -- the difference of two prices
 rise : (a f : ℕ) → a ≤ f → pos f -ℤ pos a ≡ pos (f - a)
@@ -53,20 +53,29 @@ module _ (contracts size change : ℕ) where
       let r : over * (size / 10000 * 10000) ≡ 10000 * (over * (size / 10000)) = sym (mul-assoc over (size / 10000) 10000) ∙ mul-comm (over * (size / 10000)) 10000 in
       p ∙ q ∙ ap (λ (k : ℕ). k + over * (size % 10000)) r
 
+  -- the amount is the one of the whole shares plus the whole part of the one of the ten-thousandths
   pub amount-is : contracts * size * change / 10000 ≡ over * (size / 10000) + over * (size % 10000) / 10000
   amount-is = ap (λ (k : ℕ). k / 10000) regrouped ∙ omega arith
 
+  -- the rest is the one of the ten-thousandths of the size alone
   pub rest-is : contracts * size * change % 10000 ≡ over * (size % 10000) % 10000
   rest-is = ap (λ (k : ℕ). k % 10000) regrouped ∙ omega arith
 
 pub record Bounds (contracts size agreed final : ℕ) : Type 0 where
+  -- there is at least 1 contract
   pub contracts-some : 1 ≤ contracts
+  -- there are at most 100,000 contracts
   pub contracts-most : contracts ≤ 100000
+  -- the size is at least one ten-thousandth of a share
   pub size-some : 1 ≤ size
+  -- the size is at most 65,535.9999 shares
   pub size-most : size ≤ 655359999
+  -- the agreed price is at most 999,999,999
   pub agreed-most : agreed ≤ 999999999
+  -- the final price is at most 999,999,999
   pub final-most : final ≤ 999999999
 
+-- numbers that cash admits lie in the ranges of their fields
 pub bounds : (contracts size agreed final : ℕ) → cashAdmitted contracts size agreed final ≡ true → Bounds contracts size agreed final
 unfolding cashAdmitted
 bounds contracts size agreed final e =
@@ -95,15 +104,19 @@ module _ (contracts size agreed final : ℕ) (b : Bounds contracts size agreed f
   abbrev change : ℕ
   change = contracts * distance agreed final
 
+  -- contracts times the difference of the prices is at most 100,000 × 999,999,999
   pub change-most : change ≤ 99999999900000
   change-most = mul-le-mul (b .contracts-most) (distance-most agreed final (b .agreed-most) (b .final-most))
 
+  -- contracts times the difference times the whole shares of the size is at most 6,553,499,993,446,500,000
   pub whole-most : change * (size / 10000) ≤ 6553499993446500000
   whole-most = let h : size / 10000 ≤ 65535 = omega (arith, b .size-most) in mul-le-mul change-most h
 
+  -- contracts times the difference times the ten-thousandths of the size is at most 999,899,999,000,100,000
   pub parts-most : change * (size % 10000) ≤ 999899999000100000
   parts-most = let h : size % 10000 ≤ 9999 = omega arith in mul-le-mul change-most h
 
+  -- the code's sign, amount and rest are those of the cash amount
   pub cash-is : _≡_ {A = Amount} (record { negative = ltb final agreed; amount = change * (size / 10000) + change * (size % 10000) / 10000; rest = change * (size % 10000) % 10000 }) (cashParts (cashAmount contracts size agreed final))
   unfolding cashParts
   cash-is =
@@ -132,7 +145,7 @@ scaled n (pos k) = (refl, mul-assoc 10000 n k)
 scaled n (negsuc k) = rw (mul-assoc 10000 n (suc k)) (scaled-negative (n * suc k))
 
 -- 'whole sizes give the old amount and rest 0'
-pub whole-size : (contracts shares agreed final : ℕ) → Whole contracts shares agreed final
+pub whole-size : (contracts shares agreed final : ℕ) → WholeSizes contracts shares agreed final
 unfolding cashParts
 whole-size contracts shares agreed final =
     record {

@@ -9,7 +9,7 @@ use lib.Dec.{leb}
 use borrow.Author.Tests.{leb-true}
 use Rattle.questions.proofs.Bools.{and-fst, and-snd}
 use Rattle.product.specs.Fields.{sizeRight}
-use Rattle.amounts.specs.Prices.{nearest, Nearest, newSize, newPrice, priceRight, measureRight, Kept}
+use Rattle.amounts.specs.Prices.{nearest, Nearest, newSize, newPrice, priceRight, measureRight, PriceSizeKept}
 
 doubled : (n b : ℕ) → n * (2 * b) ≡ 2 * (n * b)
 doubled n b = sym (mul-assoc n 2 b) ∙ ap (λ (m : ℕ). m * b) (mul-comm n 2) ∙ mul-assoc 2 n b
@@ -25,6 +25,7 @@ module _ (a b : ℕ) where
         under = omega (arith, lt-div-mul-add {a = 2 * a + b} {b = 2 * b} (omega arith), doubled n b);
       }
 
+  -- a number that is nearest to the quotient, halves upward, is the one that the definition gives
   pub nearest-only : (n : ℕ) → Nearest a b n → nearest a b ≡ n
   unfolding nearest
   nearest-only n e =
@@ -36,26 +37,30 @@ module _ (a b : ℕ) where
   quotient : a / b * b + a % b ≡ a
   quotient = div-add-mod' a b
 
+  -- where the remainder is below one half of the divisor, the nearest number is the quotient
   pub nearest-down : a % b < b - a % b → nearest a b ≡ a / b
   nearest-down h = nearest-only (a / b) (record { above = omega (arith, quotient); under = omega (arith, quotient) })
 
+  -- where the remainder is one half of the divisor or more, the nearest number is the quotient plus 1
   pub nearest-up : b - a % b ≤ a % b → 1 ≤ b → nearest a b ≡ a / b + 1
   nearest-up h some =
       let r : a % b < b = mod-lt a some in
       nearest-only (a / b + 1)
       (record { above = omega (arith, quotient, add-mul (a / b) 1 b); under = omega (arith, quotient, add-mul (a / b) 1 b) })
 
+  -- where the remainder is one half of the divisor or more, the quotient plus 1 is at most the dividend
   pub next-most : b - a % b ≤ a % b → 1 ≤ b → a / b + 1 ≤ a
   next-most h some =
       let r : a % b < b = mod-lt a some in
       omega (arith, quotient, mul-le-mul {n₁ = a / b} {m₁ = 1} {n₂ = a / b} {m₂ = b} (le-refl (a / b)) some)
 
+-- for a divisor of 0 the nearest number is 0
 pub nearest-none : (a b : ℕ) → b ≡ 0 → 0 ≡ nearest a b
 unfolding nearest
 nearest-none a b e = rw e (sym (div-zero (2 * a + 0)))
 
 -- 'differs from the old product by at most half the new size'
-pub value-kept : (price size changed : ℕ) → 1 ≤ changed → Kept price size changed
+pub value-kept : (price size changed : ℕ) → 1 ≤ changed → PriceSizeKept price size changed
 unfolding newPrice
 value-kept price size changed h =
     let n = nearest-is (price * size) changed h in
@@ -79,11 +84,16 @@ module _ (size p q price : ℕ) where
 
 -- the new size and the new price of a measure that 29 passes
 pub record InRange (size p q price : ℕ) : Type 0 where
+  -- the new size passes the test of sizes
   pub size-right : sizeRight (newSize size p q) ≡ true
+  -- the new size is at least one ten-thousandth of a share
   pub size-some : 1 ≤ newSize size p q
+  -- the new size is at most 65,535.9999 shares
   pub size-most : newSize size p q ≤ 655359999
+  -- the new price is at most 999,999,999
   pub price-most : newPrice price size (newSize size p q) ≤ 999999999
 
+-- a measure that passes 29 has its new size and its new price in range
 pub in-range : (size p q price : ℕ) → measureRight size p q price ≡ true → InRange size p q price
 unfolding measureRight
 in-range size p q price e =

@@ -12,7 +12,8 @@ use Rattle.amounts.specs.declared.Amount.{Amount}
 abbrev pub priceRight : ℕ → Bool
 priceRight price = leb 1 price && leb price 999999999
 
--- 20 'Is it a multiple of the tick?'; no price is a multiple of a tick of 0
+-- 20 'Is it a multiple of the tick?';
+-- no price is a multiple of a tick of 0
 abbrev pub multipleOf : ℕ → ℕ → Bool
 multipleOf tick price = ltb 0 tick && eqb (price % tick) 0
 
@@ -28,7 +29,8 @@ contractsRight contracts = leb 1 contracts && leb contracts 100000
 unfoldable pub nearest : ℕ → ℕ → ℕ
 nearest a b = (2 * a + b) / (2 * b)
 
--- what the words say of that number, where b is at least 1, each side times 2 × b: at most one half above a / b, less than one half below. No other number is so (proofs, Rounding: `nearest-only`)
+-- what the words say of that number, where b is at least 1, each side times 2 × b: at most one half above a / b, less than one half below.
+-- No other number is so (proofs, Rounding: `nearest-only`)
 pub record Nearest (a b n : ℕ) : Type 0 where
   pub above : 2 * (n * b) ≤ 2 * a + b
   pub under : 2 * a < 2 * (n * b) + b
@@ -50,11 +52,13 @@ unfoldable pub measureRight : ℕ → ℕ → ℕ → ℕ → Bool
 measureRight size p q price =
     sizeRight (newSize size p q) && priceRight (newPrice price size (newSize size p q))
 
--- 'contracts × size × (final − agreed), signed; positive is what the seller pays the buyer': in 1/10,000 for a size in shares, in 1/100,000,000 for one in ten-thousandths
+-- 'contracts × size × (final − agreed), signed; positive is what the seller pays the buyer':
+-- in 1/10,000 for a size in shares, in 1/100,000,000 for one in ten-thousandths
 abbrev pub cashAmount : ℕ → ℕ → ℕ → ℕ → ℤ
 cashAmount contracts size agreed final = pos contracts *ℤ pos size *ℤ (pos final -ℤ pos agreed)
 
--- below zero; 'zero being positive' (02, note 11)
+-- 'zero being positive' (02, note 11):
+-- below zero
 abbrev pub below : ℤ → Bool
 below (pos n) = false
 below (negsuc n) = true
@@ -85,18 +89,20 @@ distance agreed final = cond (ltb final agreed) (agreed - final) (final - agreed
 abbrev pub signed : Bool → ℕ → ℤ
 signed negative n = cond negative (negℤ (pos n)) (pos n)
 
--- 'new price × new size differs from the old product by at most half the new size' (02, note 11): both ways, each side doubled; of a new size of at least 1
-pub record Kept (price size changed : ℕ) : Type 0 where
+-- 'new price × new size differs from the old product by at most half the new size' (02, note 11):
+-- both ways, each side doubled; of a new size of at least 1
+pub record PriceSizeKept (price size changed : ℕ) : Type 0 where
   pub above : 2 * (newPrice price size changed * changed) ≤ 2 * (price * size) + changed
   pub under : 2 * (price * size) ≤ 2 * (newPrice price size changed * changed) + changed
 
--- 'a sign, an amount .. and a rest .., the sign covering both' (02, note 11): together they are the value
+-- 'a sign, an amount .. and a rest .., the sign covering both' (02, note 11):
+-- together they are the value
 pub record Parts (z : ℤ) : Type 0 where
   pub value : signed (cashParts z .negative) (10000 * cashParts z .amount + cashParts z .rest) ≡ z
   pub rest : cashParts z .rest ≤ 9999
 
 -- 'whole sizes give the old amount and rest 0' (02, note 11)
-pub record Whole (contracts shares agreed final : ℕ) : Type 0 where
+pub record WholeSizes (contracts shares agreed final : ℕ) : Type 0 where
   pub amount : signed (cashParts (cashAmount contracts (10000 * shares) agreed final) .negative) (cashParts (cashAmount contracts (10000 * shares) agreed final) .amount)
       ≡ cashAmount contracts shares agreed final
   pub rest : cashParts (cashAmount contracts (10000 * shares) agreed final) .rest ≡ 0

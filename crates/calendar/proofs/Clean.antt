@@ -5,6 +5,7 @@ use mathlib.Core.Bool.{Bool, true, false, not}
 use Rattle.questions.proofs.Bools.{clash, or-right}
 use Rattle.calendar.specs.Trading.{bitsClean}
 
+-- two bits of 0 are clean, whether the day may be closed or not
 pub bits-zero : (may : Bool) → bitsClean may false false ≡ true
 unfolding bitsClean
 bits-zero may = refl

@@ -26,6 +26,7 @@ module _ (cal : Calendar) (d : ℕ) where
   unfolding closeDay
   close-cover = refl
 
+  -- closing a day leaves the second map as it is
   pub close-exchange : closeDay cal d .exchange ≡ cal .exchange
   unfolding closeDay
   close-exchange = refl
@@ -58,6 +59,7 @@ module _ (cal : Calendar) (d : ℕ) where
       go true p = rw (close-cover) (ap (λ (b : Bool). inCover (cal .cover) e && b) (bit-other e ne p))
       go false p = rw (close-cover, p)
 
+  -- closing a day leaves each other day a trading day or none, as it was
   pub trading-other : (e : ℕ) → (e ≡ d → ⊥) → tradingDay (closeDay cal d) e ≡ tradingDay cal e
   unfolding tradingDay
   trading-other e ne = rw (closed-other e ne, close-cover)
@@ -69,6 +71,7 @@ module _ (cal : Calendar) (d : ℕ) where
       let s = slot-below (cal .cover) d (covered (cal .cover) d e) y in
       rw (close-cover, e, in-map e) (set-here (cal .closed) (slotOf (cal .cover) d) (omega arith))
 
+  -- in a valid cover with a map of 736 bytes, a day that is closed is no trading day
   pub trading-here : validCover (cal .cover) ≡ true → length (cal .closed) ≡ 736 → tradingDay (closeDay cal d) d ≡ false
   unfolding tradingDay
   trading-here y l = go (inCover (cal .cover) d) refl
@@ -99,6 +102,7 @@ module _ (cal : Calendar) (d : ℕ) where
           let (w, n) = both (ltb (weekdayOf d) 5) (not (closedOn (closeDay cal d) d)) r in
           rw (a, w, q)
 
+  -- a trading day of the calendar after a closing is a trading day of the calendar before it
   pub trading-before : (e : ℕ) → tradingDay (closeDay cal d) e ≡ true → tradingDay cal e ≡ true
   trading-before e t = go (eqb e d) refl
     where
@@ -148,6 +152,7 @@ module _ (cal : Calendar) (d : ℕ) where
   unfolding closeDay
   close-out e = rw e
 
+  -- closing a day whose byte is past the end of the map changes nothing
   pub close-past : length (cal .closed) ≤ slotOf (cal .cover) d / 8 → cal ≡ closeDay cal d
   unfolding closeDay setBit
   close-past h = go (inCover (cal .cover) d)

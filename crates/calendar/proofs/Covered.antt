@@ -15,11 +15,16 @@ use Rattle.calendar.specs.Trading.{validCover, coverStart, coverEnd, inC
 
 -- 1 to 16 years from 2000 to 2099
 pub record Years (c : Cover) : Type 0 where
+  -- the cover has at least one year
   pub some : 1 ≤ c .years
+  -- the cover has at most 16 years
   pub most : c .years ≤ 16
+  -- the cover's first year is 2000 or later
   pub low : 2000 ≤ c .«first_year»
+  -- the cover ends by the end of 2099
   pub high : c .«first_year» + c .years ≤ 2100
 
+-- a cover that passes the test has 1 to 16 years from 2000 to 2099
 pub years : (c : Cover) → validCover c ≡ true → Years c
 unfolding validCover
 years c e =
@@ -28,21 +33,27 @@ years c e =
     let (f, g) = both _ _ e2 in
     record { some = leb-true _ _ a; most = leb-true _ _ b; low = leb-true _ _ f; high = leb-true _ _ g }
 
+-- a day of the cover is on or after the cover's start and before its end
 pub cover-facts : (c : Cover) (d : ℕ) → inCover c d ≡ true → (coverStart c ≤ d) × (d < coverEnd c)
 unfolding inCover
 cover-facts c d e =
     let (a, b) = both _ _ e in
     (leb-true _ _ a, ltb-true _ _ b)
 
+-- a cover's start is no later than its end
 pub start-end : (c : Cover) → coverStart c ≤ coverEnd c
 unfolding coverStart coverEnd
 start-end c = year-start-le (c .«first_year») (c .«first_year» + c .years) (omega arith)
 
 pub record Covered (c : Cover) (d : ℕ) : Type 0 where
+  -- the day is a day of 2000 to 2099
   pub day : d < 36525
+  -- the day's year is the cover's first year or later
   pub year-low : c .«first_year» ≤ yearOf d
+  -- the day's year is before the first year after the cover
   pub year-high : yearOf d < c .«first_year» + c .years
 
+-- a day of the cover is a day of 2000 to 2099 and its year is one of the cover's years
 pub covered : (c : Cover) (d : ℕ) → inCover c d ≡ true → Covered c d
 unfolding coverStart coverEnd
 covered c d e =
@@ -56,10 +67,12 @@ module _ (c : Cover) (d : ℕ) (v : Covered c d) where
   unfolding slotOf
   slot-year = omega (arith, in-year-below d (v .day))
 
+  -- the slot's remainder by 368 is the day of the year
   pub slot-day : slotOf c d % 368 ≡ dayInYear d
   unfolding slotOf
   slot-day = omega (arith, in-year-below d (v .day))
 
+  -- in a valid cover the slot of a day of the cover is one of the 5,888 slots of the map
   pub slot-below : validCover c ≡ true → slotOf c d < 5888
   unfolding slotOf
   slot-below e = omega (arith, in-year-below d (v .day), years c e)
@@ -79,10 +92,12 @@ pub may-not : (y n : ℕ) → yearStart (y + 1) ≤ yearStart y + n → mayClose
 unfolding mayClose
 may-not y n h = rw (le-ltb _ _ h)
 
+-- a day of the year may be closed exactly where it is a Monday to Friday
 pub may-day : (y n : ℕ) → yearStart y + n < yearStart (y + 1) → mayClose y n ≡ ltb (weekdayOf (yearStart y + n)) 5
 unfolding mayClose
 may-day y n h = rw (lt-ltb _ _ h)
 
+-- no day of a year from 2100 on may be closed
 pub may-past : (y n : ℕ) → 2100 ≤ y → mayClose y n ≡ false
 may-past y n h = may-not y n (omega (arith, year-start-past y h, year-start-past (y + 1) (omega arith)))
 
@@ -99,9 +114,11 @@ slot-same c d e v w q =
 pub covers-past : (c : Cover) (d : ℕ) → 36525 ≤ d → inCover c d ≡ false
 covers-past c d h = is-false (inCover c d) (λ e. absurd (omega (arith, h, covered c d e .day)))
 
+-- a day of a year before the cover's first year is not in the cover
 pub covers-early : (c : Cover) (d : ℕ) → yearOf d < c .«first_year» → inCover c d ≡ false
 covers-early c d h = is-false (inCover c d) (λ e. absurd (omega (arith, h, covered c d e .year-low)))
 
+-- a day to 2099 of the first year or later is in the cover exactly where its year is fewer years after than the cover has
 pub covers-is : (c : Cover) (d : ℕ) → d < 36525 → c .«first_year» ≤ yearOf d → ltb (yearOf d - c .«first_year») (c .years) ≡ inCover c d
 unfolding inCover coverStart coverEnd
 covers-is c d l h =

@@ -3,6 +3,6 @@ pub mod Covered
 pub mod Clean
 pub mod Closing
 pub mod Weeks
-pub mod Next
-pub mod Second
+pub mod NextExchangeDay
+pub mod SecondMap
 pub mod Reopening

@@ -20,6 +20,7 @@ use Rattle.calendar.proofs.Clean.{bits-zero}
 use Rattle.calendar.proofs.Weeks.{weeks-more}
 
 module _ (cal : Calendar) (d : ℕ) where
+  -- reopening a day leaves the cover as it is
   pub reopen-cover : reopenDay cal d .cover ≡ cal .cover
   unfolding reopenDay
   reopen-cover = refl
@@ -33,6 +34,7 @@ module _ (cal : Calendar) (d : ℕ) where
       go true t = clear-before (cal .closed) (slotOf (cal .cover) d) s t
       go false t = t
 
+  -- a bit that is 1 in the second map after a day is reopened is 1 in it before
   pub exchange-bits : (s : ℕ) → bitAt (reopenDay cal d .exchange) s ≡ true → bitAt (cal .exchange) s ≡ true
   unfolding reopenDay
   exchange-bits s t = go (inCover (cal .cover) d) t
@@ -90,6 +92,7 @@ module _ (cal : Calendar) (d : ℕ) where
   unfolding reopenDay
   reopen-out e = rw e
 
+  -- reopening a day whose byte is past the end of both maps changes nothing
   pub reopen-past : length (cal .closed) ≤ slotOf (cal .cover) d / 8 → length (cal .exchange) ≤ slotOf (cal .cover) d / 8 → cal ≡ reopenDay cal d
   unfolding reopenDay clearBit
   reopen-past h l = go (inCover (cal .cover) d)

@@ -4,7 +4,6 @@ use mathlib.Core.Path.{_≡_, refl, _∙_, sym, ap}
 use mathlib.Core.Bool.{Bool, true, false, not, _&&_, cond}
 use mathlib.Core.Logic.{_⊎_, inl, inr}
 use Prim.Native.Nat.{ℕ, _+_, _-_, _*_, _≤_, _<_}
-use mathlib.Core.List.{List}
 use lib.Dec.{eqb}
 use borrow.Author.Tests.{eqb-true, eq-eqb}
 use native.Mathlib.Nat.{le-refl, eq-or-lt-of-le}
@@ -24,6 +23,7 @@ pub idle-first : (b : Bool) (x y : ℕ) → (not b && eqb x y) ≡ true → (b �
 idle-first true x y e = clash e refl
 idle-first false x y e = (refl, eqb-true x y e)
 
+-- where the code's test says no, a day that does not trade is not the first of its week
 pub not-idle-first : (b : Bool) (x y : ℕ) → (not b && eqb x y) ≡ false → b ≡ false → x ≡ y → ⊥
 not-idle-first true x y e q r = clash refl q
 not-idle-first false x y e q r = clash (eq-eqb x y r) e
@@ -34,14 +34,21 @@ week f s k = some 7 (λ i. f (s + k + i))
 
 -- the loop's state: every week that begins at s or later and before `first` holds a day that passes, and of the week from `first` on the days after d do not pass
 pub record Passed (f : ℕ → Bool) (s e first d : ℕ) : Type 0 where
+  -- the week begins at s or later
   pub from : s ≤ first
+  -- the week begins at e or earlier
   pub to : first ≤ e
+  -- the day d is the week's first day or later
   pub near : first ≤ d
+  -- the day d is the week's last day or earlier
   pub within : d ≤ first + 6
+  -- each week that begins at s or later and before `first` holds a day that passes
   pub passed : (k : ℕ) → s + k < first → week f s k ≡ true
+  -- no day of the week after d passes
   pub idle : (x : ℕ) → d < x → x ≤ first + 6 → f x ≡ false
 
 module _ (f : ℕ → Bool) (s e : ℕ) where
+  -- at the start the week begins at s and d is its last day
   pub passed-start : s ≤ e → Passed f s e s (s + 6)
   passed-start h =
       record {
@@ -84,6 +91,7 @@ module _ (f : ℕ → Bool) (s e : ℕ) where
         side x b (inl q) = ap f (sym q) ∙ t
         side x b (inr q) = h .idle x q b
 
+    -- after a day that passes the week begins on the next day; after one that does not, d is the day before
     pub passed-step : (b : Bool) → b ≡ f d → (b ≡ false → d ≡ first → ⊥) → Passed f s e (cond b (d + 1) first) (cond b (d + 7) (d - 1))
     passed-step true q n = passing (sym q)
     passed-step false q n = failing (sym q) (n refl)
@@ -112,6 +120,7 @@ module _ (f : ℕ → Bool) (s e : ℕ) where
             let b : x ≤ first + 6 = omega (arith, h .from, p .below) in
             clash (p .passes) (side x b (eq-or-lt-of-le a))
 
+  -- where fewer than seven days are left before e, each week from s to e holds a day that passes
   pub passed-ends : (first d : ℕ) → Passed f s e first d → e < first + 7 → every (e - s - 6) (week f s) ≡ true
   passed-ends first d h l = every-all (week f s) (e - s - 6) (λ k b. h .passed k (omega (arith, h .from)))
 

@@ -7,7 +7,8 @@ use lib.Dec.{eqb}
 use lib.ListN.{getD, set}
 use lib.Bits.{bitOr, bitAnd}
 
--- of a byte, 'the bit of value 2^(7 − n mod 8)', n from 0 to 7, is 1
+-- 'the bit of value 2^(7 − n mod 8)'
+-- of a byte, n from 0 to 7, is 1
 abbrev pub byteBit : ℕ → ℕ → Bool
 byteBit byte n = eqb (byte / 2 ^ (7 - n) % 2) 1
 

@@ -56,7 +56,8 @@ closedOn cal d = inCover (cal .cover) d && bitAt (cal .closed) (slotOf (cal .cov
 unfoldable pub tradingDay : Calendar → ℕ → Bool
 tradingDay cal d = inCover (cal .cover) d && (ltb (weekdayOf d) 5 && not (closedOn cal d))
 
--- 'On some days there is no trading, yet payments and deliveries run .. A bit there marks such a day' (02, note 4): a day of the second map
+-- 'On some days there is no trading, yet payments and deliveries run .. A bit there marks such a day' (02, note 4):
+-- a day of the second map
 unfoldable pub inSecondMap : Calendar → ℕ → Bool
 inSecondMap cal d = inCover (cal .cover) d && bitAt (cal .exchange) (slotOf (cal .cover) d)
 
@@ -73,19 +74,23 @@ unfoldable pub nthDay : (ℕ → Bool) → ℕ → ℕ → ℕ → ℕ
 nthDay test e zero d = d
 nthDay test e (suc n) d = nextDay test e (nthDay test e n d)
 
--- 'the n-th trading day after a given .. day' (01, Due day, tick, cash): what due days count where the second map is zero
+-- 'the n-th trading day after a given .. day' (01, Due day, tick, cash):
+-- what due days count where the second map is zero
 abbrev pub nthTradingDay : Calendar → ℕ → ℕ → ℕ
 nthTradingDay cal n d = nthDay (tradingDay cal) (coverEnd (cal .cover)) n d
 
--- 'the first exchange day after it' (02, note 5): the first exchange day of the cover after d; 36,525 where none is left
+-- 'the first exchange day after it' (02, note 5):
+-- the first exchange day of the cover after d; 36,525 where none is left
 unfoldable pub nextExchangeDay : Calendar → ℕ → ℕ
 nextExchangeDay cal d = nextDay (exchangeDay cal) (coverEnd (cal .cover)) d
 
--- 'Due days count trading days and these days' (02, note 4): the n-th exchange day after a day
+-- 'Due days count trading days and these days' (02, note 4):
+-- the n-th exchange day after a day
 unfoldable pub nthExchangeDay : Calendar → ℕ → ℕ → ℕ
 nthExchangeDay cal n d = nthDay (exchangeDay cal) (coverEnd (cal .cover)) n d
 
--- 'Weekend bits, bits after the year's end .. are zero': day n of the year y is one of the year's, and a Monday to Friday
+-- 'Weekend bits, bits after the year's end .. are zero':
+-- day n of the year y is one of the year's, and a Monday to Friday
 unfoldable pub mayClose : ℕ → ℕ → Bool
 mayClose y n = ltb (yearStart y + n) (yearStart (y + 1)) && ltb (weekdayOf (yearStart y + n)) 5
 
@@ -109,12 +114,14 @@ clean cal = every 5888 (cleanSlot cal)
 abbrev pub someTrades : Calendar → ℕ → ℕ → Bool
 someTrades cal s n = some n (λ i. tradingDay cal (s + i))
 
--- 6: 'Does every run of seven days in the cover hold a trading day?' A run is given by its first day
+-- 6: 'Does every run of seven days in the cover hold a trading day?'
+-- A run is given by its first day
 unfoldable pub everyWeek : Calendar → Bool
 everyWeek cal =
     every (coverEnd (cal .cover) - coverStart (cal .cover) - 6) (λ k. someTrades cal (coverStart (cal .cover) + k) 7)
 
--- 'Close marks one day closed' (01, The table); 'A closure notice leaves the second map's bit 0' (02, note 4): the second map is as it was; a day outside the cover changes nothing
+-- 'Close marks one day closed' (01, The table); 'A closure notice leaves the second map's bit 0' (02, note 4):
+-- the second map is as it was; a day outside the cover changes nothing
 unfoldable pub closeDay : Calendar → ℕ → Calendar
 closeDay cal d =
     record {
@@ -123,7 +130,8 @@ closeDay cal d =
       exchange = cal .exchange;
     }
 
--- 'clears the day in both maps' (02, note 9); a day outside the cover changes nothing
+-- 'clears the day in both maps' (02, note 9);
+-- a day outside the cover changes nothing
 unfoldable pub reopenDay : Calendar → ℕ → Calendar
 reopenDay cal d =
     record {

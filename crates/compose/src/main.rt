@@ -1,88 +1,78 @@
 // The program `compose`: reads a list from standard input and writes the master file of what it says to standard output, or one line to standard error.
+mod input;
+mod output;
+
 use delivery_items::LongLine;
-use lists::Composed;
-use lists::Taken;
-use streams::Transfer;
-ghost use Prim.Native.Nat.{_≤_};
+use file_text_read::ListTaken;
+use input::Input;
+use output::Handed;
+ghost use mathlib.Core.Path.{_≡_};
+ghost use mathlib.Core.Bool.{false};
 ghost use lib.ListN.{length};
-ghost use Rattle.streams.specs.Transfers.{Within};
+ghost use Rattle.file_text_told.specs.Whole.{ReadTo, Ran};
 
-// What the lines so far say, the line begun, and whether the list could be read to here.
+// What the lines so far say, the line begun, and how far the list was read.
 pub struct Reading {
-    pub taken: Taken,
+    pub taken: ListTaken,
     pub line: LongLine,
-    pub whole: bool,
+    pub input: Input,
 }
 
-// The next bytes of standard input at the start of part. A read that fails is told.
-fn read_part(part: &mut [u8]) -> Transfer
-    ensures { λ r. ⌜ Within r (now (part .exit)) ⌝ }
+// What was read, and what was handed out.
+pub struct Outcome {
+    pub input: Input,
+    pub handed: Handed,
+}
+
+// Reads the list to its end, part by part.
+fn read_list(records: &mut [u8]) -> Reading
+    requires { ⌜ length (now records) ≡ 65536 ⌝ }
+    ensures { λ r. ⌜ (r .input .left ≡ 0) × ReadTo (r .taken) (r .line) (now (records .exit)) (r .input .bytes) ⌝ }
 {
-    streams::read_input_part(b"compose: standard input", part)
-}
-
-// Reads the list part by part. The loop has to be shown to end, so after 2^64 - 1 reads the list counts as ended.
-fn read_list(records: &mut [u8]) -> Reading {
     let mut part = io::large_buffer();
-    let mut taken = lists::nothing_taken();
-    let mut line = delivery_items::empty_line();
-    let mut turns: u64 = 18446744073709551615;
-    while 0 < turns {
-        let read = read_part(&mut part);
-        if read.failed {
-            return Reading {
-                taken,
-                line,
-                whole: false,
-            };
-        }
+    let mut taken = file_text_read::nothing_taken();
+    let mut line = delivery_items::empty_long_line();
+    let mut input = input::nothing_read();
+    while 0 < input::reads_left(input) {
+        let read = input::read_part(input, &mut part);
+        input = read.input;
         let n = read.length;
-        if n == 0 {
-            break;
-        }
-        let p = lists::take_part(taken, line, &part[..n], records);
+        let p = file_text_read::take_part(taken, line, &part[..n], records);
         taken = p.taken;
         line = p.line;
-        turns -= 1;
     }
-    Reading {
-        taken,
-        line,
-        whole: true,
-    }
+    Reading { taken, line, input }
 }
 
-// One line on standard error: why there is no file, and where.
-fn tell(c: Composed) {
-    let line = compose_words::said(c);
-    let bytes = line.bytes;
-    let n = line.length;
-    streams::tell(&bytes[..n]);
-}
-
-// Writes the file, or says why there is none.
-fn answer(c: Composed, file: &[u8])
-    requires { ⌜ c .length ≤ length (now file) ⌝ }
+// Hands out the file of a list that was read to its end, or why there is none.
+fn answer(r: Reading, records: &mut [u8]) -> Handed
+    requires { ⌜ (r .input .left ≡ 0) × (r .input .failed ≡ false) × ReadTo (r .taken) (r .line) (now records) (r .input .bytes) ⌝ }
+    ensures { λ h. ⌜ Ran (r .input .bytes) (h .sent .open) (h .sent .bytes) (h .told .bytes) ⌝ }
 {
-    if (c.bad != 0) | (c.refusal != 0) {
-        tell(c);
-        return;
+    let mut file = io::large_buffer();
+    let begun = r.taken;
+    let line = r.line;
+    let taken = file_text_read::take_last(begun, line, records);
+    let c = file_text_read::compose(taken, records, &mut file);
+    let told = file_text_told::said(c);
+    output::hand_out(r.input, &file, c.length, told)
+}
+
+// Reads the list and hands out what it gives. Of a list that could not be read to its end nothing is handed out; the contract says nothing of that case.
+fn run() -> Outcome
+    ensures { λ r. ⌜ (r .input .left ≡ 0) × (r .input .failed ≡ false → Ran (r .input .bytes) (r .handed .sent .open) (r .handed .sent .bytes) (r .handed .told .bytes)) ⌝ }
+{
+    let mut records = io::large_buffer();
+    let r = read_list(&mut records);
+    let input = r.input;
+    if input::has_failed(input) {
+        let handed = output::nothing_handed();
+        return Outcome { input, handed };
     }
-    let n = c.length;
-    let sent = streams::nothing_sent();
-    streams::write_next(sent, b"compose: standard output", &file[..n]);
+    let handed = answer(r, &mut records);
+    Outcome { input, handed }
 }
 
 fn main() {
-    let mut records = io::large_buffer();
-    let mut file = io::large_buffer();
-    let r = read_list(&mut records);
-    if !r.whole {
-        return;
-    }
-    let begun = r.taken;
-    let line = r.line;
-    let taken = lists::take_last(begun, line, &mut records);
-    let c = lists::compose(taken, &records, &mut file);
-    answer(c, &file);
+    run();
 }

@@ -12,16 +12,23 @@ use Rattle.questions.proofs.Bools.{both}
 use Rattle.questions.proofs.Asks.{no-asks, first-yes, first-no, none-no, accepted, refused}
 use Rattle.days.specs.Gregorian.{lengthOf, firstDay, monthLength, monthNumber}
 use Rattle.days.specs.Dates.{validDate, dayOf, monthOf, dateOf, zeroDate, dayAsks, dateAsks, dayCall, dateCall, Undo}
-use Rattle.days.proofs.Months.{first-suc, first-last, month-is, month-holds, Holds}
+use Rattle.days.proofs.MonthOfDay.{first-suc, first-last, month-is, month-holds, Holds}
 
 pub record Valid (y m d : ℕ) : Type 0 where
+  -- the year is 2000 or later
   pub from : 2000 ≤ y
+  -- the year is 2099 or earlier
   pub to : y ≤ 2099
+  -- the month is at least 1
   pub first : 1 ≤ m
+  -- the month is at most 12
   pub last : m ≤ 12
+  -- the day of the month is at least 1
   pub least : 1 ≤ d
+  -- the day of the month is at most the length of the month
   pub most : d ≤ monthLength y m
 
+-- a date that passes the test has its year, month and day of the month in range
 pub valid-facts : (y m d : ℕ) → validDate y m d ≡ true → Valid y m d
 unfolding validDate
 valid-facts y m d e =
@@ -45,6 +52,7 @@ length-number y m d v =
     let b : monthNumber y m % 12 + 1 ≡ m = omega arith in
     cc
 
+-- the first day of a valid date's month plus its day of the month is at most 36,525
 pub day-fits : (y m d : ℕ) → Valid y m d → firstDay (monthNumber y m) + d ≤ 36525
 day-fits y m d v = omega (arith, length-number y m d v, first-last (monthNumber y m) (omega arith))
 
@@ -53,14 +61,17 @@ pub day-accepted : (y m d : ℕ) → validDate y m d ≡ true → dayCall y m d 
 unfolding dayCall
 day-accepted y m d e = accepted (dayAsks y m d) 0 (dayOf y m d) (first-yes 23 {b = validDate y m d} [] e ∙ no-asks)
 
+-- a date that is not valid is refused with 23 and the value 0
 pub day-refused : (y m d : ℕ) → validDate y m d ≡ false → dayCall y m d ≡ record { refusal = 23; value = 0 }
 unfolding dayCall
 day-refused y m d e = refused (dayAsks y m d) 0 (dayOf y m d) 22 (first-no 23 [] e)
 
+-- a day number below 36,525 is answered with its date and no refusal
 pub date-accepted : (n : ℕ) → n < 36525 → dateCall n ≡ record { refusal = 0; value = dateOf n }
 unfolding dateCall
 date-accepted n h = accepted (dateAsks n) zeroDate (dateOf n) (first-yes 23 {b = leb n 36524} [] (le-leb n 36524 (omega arith)) ∙ no-asks)
 
+-- a day number from 36,525 on is refused with 23 and a date of zeros
 pub date-refused : (n : ℕ) → 36525 ≤ n → dateCall n ≡ record { refusal = 23; value = zeroDate }
 unfolding dateCall
 date-refused n h = refused (dateAsks n) zeroDate (dateOf n) 22 (first-no 23 [] (lt-leb n 36524 (omega arith)))
@@ -121,5 +132,6 @@ date-then-day n e =
     let h : n < 36525 = omega arith in
     rw (date-accepted n h) (day-back (monthOf n) n (month-holds n h))
 
+-- date to day and day to date undo each other
 pub undo : Undo
 undo = record { day-then-date = day-then-date; date-then-day = date-then-day }

@@ -1,4 +1,4 @@
-pub mod Table
-pub mod Months
+pub mod MonthTable
+pub mod MonthOfDay
 pub mod Years
 pub mod Dates

@@ -11,8 +11,8 @@ use Rattle.questions.specs.Search.{oneOf}
 use Rattle.questions.proofs.Bools.{lt-or-ge}
 use Rattle.days.specs.Gregorian.{lengthOf, firstDay, monthLength, lengthIn, leapYear}
 use Rattle.days.specs.Dates.{monthOf, dateOf, firstOf, yearOf, yearStart, dayInYear, marchIn, startIn}
-use Rattle.days.proofs.Table.{first-rule}
-use Rattle.days.proofs.Months.{first-suc, first-zero, first-le, first-to, first-out, first-of-le, first-of-most, month-holds, month-past, month-is}
+use Rattle.days.proofs.MonthTable.{first-rule}
+use Rattle.days.proofs.MonthOfDay.{first-suc, first-zero, first-le, first-to, first-out, first-of-le, first-of-most, month-holds, month-past, month-is}
 
 -- the month after j months of the year 2000 + i, and the next
 month : (i j n : ℕ) → j < 12 → n ≡ 12 * i + j + 1 → firstDay n ≡ firstDay (12 * i + j) + monthLength (2000 + i) (j + 1)
@@ -56,6 +56,7 @@ leap-four (suc k) h =
     let b : ((2000 + suc k) % 100 ≡ 0 → ⊥) = omega arith in
     simp (a, ne-eqb _ _ b, and-true)
 
+-- to the year 2100, a year's first day counts 365 days for each year before it and one day for each leap year before it
 pub start-is : (i : ℕ) → i ≤ 100 → firstDay (12 * i) ≡ 365 * i + (i + 3) / 4
 start-is zero h = first-zero
 start-is (suc i) h = go (eqb (i % 4) 0) refl (start-is i (omega arith))
@@ -81,12 +82,14 @@ pub year-start-is : (y : ℕ) → 2000 ≤ y → y ≤ 2100 → yearStart y ≡ 
 unfolding yearStart
 year-start-is y a b = first-to (12 * (y - 2000)) (omega arith) ∙ start-is (y - 2000) (omega arith)
 
+-- a year before 2000 is given the start 0
 pub year-start-before : (y : ℕ) → y < 2000 → yearStart y ≡ 0
 unfolding yearStart
 year-start-before y h =
     let z : 12 * (y - 2000) ≡ 0 = omega arith in
     ap firstOf z ∙ first-to 0 (omega arith) ∙ first-zero
 
+-- a year from 2100 on is given the start 36,525
 pub year-start-past : (y : ℕ) → 2100 ≤ y → yearStart y ≡ 36525
 unfolding yearStart
 year-start-past y h = first-out (12 * (y - 2000)) (omega arith)
@@ -96,6 +99,7 @@ pub year-start-le : (a b : ℕ) → a ≤ b → yearStart a ≤ yearStart b
 unfolding yearStart
 year-start-le a b h = first-of-le (12 * (a - 2000)) (12 * (b - 2000)) (omega arith)
 
+-- the start of any year is at most 36,525
 pub year-start-most : (y : ℕ) → yearStart y ≤ 36525
 unfolding yearStart
 year-start-most y = first-of-most (12 * (y - 2000))
@@ -114,16 +118,22 @@ year-of-is d l =
     let hi = first-le (suc m) (12 * i + 12) (omega arith) in
     omega arith
 
+-- a day after 2099 has the year 2100
 pub year-of-past : (d : ℕ) → 36525 ≤ d → yearOf d ≡ 2100
 unfolding yearOf
 year-of-past d h = let e = month-past d h in omega arith
 
 pub record InYear (d : ℕ) : Type 0 where
+  -- the year is 2000 or later
   pub low : 2000 ≤ yearOf d
+  -- the year is 2099 or earlier
   pub high : yearOf d < 2100
+  -- the day is 1 January of its year or later
   pub start : yearStart (yearOf d) ≤ d
+  -- the day is before 1 January of the next year
   pub end : d < yearStart (yearOf d + 1)
 
+-- a day of 2000 to 2099 lies in the year that it is given
 pub in-year : (d : ℕ) → d < 36525 → InYear d
 in-year d l =
     let y = year-of-is d l in
@@ -153,6 +163,7 @@ pub start-early : (march j : ℕ) → j < 2 → startIn march j ≡ 31 * j
 unfolding startIn
 start-early march j h = rw (lt-ltb j 2 h)
 
+-- from March on, a month's first day in the year is counted from the first of March, at 153 days for five months
 pub start-late : (march j : ℕ) → 2 ≤ j → startIn march j ≡ march + (153 * j - 304) / 5
 unfolding startIn
 start-late march j h = rw (le-ltb j 2 h)
@@ -167,6 +178,7 @@ early-month march n h l = (omega (arith, h), omega (arith, start-early march (n 
         let e : n / 31 + 1 ≡ 2 = omega (arith, h) in
         rw e (omega (arith, start-late march 2 (omega arith)))
 
+-- from March on, the quotient by 153 is a month that starts by the day of the year; the next, if any, starts after the day
 pub late-month : (march n : ℕ) → (59 ≤ march) × (march ≤ 60) × (n ≤ march + 305) → march ≤ n → ((5 * (n - march) + 308) / 153 < 12) × (startIn march ((5 * (n - march) + 308) / 153) ≤ n) × ((5 * (n - march) + 308) / 153 < 11 → n < startIn march ((5 * (n - march) + 308) / 153 + 1))
 late-month march n h l =
     let r = (5 * (n - march) + 308) / 153 in
@@ -211,6 +223,7 @@ module _ (d i march n : ℕ) (l : d < 36525) (q : i ≡ yearOf d - 2000) (e : ma
     starts : (k : ℕ) → k < 12 → firstDay (12 * i + k) ≡ 365 * i + (i + 3) / 4 + startIn march k
     starts k m = first-in-year i k (year-begins .0) m ∙ ap (λ (x : ℕ). 365 * i + (i + 3) / 4 + startIn x k) (sym e)
 
+    -- the month found by arithmetic in the day's year is the month of the day
     pub month-by-rule : 12 * i + j ≡ monthOf d
     month-by-rule = sym (month-is (12 * i + j) d (omega (arith, year-begins, h)) (omega (arith, starts j (h .0), year-begins, h)) (go (lt-or-ge j 11)))
       where
@@ -222,6 +235,7 @@ module _ (d i march n : ℕ) (l : d < 36525) (q : i ≡ yearOf d - 2000) (e : ma
             let s : firstDay (suc (12 * i + j)) ≡ firstDay (12 * (i + 1)) = ap firstDay (omega (arith, h)) in
             omega (arith, s, start-is (i + 1) (omega (arith, year-begins)), year-ends)
 
+    -- the date of a day has the year, the month and the day of the month that the arithmetic gives
     pub date-by-rule : dateOf d ≡ record { year = 2000 + i; month = j + 1; day = n - startIn march j + 1 }
     unfolding dateOf
     date-by-rule =
@@ -236,6 +250,7 @@ year-from y d l h =
     ⊎-elim (λ a. absurd (omega (arith, in-year d l .end, year-start-le (yearOf d + 1) y (omega arith)))) (λ a. a)
     (lt-or-ge (yearOf d) y)
 
+-- a day before 1 January of a year has an earlier year
 pub year-until : (y d : ℕ) → d < yearStart y → yearOf d < y
 year-until y d h =
     let l : d < 36525 = omega (arith, year-start-most y) in

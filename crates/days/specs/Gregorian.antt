@@ -7,7 +7,8 @@ use lib.Dec.{eqb}
 use lib.ListN.{length}
 use Rattle.questions.specs.Search.{oneOf}
 
--- 'Gregorian': every fourth year is a leap year, of the hundredth years only every fourth
+-- 'Gregorian':
+-- every fourth year is a leap year, of the hundredth years only every fourth
 unfoldable pub leapYear : ℕ → Bool
 leapYear y = eqb (y % 4) 0 && (not (eqb (y % 100) 0) || eqb (y % 400) 0)
 
@@ -38,7 +39,8 @@ monthName k = k % 12 + 1
 unfoldable pub lengthOf : ℕ → ℕ
 lengthOf k = monthLength (monthYear k) (monthName k)
 
--- 'A day number counts from 1 January 2000 (0 ..)': the first day of the month of number k is the sum of the lengths before it
+-- 'A day number counts from 1 January 2000 (0 ..)':
+-- the first day of the month of number k is the sum of the lengths before it
 unfoldable pub firstDay : ℕ → ℕ
 firstDay zero = 0
 firstDay (suc k) = firstDay k + lengthOf k
@@ -52,6 +54,7 @@ unfoldable pub followsFrom : ℕ → ℕ → ℕ → List ℕ → Bool
 followsFrom e i s [] = eqb s e
 followsFrom e i s (x ∷ xs) = eqb x s && followsFrom e (suc i) (s + lengthOf i) xs
 
--- 'The first day of each of the 1,200 months stands in a constant table, and that table is shown to follow the Gregorian month lengths', from day 0 to the day after 2099
+-- 'The first day of each of the 1,200 months stands in a constant table, and that table is shown to follow the Gregorian month lengths',
+-- from day 0 to the day after 2099
 abbrev pub followsMonths : List ℕ → Bool
 followsMonths xs = followsFrom 36525 0 0 xs && eqb (length xs) 1200

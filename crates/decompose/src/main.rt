@@ -7,20 +7,20 @@ ghost use mathlib.Core.Path.{_≡_};
 ghost use mathlib.Core.Bool.{true};
 ghost use Prim.Native.Nat.{_≤_};
 ghost use lib.ListN.{length};
-ghost use Rattle.years.specs.Calendars.{calendarOf};
-ghost use Rattle.master.specs.Load.{loadCall};
-ghost use Rattle.contents.specs.Whole.{decomposeText};
+ghost use Rattle.file_calendar.specs.Calendars.{calendarOf};
+ghost use Rattle.file_load.specs.Load.{loadCall};
+ghost use Rattle.file_text_print.specs.WholeText.{decomposeText};
 
 // Writes the text of an accepted file with this calendar, part by part. A write that fails ends the run.
 fn write_text(cal: Calendar, file: &[u8], out: &mut [u8]) -> Sent
     requires { ⌜ (64 ≤ length (now out)) × (length (now file) ≤ 65537) × (loadCall (now file) .refusal ≡ 0) × (cal ≡ calendarOf (now file)) ⌝ }
     ensures { λ r. ⌜ (r .open ≡ true → r .bytes ≡ length (decomposeText (now (file .entry)))) ⌝ }
 {
-    let count = contents::line_count(cal, file);
+    let count = file_text_print::line_count(cal, file);
     let mut sent = streams::nothing_sent();
     let mut next: usize = 0;
     while next < count {
-        let p = contents::print_lines(cal, file, next, out);
+        let p = file_text_print::print_lines(cal, file, next, out);
         next = p.next;
         sent = output::write_out(sent, file, out, p.length);
         if !streams::is_open(sent) {
@@ -35,7 +35,7 @@ fn write_refusal(refusal: u8, file: &[u8], out: &mut [u8]) -> Sent
     requires { ⌜ (512 ≤ length (now out)) × (length (now file) ≤ 65537) × (loadCall (now file) .refusal ≡ refusal) × (refusal ≡ 0 → ⊥) ⌝ }
     ensures { λ r. ⌜ (r .open ≡ true → r .bytes ≡ length (decomposeText (now (file .entry)))) ⌝ }
 {
-    let n = printing::print_refusal(out, 0, refusal);
+    let n = session_text::print_refusal(out, 0, refusal);
     output::write_out(streams::nothing_sent(), file, out, n)
 }
 
@@ -45,12 +45,12 @@ fn answer(file: &[u8]) -> Sent
     ensures { λ r. ⌜ (r .open ≡ true → r .bytes ≡ length (decomposeText (now (file .entry)))) ⌝ }
 {
     let mut out = io::large_buffer();
-    let loaded = master::load(file);
+    let loaded = file_load::load(file);
     let refusal = loaded.refusal;
     if refusal != 0 {
         return write_refusal(refusal, file, &mut out);
     }
-    let cal = years::calendar_of(file);
+    let cal = file_calendar::calendar_of(file);
     write_text(cal, file, &mut out)
 }
 

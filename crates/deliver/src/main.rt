@@ -1,23 +1,24 @@
-// The program `deliver`: reads master.bin and notices.txt, and prints the rows of the tables of all products after the notices, and the calls that were refused.
+// The program `deliver`: reads master.bin and notices.txt, and prints the rows of the tables of all products after the notices,
+// and the calls that were refused.
 mod input;
 mod output;
 
-use delivery_notices::Taken;
+use delivery_notices::NoticesTaken;
 use delivery_parts::PlacePart;
+use file_calendar::FileCalendar;
 use output::Handed;
 use streams::Transfer;
-use years::FileCalendar;
 ghost use mathlib.Core.Path.{_≡_};
 ghost use mathlib.Core.Bool.{true, false, cond};
 ghost use mathlib.Core.List.{[]};
 ghost use Prim.Native.Nat.{_+_, _≤_, _<_};
 ghost use lib.ListN.{length, take};
 ghost use Rattle.streams.specs.Transfers.{Within};
-ghost use Rattle.ids.specs.Ids.{placeCount};
-ghost use Rattle.years.specs.Calendars.{calendarAnswer};
-ghost use Rattle.master.specs.Load.{judgeCall};
+ghost use Rattle.file_ids.specs.Ids.{placeCount};
+ghost use Rattle.file_calendar.specs.Calendars.{calendarAnswer};
+ghost use Rattle.file_load.specs.Load.{judgeCall};
 ghost use Rattle.delivery_refusals.specs.Refusals.{refusalLines, unknownLines};
-ghost use Rattle.delivery_parts.specs.Parts.{deliverText, deliverRefusals};
+ghost use Rattle.delivery_parts.specs.PlaceParts.{deliverText, deliverRefusals};
 ghost use Rattle.delivery_parts.specs.Next.{NextOf};
 ghost use Rattle.delivery_parts.specs.Handing.{Runs, HandedTo};
 
@@ -68,7 +69,7 @@ fn tell_unknown(
             h,
             file,
             text,
-            delivery_refusals::unknown_line(file, calls, ids, i),
+            delivery_refusals::unknown_measure_line(file, calls, ids, i),
         );
         i += 1;
     }
@@ -82,7 +83,7 @@ fn print_place(
     judged: FileCalendar,
     text: &[u8],
     p: usize,
-    t: Taken,
+    t: NoticesTaken,
     calls: &[u32],
     ids: &[u8],
     refusals: &mut [u8],
@@ -124,7 +125,7 @@ fn print_places(
     file: &[u8],
     judged: FileCalendar,
     text: &[u8],
-    t: Taken,
+    t: NoticesTaken,
     calls: &[u32],
     ids: &[u8],
     refusals: &mut [u8],
@@ -151,7 +152,7 @@ fn print_all(
     file: &[u8],
     judged: FileCalendar,
     text: &[u8],
-    t: Taken,
+    t: NoticesTaken,
     calls: &[u32],
     ids: &[u8],
     refusals: &mut [u8],
@@ -164,7 +165,7 @@ fn print_all(
         output::nothing_handed(),
         file,
         text,
-        delivery_rows::heading_line(),
+        delivery_rows::delivery_heading_line(),
     );
     if !output::is_open(headed) {
         return headed;
@@ -176,7 +177,8 @@ fn print_all(
     tell_unknown(printed, file, text, calls, ids, t.count)
 }
 
-// What a file with its verdict and a text of notices give: where standard output took all, as many bytes as the definition's two texts have, each as the next of its text.
+// What a file with its verdict and a text of notices give:
+// where standard output took all, as many bytes as the definition's two texts have, each as the next of its text.
 fn answer(
     file: &[u8],
     judged: FileCalendar,
@@ -197,7 +199,7 @@ fn answer(
     let t = delivery_notices::read_notices(text, calls, ids);
     let bad = t.bad;
     if bad != 0 {
-        let line = delivery_refusals::bad_line(bad);
+        let line = delivery_refusals::bad_notice_line(bad);
         return output::tell(output::nothing_handed(), file, text, line);
     }
     print_all(file, judged, text, t, calls, ids, refusals, out)
@@ -234,7 +236,7 @@ fn judged(
     requires { ⌜ (length (now file) ≤ 65537) × (32770 ≤ length (now calls)) × (26216 ≤ length (now ids)) × (6554 ≤ length (now refusals)) × (length (now out) ≡ 1024) ⌝ }
     ensures { λ r. ⌜ (r .read .failed ≡ false → r .handed .sent .open ≡ true → (r .handed .sent .bytes ≡ length (deliverText (now (file .entry)) (take (r .read .length) (now (text .exit))))) × (r .handed .told ≡ length (deliverRefusals (now (file .entry)) (take (r .read .length) (now (text .exit)))))) ⌝ }
 {
-    let judged = master::judge(file);
+    let judged = file_load::judge(file);
     let read = notices_of(judged.refusal, text);
     if read.failed {
         let handed = output::nothing_handed();

@@ -1,14 +1,15 @@
 // Rows on standard output, and what is told on standard error.
-use lines::Line;
+use session_lines::Line;
 use streams::Sent;
 ghost use mathlib.Core.Path.{_≡_};
 ghost use mathlib.Core.Bool.{true};
 ghost use Prim.Native.Nat.{_+_, _≤_};
 ghost use lib.ListN.{length, take};
-ghost use Rattle.delivery_parts.specs.Parts.{deliverText, deliverRefusals};
+ghost use Rattle.delivery_parts.specs.PlaceParts.{deliverText, deliverRefusals};
 ghost use Rattle.delivery_parts.specs.Next.{NextOf};
 
-// What standard output has taken of a delivery, and how many bytes were told of it. Its fields are private: only this file makes one, so its counts grew by what write_out and tell were shown to come next of the two texts.
+// What standard output has taken of a delivery, and how many bytes were told of it.
+// Its fields are private: only this file makes one, so its counts grew by what write_out and tell were shown to come next of the two texts.
 pub struct Handed {
     sent: Sent,
     told: usize,
@@ -29,7 +30,8 @@ pub(crate) fn is_open(handed: Handed) -> bool
     streams::is_open(handed.sent)
 }
 
-// Writes the first n bytes of a buffer, which have to be the next of the rows of a file and notices after those that were written. Where standard output does not take them, one line on standard error says why.
+// Writes the first n bytes of a buffer, which have to be the next of the rows of a file and notices after those that were written.
+// Where standard output does not take them, one line on standard error says why.
 pub(crate) fn write_out(handed: Handed, file: &[u8], text: &[u8], out: &[u8], n: usize) -> Handed
     requires { ⌜ (n ≤ length (now out)) × (handed .sent .bytes + n ≤ 1000000000000) × NextOf (deliverText (now file) (now text)) (handed .sent .bytes) (take n (now out)) ⌝ }
     ensures { λ r. ⌜ (r .sent .open ≡ true → r .sent .bytes ≡ handed .sent .bytes + n) × (r .told ≡ handed .told) ⌝ }

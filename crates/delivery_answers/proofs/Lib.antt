@@ -1,3 +1,3 @@
-pub mod Texts
-pub mod Answers
-pub mod Lengths
+pub mod ReplyTexts
+pub mod QuestionHeld
+pub mod ReplyLengths

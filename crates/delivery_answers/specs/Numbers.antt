@@ -4,7 +4,7 @@ use Prim.Native.Nat.{ℕ, _/_, _%_}
 use mathlib.Core.Bool.{cond}
 use mathlib.Core.List.{List, _++_}
 use lib.Dec.{ltb}
-use Rattle.printing.specs.Text.{inFourDigits, decimal}
+use Rattle.session_text.specs.TermsText.{inFourDigits, decimal}
 
 -- a number below 100,000,000 in eight digits
 unfoldable pub inEightDigits : ℕ → List ℕ

@@ -6,13 +6,13 @@ use mathlib.Core.Bool.{Bool, false, not, _&&_, cond}
 use mathlib.Core.List.{List, [], _∷_, _++_}
 use lib.Dec.{eqb}
 use Rattle.questions.specs.Questions.{Answer}
-use Rattle.printing.specs.Text.{inFourDigits, dayText, spaced}
+use Rattle.session_text.specs.TermsText.{inFourDigits, dayText, spaced}
 use Rattle.amounts.specs.declared.Amount.{Amount}
 use Rattle.expiry.specs.declared.LastDay.{LastDay}
 use Rattle.table.specs.declared.Table.{Table}
-use Rattle.values.specs.Values.{lastDayCall, dueCall}
-use Rattle.prices.specs.Prices.{tickCall, cashCall}
-use Rattle.contents.specs.Contents.{partText}
+use Rattle.table_values.specs.Values.{lastDayCall, dueCall}
+use Rattle.table_prices.specs.TablePrices.{tickCall, cashCall}
+use Rattle.file_text_print.specs.Contents.{partText}
 use Rattle.delivery_lines.specs.NoticeLines.{trimmed, held}
 use Rattle.delivery_questions.specs.declared.QuestionLine.{QuestionLine}
 use Rattle.delivery_questions.specs.QuestionLines.{Question, last, due, tick, cash, size, Asked, nothing, bad, asks, askedBy}
@@ -28,8 +28,8 @@ abbrev pub okText : List ℕ
 okText = 79 ∷ 75 ∷ []
 
 -- 'the last trading day and the days back'
-unfoldable pub lastText : Answer LastDay → List ℕ
-lastText a = cond (eqb (a .refusal) 0) (dayText (a .value .day) ++ spaced (a .value .back)) (noText (a .refusal))
+unfoldable pub lastDayText : Answer LastDay → List ℕ
+lastDayText a = cond (eqb (a .refusal) 0) (dayText (a .value .day) ++ spaced (a .value .back)) (noText (a .refusal))
 
 -- 'the due day'
 unfoldable pub dueText : Answer ℕ → List ℕ
@@ -43,7 +43,8 @@ tickText refusal = cond (eqb refusal 0) okText (noText refusal)
 unfoldable pub signText : Bool → List ℕ
 signText negative = cond negative (45 ∷ []) []
 
--- 'the amount with eight digits after the point [46], a minus before a negative one (`48.00000000`, `-0.00000001`, zero without a sign)': an amount in 1/10,000 and a rest of 0 to 9,999 of 1/100,000,000
+-- 'the amount with eight digits after the point [46], a minus before a negative one (`48.00000000`, `-0.00000001`, zero without a sign)':
+-- an amount in 1/10,000 and a rest of 0 to 9,999 of 1/100,000,000
 unfoldable pub amountText : Amount → List ℕ
 amountText a =
     signText (a .negative)
@@ -53,13 +54,15 @@ amountText a =
 unfoldable pub cashText : Answer Amount → List ℕ
 cashText a = cond (eqb (a .refusal) 0) (amountText (a .value)) (noText (a .refusal))
 
--- 'the size as in the text of a master file (`150`, `33.3333`)', in ten-thousandths of a share
+-- 'the size as in the text of a master file (`150`, `33.3333`)',
+-- in ten-thousandths of a share
 unfoldable pub sizeText : ℕ → List ℕ
 sizeText n = numberText (n / 10000) ++ partText (n % 10000)
 
--- what is answered to a question of a table: 'last trading day, due, tick, cash, size of that table'
+-- 'last trading day, due, tick, cash, size of that table':
+-- what is answered to a question of a table
 unfoldable pub questionText : Table → Question → List ℕ
-questionText t (last friday key) = lastText (lastDayCall t key)
+questionText t (last friday key) = lastDayText (lastDayCall t key)
 questionText t (due day) = dueText (dueCall t day)
 questionText t (tick price) = tickText (tickCall t price)
 questionText t (cash contracts agreed final) = cashText (cashCall t contracts agreed final)
@@ -73,7 +76,8 @@ replyText s q = cond (s .known) (cond (eqb (s .refusal) 0) (questionText (s .tab
 abbrev pub otherSort : Bool → Bool → Bool
 otherSort friday weekly = cond friday (not weekly) weekly
 
--- '`last` in the form of the other sort of maturity'; of an id that is not in the file both are taken
+-- '`last` in the form of the other sort of maturity';
+-- of an id that is not in the file both are taken
 unfoldable pub misfits : Standing → Question → Bool
 misfits s (last friday key) = s .known && otherSort friday (s .weekly)
 misfits s (due day) = false
@@ -82,23 +86,24 @@ misfits s (cash contracts agreed final) = false
 misfits s size = false
 
 -- '`BAD K`', and a line feed, 10
-unfoldable pub badText : ℕ → List ℕ
-badText k = (66 ∷ 65 ∷ 68 ∷ 32 ∷ []) ++ (numberText k ++ (10 ∷ []))
+unfoldable pub badQuestionText : ℕ → List ℕ
+badQuestionText k = (66 ∷ 65 ∷ 68 ∷ 32 ∷ []) ++ (numberText k ++ (10 ∷ []))
 
--- 'The answer is the line, without blanks at its end, a space and ..': of a line with a number that asks something, by what is known of the product with an id
+-- 'The answer is the line, without blanks at its end, a space and ..':
+-- of a line with a number that asks something, by what is known of the product with an id
 unfoldable pub askedText : (List ℕ → Standing) → ℕ → List ℕ → Asked → List ℕ
 askedText of k line nothing = []
-askedText of k line bad = badText k
-askedText of k line (asks id q) = cond (misfits (of id) q) (badText k) (line ++ ((32 ∷ []) ++ (replyText (of id) q ++ (10 ∷ []))))
+askedText of k line bad = badQuestionText k
+askedText of k line (asks id q) = cond (misfits (of id) q) (badQuestionText k) (line ++ ((32 ∷ []) ++ (replyText (of id) q ++ (10 ∷ []))))
 
 -- what is answered to a line
-unfoldable pub answerText : (List ℕ → Standing) → ℕ → List ℕ → List ℕ
-answerText of k line = askedText of k (trimmed line) (askedBy line)
+unfoldable pub questionAnswer : (List ℕ → Standing) → ℕ → List ℕ → List ℕ
+questionAnswer of k line = askedText of k (trimmed line) (askedBy line)
 
 -- only the code needs it: what is answered to a question as it is held, by its letter
 unfoldable pub heldText : Table → QuestionLine → List ℕ
 heldText t q =
-    cond (eqb (q .letter) 108) (lastText (lastDayCall t (q .day)))
+    cond (eqb (q .letter) 108) (lastDayText (lastDayCall t (q .day)))
     (cond (eqb (q .letter) 100) (dueText (dueCall t (q .day)))
     (cond (eqb (q .letter) 116) (tickText (tickCall t (q .number)))
     (cond (eqb (q .letter) 99) (cashText (cashCall t (q .number) (q .agreed) (q .«final_price»))) (sizeText (t .product .size)))))
@@ -115,7 +120,8 @@ replyLine s q = (32 ∷ []) ++ (heldReply s q ++ (10 ∷ []))
 unfoldable pub heldMisfits : Standing → QuestionLine → Bool
 heldMisfits s q = eqb (q .letter) 108 && (s .known && otherSort (q .friday) (s .weekly))
 
--- 'one that is too large for its call is refused by its question ([..] 19, 22)': the answer to a question with numbers as they are held is that to the question itself
+-- 'one that is too large for its call is refused by its question ([..] 19, 22)':
+-- the answer to a question with numbers as they are held is that to the question itself
 pub record SameAnswers (t : Table) : Type 0 where
   pub tick-held : (price : ℕ) → tickCall t (held price) ≡ tickCall t price
   pub cash-held : (contracts agreed final : ℕ) → cashCall t (held contracts) (held agreed) (held final) ≡ cashCall t contracts agreed final

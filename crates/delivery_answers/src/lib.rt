@@ -1,21 +1,22 @@
 // What `query` answers, in lines of at most 64 bytes: what stands after a question, and the line of a bad one.
 use amounts::Amount;
 use delivery_questions::QuestionLine;
-use lines::Line;
-use prices::CashReply;
+use session_lines::Line;
 use table::Table;
-use values::DayReply;
-use values::LastDayReply;
+use table_prices::CashReply;
+use table_values::DayReply;
+use table_values::LastDayReply;
 ghost use mathlib.Core.Path.{_≡_};
 ghost use Prim.Native.Nat.{_<_};
-ghost use Rattle.lines.specs.Lines.{emptyLine};
-ghost use Rattle.contents.specs.Contents.{LineWith};
-ghost use Rattle.values.specs.Values.{lastDayReply, dayReply};
-ghost use Rattle.prices.specs.Prices.{cashReply};
+ghost use Rattle.session_lines.specs.CommandLines.{emptyLine};
+ghost use Rattle.file_text_print.specs.Contents.{LineWith};
+ghost use Rattle.table_values.specs.Values.{lastDayReply, dayReply};
+ghost use Rattle.table_prices.specs.TablePrices.{cashReply};
 ghost use Rattle.delivery_answers.specs.Numbers.{inEightDigits, decimalShort, numberText};
-ghost use Rattle.delivery_answers.specs.Replies.{noText, lastText, dueText, tickText, signText, amountText, cashText, sizeText, otherSort, badText, heldText, heldReply, replyLine, heldMisfits};
+ghost use Rattle.delivery_answers.specs.Replies.{noText, lastDayText, dueText, tickText, signText, amountText, cashText, sizeText, otherSort, badQuestionText, heldText, heldReply, replyLine, heldMisfits};
 
-// What is known of the product with an id: whether the file has it, whether it is a weekly one, the number of its refused opening, 0 where it has a table, and the table.
+// What is known of the product with an id: whether the file has it, whether it is a weekly one,
+// the number of its refused opening, 0 where it has a table, and the table.
 pub struct Standing {
     pub known: bool,
     pub weekly: bool,
@@ -28,8 +29,8 @@ fn with_eight(line: Line, n: u32) -> Line
     requires { ⌜ n < 100000000 ⌝ }
     ensures { λ r. ⌜ LineWith line (inEightDigits n) r ⌝ }
 {
-    let first = contents::with_four(line, (n / 10000) as u16);
-    contents::with_four(first, (n % 10000) as u16)
+    let first = file_text_print::with_four(line, (n / 10000) as u16);
+    file_text_print::with_four(first, (n % 10000) as u16)
 }
 
 // A line with a number of at most eight digits more, with no zeros before it.
@@ -38,10 +39,10 @@ fn with_short(line: Line, n: u32) -> Line
     ensures { λ r. ⌜ LineWith line (decimalShort n) r ⌝ }
 {
     if n < 10000 {
-        return contents::with_decimal(line, n as u16);
+        return file_text_print::with_decimal(line, n as u16);
     }
-    let first = contents::with_decimal(line, (n / 10000) as u16);
-    contents::with_four(first, (n % 10000) as u16)
+    let first = file_text_print::with_decimal(line, (n / 10000) as u16);
+    file_text_print::with_four(first, (n % 10000) as u16)
 }
 
 // A line with a number more, with no zeros before it.
@@ -64,17 +65,17 @@ pub fn with_number(line: Line, n: u64) -> Line
 fn with_no(line: Line, number: u8) -> Line
     ensures { λ r. ⌜ LineWith line (noText number) r ⌝ }
 {
-    contents::with_spaced(vendor_lines::feed(line, b"NO"), number as u16)
+    file_text_print::with_spaced(confirm_lines::feed(line, b"NO"), number as u16)
 }
 
 // A line with a last trading day more.
 fn with_last(line: Line, reply: LastDayReply) -> Line
-    ensures { λ r. ⌜ LineWith line (lastText (lastDayReply reply)) r ⌝ }
+    ensures { λ r. ⌜ LineWith line (lastDayText (lastDayReply reply)) r ⌝ }
 {
     if reply.refusal != 0 {
         return with_no(line, reply.refusal);
     }
-    contents::with_spaced(contents::with_day(line, reply.day), reply.back)
+    file_text_print::with_spaced(file_text_print::with_day(line, reply.day), reply.back)
 }
 
 // A line with a due day more.
@@ -84,7 +85,7 @@ fn with_due(line: Line, reply: DayReply) -> Line
     if reply.refusal != 0 {
         return with_no(line, reply.refusal);
     }
-    contents::with_day(line, reply.day)
+    file_text_print::with_day(line, reply.day)
 }
 
 // A line with `OK` more, or with the number of a refused price.
@@ -94,7 +95,7 @@ fn with_tick(line: Line, refusal: u8) -> Line
     if refusal != 0 {
         return with_no(line, refusal);
     }
-    vendor_lines::feed(line, b"OK")
+    confirm_lines::feed(line, b"OK")
 }
 
 // A line with a minus more, of a negative amount.
@@ -102,7 +103,7 @@ fn with_sign(line: Line, negative: bool) -> Line
     ensures { λ r. ⌜ LineWith line (signText negative) r ⌝ }
 {
     if negative {
-        return lines::extend(line, b'-');
+        return session_lines::extend(line, b'-');
     }
     line
 }
@@ -113,9 +114,9 @@ fn with_amount(line: Line, a: Amount) -> Line
 {
     let sign = with_sign(line, a.negative);
     let whole = with_number(sign, a.amount / 10000);
-    let point = lines::extend(whole, b'.');
-    let parts = contents::with_four(point, (a.amount % 10000) as u16);
-    contents::with_four(parts, a.rest)
+    let point = session_lines::extend(whole, b'.');
+    let parts = file_text_print::with_four(point, (a.amount % 10000) as u16);
+    file_text_print::with_four(parts, a.rest)
 }
 
 // A line with cash more.
@@ -134,7 +135,7 @@ fn with_size(line: Line, size: u32) -> Line
     ensures { λ r. ⌜ LineWith line (sizeText size) r ⌝ }
 {
     let whole = with_number(line, (size / 10000) as u64);
-    contents::with_part(whole, (size % 10000) as u16)
+    file_text_print::with_part(whole, (size % 10000) as u16)
 }
 
 // A line with the answer of a table to a question more.
@@ -142,16 +143,19 @@ fn with_answer(line: Line, t: Table, q: QuestionLine) -> Line
     ensures { λ r. ⌜ LineWith line (heldText t q) r ⌝ }
 {
     if q.letter == b'l' {
-        return with_last(line, values::last_trading_day(t, q.day));
+        return with_last(line, table_values::last_trading_day(t, q.day));
     }
     if q.letter == b'd' {
-        return with_due(line, values::due(t, q.day));
+        return with_due(line, table_values::due(t, q.day));
     }
     if q.letter == b't' {
-        return with_tick(line, prices::tick(t, q.number));
+        return with_tick(line, table_prices::tick(t, q.number));
     }
     if q.letter == b'c' {
-        return with_cash(line, prices::cash(t, q.number, q.agreed, q.final_price));
+        return with_cash(
+            line,
+            table_prices::cash(t, q.number, q.agreed, q.final_price),
+        );
     }
     let p = t.product;
     with_size(line, p.size)
@@ -175,9 +179,9 @@ fn with_reply(line: Line, s: Standing, q: QuestionLine) -> Line
 pub fn reply_line(s: Standing, q: QuestionLine) -> Line
     ensures { λ r. ⌜ LineWith emptyLine (replyLine s q) r ⌝ }
 {
-    let space = lines::extend(lines::empty_line(), b' ');
+    let space = session_lines::extend(session_lines::empty_line(), b' ');
     let reply = with_reply(space, s, q);
-    lines::extend(reply, b'\n')
+    session_lines::extend(reply, b'\n')
 }
 
 // Whether a maturity is named in the form of the other sort.
@@ -204,9 +208,9 @@ pub fn is_misfit(s: Standing, q: QuestionLine) -> bool
 }
 
 // The line that says that a line is bad.
-pub fn bad_line(k: u64) -> Line
-    ensures { λ r. ⌜ LineWith emptyLine (badText k) r ⌝ }
+pub fn bad_question_line(k: u64) -> Line
+    ensures { λ r. ⌜ LineWith emptyLine (badQuestionText k) r ⌝ }
 {
-    let bad = vendor_lines::feed(lines::empty_line(), b"BAD ");
-    lines::extend(with_number(bad, k), b'\n')
+    let bad = confirm_lines::feed(session_lines::empty_line(), b"BAD ");
+    session_lines::extend(with_number(bad, k), b'\n')
 }

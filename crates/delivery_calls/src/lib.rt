@@ -1,17 +1,17 @@
 // A call of a lent list on a table apart from the two maps of its calendar, which are lent.
-use apart::Rest;
-use lines::Command;
-use years::FileCalendar;
+use file_calendar::FileCalendar;
+use session_apart::Rest;
+use session_lines::Command;
 ghost use mathlib.Core.Path.{_≡_};
 ghost use Rattle.table.specs.Table.{sound};
 ghost use Rattle.history.specs.Book.{roll, close};
 ghost use Rattle.history.specs.History.{tableCall};
-ghost use Rattle.replay.specs.Replay.{callOf};
-ghost use Rattle.apart.specs.Apart.{tableWith};
-ghost use Rattle.delivery_calls.specs.Calls.{CallMade};
+ghost use Rattle.history_replay.specs.Replay.{callOf};
+ghost use Rattle.session_apart.specs.Apart.{tableWith};
+ghost use Rattle.delivery_calls.specs.CallsApart.{CallMade};
 
 // What a call on a table apart gives back: the number of its refusal, and the rest of the table after it.
-pub struct Made {
+pub struct MadeApart {
     pub refusal: u8,
     pub rest: Rest,
 }
@@ -25,7 +25,7 @@ fn roll_apart(
     closed: &mut [u8; 736],
     exchange: &mut [u8; 736],
     date: u16,
-) -> Made
+) -> MadeApart
     ensures { λ r. ⌜ (ten ≡ sound (tableWith rest (now (closed .entry)) (now (exchange .entry))) → CallMade (tableCall (tableWith rest (now (closed .entry)) (now (exchange .entry))) (roll date)) r (now (closed .exit)) (now (exchange .exit))) ⌝ }
 {
     let c = Command {
@@ -33,9 +33,9 @@ fn roll_apart(
         id: [0, 0, 0, 0],
         day: date,
     };
-    let m = apart::move_apart(file, judged, rest, ten, closed, exchange, c);
+    let m = session_apart::move_apart(file, judged, rest, ten, closed, exchange, c);
     let after = m.rest;
-    Made {
+    MadeApart {
         refusal: m.refusal,
         rest: after,
     }
@@ -50,7 +50,7 @@ fn close_apart(
     closed: &mut [u8; 736],
     exchange: &mut [u8; 736],
     day: u16,
-) -> Made
+) -> MadeApart
     ensures { λ r. ⌜ (ten ≡ sound (tableWith rest (now (closed .entry)) (now (exchange .entry))) → CallMade (tableCall (tableWith rest (now (closed .entry)) (now (exchange .entry))) (close day)) r (now (closed .exit)) (now (exchange .exit))) ⌝ }
 {
     let c = Command {
@@ -58,9 +58,9 @@ fn close_apart(
         id: [0, 0, 0, 0],
         day,
     };
-    let m = apart::move_apart(file, judged, rest, ten, closed, exchange, c);
+    let m = session_apart::move_apart(file, judged, rest, ten, closed, exchange, c);
     let after = m.rest;
-    Made {
+    MadeApart {
         refusal: m.refusal,
         rest: after,
     }
@@ -75,13 +75,13 @@ fn call_whole(
     first: u32,
     second: u32,
     third: u32,
-) -> Made
+) -> MadeApart
     ensures { λ r. ⌜ CallMade (tableCall (tableWith rest (now (closed .entry)) (now (exchange .entry))) (callOf kind first second third)) r (now (closed .exit)) (now (exchange .exit)) ⌝ }
 {
     let first_map = *closed;
     let second_map = *exchange;
-    let t = apart::table_of(rest, first_map, second_map);
-    let o = replay::call(t, kind, first, second, third);
+    let t = session_apart::table_of(rest, first_map, second_map);
+    let o = history_replay::call(t, kind, first, second, third);
     let refusal = o.refusal;
     let after = o.table;
     let cal = after.calendar;
@@ -89,14 +89,15 @@ fn call_whole(
     let exchange_after = cal.exchange;
     *closed = closed_after;
     *exchange = exchange_after;
-    let next = apart::rest_of(after);
-    Made {
+    let next = session_apart::table_rest(after);
+    MadeApart {
         refusal,
         rest: next,
     }
 }
 
-// One call by its kind, where the answer to question 10 of the table is at hand; a roll and a close that leave the listing as it is copy no map. The file and its verdict take no part in it.
+// One call by its kind, where the answer to question 10 of the table is at hand; a roll and a close that leave the listing as it is copy no map.
+// The file and its verdict take no part in it.
 pub fn call_apart(
     file: &[u8],
     judged: FileCalendar,
@@ -108,7 +109,7 @@ pub fn call_apart(
     first: u32,
     second: u32,
     third: u32,
-) -> Made
+) -> MadeApart
     ensures { λ r. ⌜ (ten ≡ sound (tableWith rest (now (closed .entry)) (now (exchange .entry))) → CallMade (tableCall (tableWith rest (now (closed .entry)) (now (exchange .entry))) (callOf kind first second third)) r (now (closed .exit)) (now (exchange .exit))) ⌝ }
 {
     if 65535 < first {

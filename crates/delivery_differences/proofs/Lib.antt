@@ -1,4 +1,4 @@
-pub mod Rows
-pub mod Passes
+pub mod KeyRows
+pub mod DifferencePasses
 pub mod Note12
-pub mod Own
+pub mod OwnRows

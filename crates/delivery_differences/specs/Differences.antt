@@ -1,4 +1,6 @@
--- The differences between the rows that were delivered for one product and the maturities that its table lists (docs/DELIVERY.md, `reconcile`, from which the quotations are; 02, note 12). A month, or a weekly option's Friday, is named by its key.
+-- The differences between the rows that were delivered for one product and the maturities that its table lists
+-- (docs/DELIVERY.md, `reconcile`, from which the quotations are; 02, note 12).
+-- A month, or a weekly option's Friday, is named by its key.
 -- Assumes nothing.
 use Prim.Native.Nat.{ℕ, zero, suc, _-_}
 use mathlib.Core.Path.{_≡_}
@@ -12,7 +14,7 @@ use Rattle.listing.specs.declared.Maturity.{Maturity}
 use Rattle.listing.specs.Rules.{unused}
 use Rattle.table.specs.declared.Table.{Table}
 use Rattle.table.specs.Table.{listedIn}
-use Rattle.vendor.specs.Vendor.{Entry, freshEntries, times, differs, judgement, Reordered}
+use Rattle.table_vendor.specs.Vendor.{VendorEntry, freshEntries, times, differs, judgement, Reordered}
 use Rattle.delivery_differences.specs.declared.Why.{Why}
 use Rattle.delivery_differences.specs.declared.Why.the-variants.{Same, Missing, Extra, Twice, Day, Number, DaysBack}
 use Rattle.delivery_differences.specs.declared.DeliveredRow.{DeliveredRow}
@@ -24,11 +26,11 @@ abbrev pub noRow : DeliveredRow
 noRow = record { key = 0; day = 0; full = false; number = 0; back = 0 }
 
 -- a row as note 12 judges it: a month, or a Friday, with a last trading day
-abbrev pub rowEntry : DeliveredRow → Entry
+abbrev pub rowEntry : DeliveredRow → VendorEntry
 rowEntry r = record { key = r .key; day = r .day }
 
 -- the same of all rows
-abbrev pub rowEntries : List DeliveredRow → List Entry
+abbrev pub rowEntries : List DeliveredRow → List VendorEntry
 rowEntries rows = map rowEntry rows
 
 -- '`delivered` is that of the first row with the key'
@@ -45,7 +47,9 @@ unfoldable pub rightOf : List Maturity → ℕ → Right
 rightOf [] k = notListed
 rightOf (m ∷ ms) k = cond (eqb (m .key) k) (record { listed = true; maturity = m }) (rightOf ms k)
 
--- 'the first `why` that holds', of a key that is listed or not, was delivered so often, and first in this row: '`missing` (listed, not delivered), `extra` (delivered, not listed, however often), `twice` (delivered more than once), `day`, `number`, `days_back` (the last two of five fields)'
+-- 'the first `why` that holds', '`missing` (listed, not delivered), `extra` (delivered, not listed, however often),
+-- `twice` (delivered more than once), `day`, `number`, `days_back` (the last two of five fields)':
+-- of a key that is listed or not, was delivered so often, and first in this row
 unfoldable pub whyFrom : Right → ℕ → DeliveredRow → Why
 whyFrom right count row =
     cond (right .listed && eqb count 0) Missing
@@ -82,7 +86,8 @@ differenceOf listed rows k =
 unfoldable pub nextDifference : List Maturity → List DeliveredRow → ℕ → ℕ
 nextDifference listed rows from = firstFrom (differsIn listed rows) 65536 (65536 - from) from
 
--- 'One line for a key that differs', 'keys rising': those of n keys from one on
+-- 'One line for a key that differs', 'keys rising':
+-- those of n keys from one on
 unfoldable pub differing : List Maturity → List DeliveredRow → ℕ → ℕ → List ℕ
 differing listed rows zero from = []
 differing listed rows (suc n) from =
@@ -136,6 +141,7 @@ abbrev pub ownRow : Bool → Maturity → DeliveredRow
 ownRow true m = record { key = m .key; day = m .day; full = true; number = m .number; back = m .back }
 ownRow false m = record { key = m .key; day = m .day; full = false; number = 0; back = 0 }
 
--- 'A reconciliation of what `deliver` prints .. with any order of its rows, finds nothing for a product that opened', of the rows of one product (proofs, Own: `own-rows`)
+-- 'A reconciliation of what `deliver` prints .. with any order of its rows, finds nothing for a product that opened',
+-- of the rows of one product (proofs, Own: `own-rows`)
 pub record NothingFound (listed : List Maturity) (rows : List DeliveredRow) : Type 0 where
   pub same : (k : ℕ) → whyOf listed rows k ≡ Same

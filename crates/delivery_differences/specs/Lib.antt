@@ -1,2 +1,2 @@
 pub mod Differences
-pub mod Passes
+pub mod DifferencePasses

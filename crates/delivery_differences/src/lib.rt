@@ -3,9 +3,9 @@ use listing::Maturity;
 ghost use mathlib.Core.Path.{_≡_};
 ghost use Prim.Native.Nat.{_+_, _≤_, min};
 ghost use lib.ListN.{getD, take, drop};
-ghost use Rattle.vendor.specs.Vendor.{times};
+ghost use Rattle.table_vendor.specs.Vendor.{times};
 ghost use Rattle.delivery_differences.specs.Differences.{rowEntries, firstRow, notListed, rightOf, whyFrom, isSame, differsIn, differenceOf, nextDifference, rowAt, rowsAt};
-ghost use Rattle.delivery_differences.specs.Passes.{keysAt, keysOf, indexIn, upToTwo, unlisted, lesser, leastOf};
+ghost use Rattle.delivery_differences.specs.DifferencePasses.{rowKeysAt, maturityKeys, indexIn, upToTwo, unlisted, lesserFrom, leastOf};
 
 // Why a key differs.
 pub enum Why {
@@ -18,7 +18,8 @@ pub enum Why {
     DaysBack,
 }
 
-// A row as it was delivered: the key of a month or a Friday and the last trading day; of a full one, which has five fields, also the listing number and the days back.
+// A row as it was delivered: the key of a month or a Friday and the last trading day;
+// of a full one, which has five fields, also the listing number and the days back.
 pub struct DeliveredRow {
     pub key: u16,
     pub day: u16,
@@ -34,7 +35,7 @@ pub struct Right {
 }
 
 // How often a key was delivered, up to 2, and its first row.
-pub struct Standing {
+pub struct KeyStanding {
     pub count: u8,
     pub row: DeliveredRow,
 }
@@ -48,17 +49,17 @@ pub struct Difference {
 
 // The key of row j of those at some places; 0 where there is none.
 fn key_at(places: &[u16], keys: &[u16], j: usize) -> u16
-    ensures { λ r. ⌜ r ≡ getD (keysAt (now (keys .entry)) (now (places .entry))) j 0 ⌝ }
+    ensures { λ r. ⌜ r ≡ getD (rowKeysAt (now (keys .entry)) (now (places .entry))) j 0 ⌝ }
 {
     if j < places.len() {
-        return vendor::number_at(keys, places[j] as usize);
+        return table_vendor::list_number(keys, places[j] as usize);
     }
     0
 }
 
 // The first row with a key from one on, of those at some places; after the last where there is none.
 fn index_from(places: &[u16], keys: &[u16], key: u16, from: usize) -> usize
-    ensures { λ r. ⌜ r ≡ from + indexIn key (drop from (keysAt (now (keys .entry)) (now (places .entry)))) ⌝ }
+    ensures { λ r. ⌜ r ≡ from + indexIn key (drop from (rowKeysAt (now (keys .entry)) (now (places .entry)))) ⌝ }
 {
     let mut j = from;
     while j < places.len() {
@@ -82,11 +83,11 @@ fn row_at(
     ensures { λ r. ⌜ r ≡ rowAt (now (keys .entry)) (now (days .entry)) (now (fulls .entry)) (now (numbers .entry)) (now (backs .entry)) i ⌝ }
 {
     DeliveredRow {
-        key: vendor::number_at(keys, i),
-        day: vendor::number_at(days, i),
-        full: blocks::byte_at(fulls, i) != 0,
-        number: vendor::number_at(numbers, i),
-        back: vendor::number_at(backs, i),
+        key: table_vendor::list_number(keys, i),
+        day: table_vendor::list_number(days, i),
+        full: file_blocks::byte_at(fulls, i) != 0,
+        number: table_vendor::list_number(numbers, i),
+        back: table_vendor::list_number(backs, i),
     }
 }
 
@@ -99,12 +100,12 @@ fn standing_of(
     numbers: &[u16],
     backs: &[u16],
     key: u16,
-) -> Standing
+) -> KeyStanding
     ensures { λ r. ⌜ (r .count ≡ upToTwo (times (rowEntries (rowsAt (now (keys .entry)) (now (days .entry)) (now (fulls .entry)) (now (numbers .entry)) (now (backs .entry)) (now (places .entry)))) key)) × (r .row ≡ firstRow (rowsAt (now (keys .entry)) (now (days .entry)) (now (fulls .entry)) (now (numbers .entry)) (now (backs .entry)) (now (places .entry))) key) ⌝ }
 {
     let first = index_from(places, keys, key, 0);
     if places.len() <= first {
-        return Standing {
+        return KeyStanding {
             count: 0,
             row: DeliveredRow {
                 key: 0,
@@ -118,9 +119,9 @@ fn standing_of(
     let row = row_at(keys, days, fulls, numbers, backs, places[first] as usize);
     let second = index_from(places, keys, key, first + 1);
     if places.len() <= second {
-        return Standing { count: 1, row };
+        return KeyStanding { count: 1, row };
     }
-    Standing { count: 2, row }
+    KeyStanding { count: 2, row }
 }
 
 // The maturity with a key among the first n.
@@ -221,7 +222,7 @@ fn told_of(
 // The least of a key found before and one more that is not listed, of those from a key on.
 fn lesser_unlisted(maturities: [Maturity; 15], n: usize, from: u32, key: u16, least: u32) -> u32
     requires { ⌜ n ≤ 15 ⌝ }
-    ensures { λ r. ⌜ r ≡ lesser (unlisted (take n maturities) key) from key least ⌝ }
+    ensures { λ r. ⌜ r ≡ lesserFrom (unlisted (take n maturities) key) from key least ⌝ }
 {
     let found = key as u32;
     if found < from {
@@ -246,7 +247,7 @@ fn least_unlisted(
     from: u32,
 ) -> u32
     requires { ⌜ n ≤ 15 ⌝ }
-    ensures { λ r. ⌜ r ≡ leastOf (unlisted (take n maturities)) from (keysAt (now (keys .entry)) (now (places .entry))) 65536 ⌝ }
+    ensures { λ r. ⌜ r ≡ leastOf (unlisted (take n maturities)) from (rowKeysAt (now (keys .entry)) (now (places .entry))) 65536 ⌝ }
 {
     let mut least: u32 = 65536;
     let mut j: usize = 0;
@@ -272,7 +273,7 @@ fn lesser_listed(
     least: u32,
 ) -> u32
     requires { ⌜ n ≤ 15 ⌝ }
-    ensures { λ r. ⌜ r ≡ lesser (differsIn (take n maturities) (rowsAt (now (keys .entry)) (now (days .entry)) (now (fulls .entry)) (now (numbers .entry)) (now (backs .entry)) (now (places .entry))) key) from key least ⌝ }
+    ensures { λ r. ⌜ r ≡ lesserFrom (differsIn (take n maturities) (rowsAt (now (keys .entry)) (now (days .entry)) (now (fulls .entry)) (now (numbers .entry)) (now (backs .entry)) (now (places .entry))) key) from key least ⌝ }
 {
     let found = key as u32;
     if found < from {
@@ -313,7 +314,7 @@ fn least_listed(
     found: u32,
 ) -> u32
     requires { ⌜ n ≤ 15 ⌝ }
-    ensures { λ r. ⌜ r ≡ leastOf (differsIn (take n maturities) (rowsAt (now (keys .entry)) (now (days .entry)) (now (fulls .entry)) (now (numbers .entry)) (now (backs .entry)) (now (places .entry)))) from (keysOf (take n maturities)) found ⌝ }
+    ensures { λ r. ⌜ r ≡ leastOf (differsIn (take n maturities) (rowsAt (now (keys .entry)) (now (days .entry)) (now (fulls .entry)) (now (numbers .entry)) (now (backs .entry)) (now (places .entry)))) from (maturityKeys (take n maturities)) found ⌝ }
 {
     let mut least = found;
     let mut i: usize = 0;

@@ -1,3 +1,2 @@
-pub mod Lines
-mod Telling
-mod Taking
+pub mod ShortLines
+pub mod BadLinesTold

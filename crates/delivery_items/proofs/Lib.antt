@@ -1,3 +1,3 @@
-mod Parting
-mod Forms
-pub mod Long
+mod FieldsParted
+mod ItemForms
+pub mod LongItems

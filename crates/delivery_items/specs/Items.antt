@@ -7,16 +7,17 @@ use lib.Dec.{eqb, leb, ltb}
 use lib.ListN.{length, getD, take, drop, set, replicate}
 use Rattle.questions.specs.Search.{every}
 use Rattle.days.specs.Dates.{monthOf}
-use Rattle.lines.specs.declared.Command.{Command}
-use Rattle.entries.specs.declared.NumberRead.{NumberRead}
-use Rattle.entries.specs.Entries.{numberOf, idBytes}
-use Rattle.vendor_lines.specs.Lines.{dateIn, monthIn}
+use Rattle.session_lines.specs.declared.Command.{Command}
+use Rattle.file_text_lines.specs.declared.NumberRead.{NumberRead}
+use Rattle.file_text_lines.specs.Entries.{wordNumber, idBytes}
+use Rattle.confirm_lines.specs.ListingLines.{dateIn, monthIn}
 use Rattle.delivery_lines.specs.NoticeLines.{blank, trimmed, isId}
 use Rattle.delivery_items.specs.declared.ItemRead.{ItemRead}
 use Rattle.delivery_items.specs.declared.LineRead.{LineRead}
 use Rattle.delivery_items.specs.declared.LongLine.{LongLine}
 
--- 'Fields are parted by a comma, a semicolon or a tab': 44, 59 and 9
+-- 'Fields are parted by a comma, a semicolon or a tab':
+-- 44, 59 and 9
 abbrev pub separator : ℕ → Bool
 separator byte = eqb byte 44 || (eqb byte 59 || eqb byte 9)
 
@@ -29,7 +30,8 @@ fieldsFrom begun (byte ∷ rest) = cond (separator byte) (begun ∷ fieldsFrom [
 abbrev pub fieldsOf : List ℕ → List (List ℕ)
 fieldsOf line = fieldsFrom [] line
 
--- 'each may stand in double quotes', 34: a field without them
+-- 'each may stand in double quotes', 34:
+-- a field without them
 unfoldable pub unquoted : List ℕ → List ℕ
 unquoted field =
     cond (leb 2 (length field) && (eqb (getD field 0 0) 34 && eqb (getD field (length field - 1) 0) 34))
@@ -91,7 +93,7 @@ fullItem item number back =
 unfoldable pub fieldsItem : List ℕ → ItemRead
 fieldsItem text =
     cond (eqb (length (fieldsOf text)) 3) (shortItem (fieldAt text 0) (fieldAt text 1) (fieldAt text 2))
-    (cond (eqb (length (fieldsOf text)) 5) (fullItem (shortItem (fieldAt text 0) (fieldAt text 2) (fieldAt text 3)) (numberOf (fieldAt text 1) 65535) (numberOf (fieldAt text 4) 65535))
+    (cond (eqb (length (fieldsOf text)) 5) (fullItem (shortItem (fieldAt text 0) (fieldAt text 2) (fieldAt text 3)) (wordNumber (fieldAt text 1) 65535) (wordNumber (fieldAt text 4) 65535))
     noItem)
 
 -- the row of a line without the blanks at its end; bad is a line of 'more than 255 bytes'
@@ -106,11 +108,13 @@ productWord = 112 ∷ 114 ∷ 111 ∷ 100 ∷ 117 ∷ 99 ∷ 116 ∷ []
 unfoldable pub isProductWord : List ℕ → Bool
 isProductWord field = eqb (length field) 7 && every 7 (λ i. eqb (getD field i 0) (getD productWord i 0))
 
--- 'the first line that is not empty where its first field is `product`': whether a line's first field is
+-- 'the first line that is not empty where its first field is `product`':
+-- whether a line's first field is
 unfoldable pub headed : List ℕ → Bool
 headed text = isProductWord (fieldAt text 0)
 
--- what a line says: 'Spaces, tabs and carriage returns at its end play no part'
+-- 'Spaces, tabs and carriage returns at its end play no part':
+-- what a line says
 unfoldable pub lineRead : List ℕ → LineRead
 lineRead line =
     record { empty = eqb (length (trimmed line)) 0; heading = headed (trimmed line); item = itemOf (trimmed line) }

@@ -1,14 +1,15 @@
 // A line of the rows that `reconcile` reads.
-use entries::NumberRead;
-use lines::Command;
+use file_text_lines::NumberRead;
+use session_lines::Command;
 ghost use mathlib.Core.Path.{_≡_};
 ghost use Prim.Native.Nat.{_≤_};
 ghost use lib.Dec.{eqb};
 ghost use lib.ListN.{length, take};
 ghost use Rattle.delivery_items.specs.Items.{separator, fieldsOf, unquoted, rawField, fieldAt, noItem, maturityRead, keyRead, shortItem, fullItem, fieldsItem, itemOf, isProductWord, headed, lineRead, emptyLong, lengthened, heldRead};
-ghost use Rattle.delivery_items.specs.Fields.{SeparatorFrom};
+ghost use Rattle.delivery_items.specs.LineFields.{SeparatorFrom};
 
-// A row: the id, the key of a month or of a weekly option's Friday, and the last trading day; of a full one, which has five fields, also the listing number and the days back. Another line is none, with zeros.
+// A row: the id, the key of a month or of a weekly option's Friday, and the last trading day;
+// of a full one, which has five fields, also the listing number and the days back. Another line is none, with zeros.
 pub struct ItemRead {
     pub there: bool,
     pub id: [u8; 4],
@@ -106,7 +107,7 @@ fn unquote(field: &[u8]) -> &[u8]
 }
 
 // Field k of a line without its quotes.
-pub fn field_at(line: &[u8], k: usize) -> &[u8]
+pub fn line_field(line: &[u8], k: usize) -> &[u8]
     ensures { λ r. ⌜ now r ≡ fieldAt (now (line .entry)) k ⌝ }
 {
     unquote(raw_field(line, k))
@@ -133,9 +134,9 @@ fn maturity_read(field: &[u8]) -> Command
     ensures { λ r. ⌜ r ≡ maturityRead (now (field .entry)) ⌝ }
 {
     if field.len() == 7 {
-        return vendor_lines::month_in(field);
+        return confirm_lines::month_in(field);
     }
-    vendor_lines::date_in(field)
+    confirm_lines::date_in(field)
 }
 
 // The key of a maturity with that day.
@@ -153,11 +154,11 @@ fn short_item(id: &[u8], maturity: &[u8], last: &[u8]) -> ItemRead
     ensures { λ r. ⌜ r ≡ shortItem (now (id .entry)) (now (maturity .entry)) (now (last .entry)) ⌝ }
 {
     let first = maturity_read(maturity);
-    let end = vendor_lines::date_in(last);
+    let end = confirm_lines::date_in(last);
     if !(delivery_lines::is_id(id) & ((first.letter != 0) & (end.letter != 0))) {
         return no_item();
     }
-    let four = entries::id_bytes(id);
+    let four = file_text_lines::id_bytes(id);
     ItemRead {
         there: true,
         id: four,
@@ -196,14 +197,14 @@ fn fields_item(text: &[u8]) -> ItemRead
     ensures { λ r. ⌜ r ≡ fieldsItem (now (text .entry)) ⌝ }
 {
     let fields = field_count(text);
-    let id = field_at(text, 0);
+    let id = line_field(text, 0);
     if fields == 3 {
-        return short_item(id, field_at(text, 1), field_at(text, 2));
+        return short_item(id, line_field(text, 1), line_field(text, 2));
     }
     if fields == 5 {
-        let item = short_item(id, field_at(text, 2), field_at(text, 3));
-        let number = entries::number_of(field_at(text, 1), 65535);
-        let back = entries::number_of(field_at(text, 4), 65535);
+        let item = short_item(id, line_field(text, 2), line_field(text, 3));
+        let number = file_text_lines::word_number(line_field(text, 1), 65535);
+        let back = file_text_lines::word_number(line_field(text, 4), 65535);
         return full_item(item, number, back);
     }
     no_item()
@@ -241,7 +242,7 @@ fn is_product_word(field: &[u8]) -> bool
 fn is_headed(text: &[u8]) -> bool
     ensures { λ r. ⌜ r ≡ headed (now (text .entry)) ⌝ }
 {
-    is_product_word(field_at(text, 0))
+    is_product_word(line_field(text, 0))
 }
 
 // What a line of any length says that has no blanks at its end.
@@ -266,7 +267,7 @@ pub fn read_line(line: &[u8]) -> LineRead
 }
 
 // A line with no bytes.
-pub fn empty_line() -> LongLine
+pub fn empty_long_line() -> LongLine
     ensures { λ r. ⌜ r ≡ emptyLong ⌝ }
 {
     LongLine {
@@ -277,7 +278,7 @@ pub fn empty_line() -> LongLine
 }
 
 // A line with one byte more.
-pub fn extend(line: LongLine, byte: u8) -> LongLine
+pub fn extend_long(line: LongLine, byte: u8) -> LongLine
     ensures { λ r. ⌜ r ≡ lengthened line byte ⌝ }
 {
     let at = line.length;

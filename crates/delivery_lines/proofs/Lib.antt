@@ -1,4 +1,4 @@
 pub mod Trimming
-pub mod Values
-pub mod Forms
-pub mod Lengths
+pub mod NoticeValues
+pub mod NoticeForms
+pub mod NoticeLengths

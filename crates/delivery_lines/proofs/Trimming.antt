@@ -1,16 +1,15 @@
 -- A line without the blanks at its end is what is left when the last byte is taken off as long as it is a blank.
 -- Assumes nothing.
 use mathlib.Core.Path.{_≡_, refl, _∙_, sym, ap}
-use mathlib.Core.Bool.{Bool, true, false, _&&_, cond, and-false}
+use mathlib.Core.Bool.{true, false, and-false}
 use mathlib.Core.Logic.{_⊎_, inl, inr}
 use mathlib.Core.List.{List, [], _∷_, _++_}
 use Prim.Native.Nat.{ℕ, suc, _+_, _-_, _≤_, _<_}
 use native.Mathlib.Omega.{arith}
-use native.Mathlib.Numerals.{add-one}
 use lib.Dec.{eqb, ltb}
 use lib.ListN.{length, getD, take, length-append, List·getD-eq-default}
-use lib.Seq.{take-suc, take-length}
-use borrow.Author.Tests.{lt-ltb, le-ltb, ne-eqb, ltb-true, ltb-false}
+use lib.Seq.{take-suc}
+use borrow.Author.Tests.{lt-ltb, ne-eqb, ltb-true}
 use Rattle.questions.proofs.Bools.{both, lt-or-ge}
 use Rattle.delivery_lines.specs.NoticeLines.{blank, trimmed, markLength}
 use Rattle.delivery_lines.specs.Ends.{endsBlank}
@@ -20,6 +19,7 @@ pub ends-none : (line : List ℕ) (n : ℕ) → n ≡ 0 → false ≡ endsBlank 
 unfolding endsBlank
 ends-none line n e = rw e refl
 
+-- a part of a line that is not empty ends with a blank if its last byte is one
 pub ends-some : (line : List ℕ) (n : ℕ) → (n ≡ 0 → ⊥) → blank (getD line (n - 1) 0) ≡ endsBlank line n
 unfolding endsBlank
 ends-some line n e = rw (lt-ltb 0 n (omega arith)) refl
@@ -43,10 +43,12 @@ last-byte line n h l =
     let e : n ≡ suc (n - 1) = omega arith in
     ap (λ (k : ℕ). take k line) e ∙ take-suc line (n - 1) 0 (omega arith)
 
+-- a part that ends with a blank is not empty
 pub ends-positive : (line : List ℕ) (n : ℕ) → endsBlank line n ≡ true → 0 < n
 unfolding endsBlank
 ends-positive line n e = ltb-true 0 n (both (ltb 0 n) (blank (getD line (n - 1) 0)) e .0)
 
+-- leaving out a blank at the end does not change the trimmed line
 pub trim-more : (line : List ℕ) (n : ℕ) → n ≤ length line → endsBlank line n ≡ true → trimmed (take n line) ≡ trimmed line → trimmed (take (n - 1) line) ≡ trimmed line
 unfolding endsBlank
 trim-more line n l e t =
@@ -67,29 +69,35 @@ trimmed-whole line n l e = go (lt-or-ge 0 n)
     go (inl h) = rw (last-byte line n h l) (trimmed-solid (take (n - 1) line) (getD line (n - 1) 0) (solid line n h e))
     go (inr h) = nothing-trimmed line n h
 
+-- a part that does not end with a blank is the trimmed line
 pub trim-done : (line : List ℕ) (n : ℕ) → n ≤ length line → endsBlank line n ≡ false → trimmed (take n line) ≡ trimmed line → take n line ≡ trimmed line
 trim-done line n l e t = sym (trimmed-whole line n l e) ∙ t
 
 -- the byte order mark, byte by byte
 module _ (text : List ℕ) where
+  -- a text of fewer than three bytes has no mark
   pub mark-short : length text < 3 → 0 ≡ markLength text
   unfolding markLength
   mark-short h =
       let z : getD text 2 0 ≡ 0 = List·getD-eq-default text 0 (omega arith) in
       rw (z, and-false (eqb (getD text 1 0) 187), and-false (eqb (getD text 0 0) 239)) refl
 
+  -- a text without the first byte of the mark has no mark
   pub mark-first : (getD text 0 0 ≡ 239 → ⊥) → 0 ≡ markLength text
   unfolding markLength
   mark-first e = rw (ne-eqb (getD text 0 0) 239 e) refl
 
+  -- a text without the second byte of the mark has no mark
   pub mark-second : (getD text 1 0 ≡ 187 → ⊥) → 0 ≡ markLength text
   unfolding markLength
   mark-second e = rw (ne-eqb (getD text 1 0) 187 e, and-false (eqb (getD text 0 0) 239)) refl
 
+  -- a text without the third byte of the mark has no mark
   pub mark-third : (getD text 2 0 ≡ 191 → ⊥) → 0 ≡ markLength text
   unfolding markLength
   mark-third e = rw (ne-eqb (getD text 2 0) 191 e, and-false (eqb (getD text 1 0) 187), and-false (eqb (getD text 0 0) 239)) refl
 
+  -- a text that begins with the three bytes of the mark has a mark of length 3
   pub mark-whole : getD text 0 0 ≡ 239 → getD text 1 0 ≡ 187 → getD text 2 0 ≡ 191 → 3 ≡ markLength text
   unfolding markLength
   mark-whole a b c = rw (a, b, c) refl

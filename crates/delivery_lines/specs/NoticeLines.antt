@@ -1,30 +1,34 @@
--- A line of `notices.txt`, the text of what the exchange and the calendar brought since the opening, and what it says (docs/DELIVERY.md, Form, from which the quotations are).
+-- A line of `notices.txt`, the text of what the exchange and the calendar brought since the opening, and what it says
+-- (docs/DELIVERY.md, Form, from which the quotations are).
 -- Assumes nothing.
 use Prim.Native.Nat.{ℕ, _+_, _-_, _*_}
 use mathlib.Core.Bool.{Bool, true, _&&_, _||_, cond}
 use mathlib.Core.List.{List, [], _∷_}
-use lib.Dec.{leb, ltb, eqb}
+use lib.Dec.{leb, eqb}
 use lib.ListN.{getD, length, take, drop, replicate}
 use Rattle.questions.specs.Search.{every}
 use Rattle.product.specs.Fields.{digit, idCharacter}
 use Rattle.history.specs.Book.{Call, roll, close, reopen, measure}
-use Rattle.lines.specs.declared.Command.{Command}
-use Rattle.lines.specs.Lines.{digitValue}
-use Rattle.entries.specs.declared.NumberRead.{NumberRead}
-use Rattle.entries.specs.Entries.{wordAt, noNumber, pointed, partRead, letterForm, idBytes}
-use Rattle.vendor_lines.specs.Lines.{dateIn}
+use Rattle.session_lines.specs.declared.Command.{Command}
+use Rattle.session_lines.specs.CommandLines.{digitValue}
+use Rattle.file_text_lines.specs.declared.NumberRead.{NumberRead}
+use Rattle.file_text_lines.specs.Entries.{wordAt, noNumber, pointed, partRead, letterForm, idBytes}
+use Rattle.confirm_lines.specs.ListingLines.{dateIn}
 use Rattle.delivery_lines.specs.declared.NoticeLine.{NoticeLine}
 
--- 'Spaces, tabs and carriage returns': 32, 9 and 13
+-- 'Spaces, tabs and carriage returns':
+-- 32, 9 and 13
 abbrev pub blank : ℕ → Bool
 blank byte = eqb byte 32 || (eqb byte 9 || eqb byte 13)
 
--- '.. at its end play no part': a line without them
+-- '.. at its end play no part':
+-- a line without them
 unfoldable pub trimmed : List ℕ → List ℕ
 trimmed [] = []
 trimmed (byte ∷ rest) = cond (blank byte && eqb (length (trimmed rest)) 0) [] (byte ∷ trimmed rest)
 
--- 'nor does one byte order mark before the first line': how many bytes of a text are one, 239, 187 and 191 at its start
+-- 'nor does one byte order mark before the first line':
+-- how many bytes of a text are one, 239, 187 and 191 at its start
 unfoldable pub markLength : List ℕ → ℕ
 markLength text = cond (eqb (getD text 0 0) 239 && (eqb (getD text 1 0) 187 && eqb (getD text 2 0) 191)) 3 0
 
@@ -46,11 +50,13 @@ unfoldable pub valueFrom : ℕ → List ℕ → ℕ
 valueFrom value [] = value
 valueFrom value (byte ∷ rest) = valueFrom (10 * value + digitValue byte) rest
 
--- the number that a word is, however large: 'never cut'
+-- 'never cut':
+-- the number that a word is, however large
 unfoldable pub valueOf : List ℕ → ℕ
 valueOf word = valueFrom 0 word
 
--- the word before 'a point and exactly four digits'; all of a word without them
+-- 'a point and exactly four digits':
+-- the word before them; all of a word without them
 unfoldable pub wholeWord : List ℕ → List ℕ
 wholeWord word = cond (pointed word) (take (length word - 5) word) word
 
@@ -76,7 +82,8 @@ pub data Said : Type 0 where
 abbrev pub noId : List ℕ
 noId = replicate 4 0
 
--- 'O 2008-03-20', 'R 2008-03-21', 'C 2008-04-18', 'E 2008-04-18': the letter, 79, 82, 67 or 69, and the date; 'Dates .. as in `terms`; a date that 23 refuses makes another line'
+-- 'O 2008-03-20', 'R 2008-03-21', 'C 2008-04-18', 'E 2008-04-18'; 'Dates .. as in `terms`; a date that 23 refuses makes another line':
+-- the letter, 79, 82, 67 or 69, and the date
 unfoldable pub daySaid : ℕ → Command → Said
 daySaid letter date =
     cond (eqb (date .letter) 0) bad
@@ -90,14 +97,16 @@ unfoldable pub measureWords : List ℕ → Bool
 measureWords line =
     isId (wordAt line 1) && (isNumber (wordAt line 2) && (isNumber (wordAt line 3) && isPrice (wordAt line 4)))
 
--- 'M AXA 3 2 12.3400', 'a measure on one product: 3 for 2 at the settlement price 12.3400'; its letter is 77
+-- 'M AXA 3 2 12.3400', 'a measure on one product: 3 for 2 at the settlement price 12.3400';
+-- its letter is 77
 unfoldable pub measureSaid : List ℕ → Said
 measureSaid line =
     cond (eqb (getD line 0 0) 77 && measureWords line)
     (notice (measure (valueOf (wordAt line 2)) (valueOf (wordAt line 3)) (priceOf (wordAt line 4))) (idBytes (wordAt line 1)))
     bad
 
--- what the words of a line say: 'Words are parted by single spaces'; two with a date, five with a measure
+-- 'Words are parted by single spaces':
+-- what the words of a line say; two with a date, five with a measure
 unfoldable pub wordsSaid : List ℕ → Said
 wordsSaid line =
     cond (letterForm line 2) (daySaid (getD line 0 0) (dateIn (wordAt line 1)))
@@ -115,7 +124,9 @@ trimmedSaid line = cond (saysNothing line) nothing (wordsSaid line)
 abbrev pub saidBy : List ℕ → Said
 saidBy line = trimmedSaid (trimmed line)
 
--- only the code needs it: a number as it is held. 'one that is too large for its call is refused by its question (28, 19, 22)': each of them refuses 1,000,000,000 and every larger number, so these are held as one
+-- 'one that is too large for its call is refused by its question (28, 19, 22)';
+-- only the code needs it: a number as it is held.
+-- Each of these questions refuses 1,000,000,000 and every larger number, so those are held as one
 unfoldable pub held : ℕ → ℕ
 held n = cond (leb n 1000000000) n 1000000000
 
@@ -132,20 +143,20 @@ abbrev pub dateLetter : ℕ → Bool
 dateLetter letter = eqb letter 79 || (eqb letter 82 || (eqb letter 67 || eqb letter 69))
 
 -- only the code needs it: a line with a letter, a day and an id
-abbrev pub callHeld : ℕ → ℕ → List ℕ → NoticeLine
-callHeld letter day id = record { letter = letter; day = day; id = id; p = 0; q = 0; price = 0 }
+abbrev pub callLineHeld : ℕ → ℕ → List ℕ → NoticeLine
+callLineHeld letter day id = record { letter = letter; day = day; id = id; p = 0; q = 0; price = 0 }
 
 -- only the code needs it: a line with a letter and a day
-abbrev pub dayHeld : ℕ → ℕ → NoticeLine
-dayHeld letter day = callHeld letter day noId
+abbrev pub dayLineHeld : ℕ → ℕ → NoticeLine
+dayLineHeld letter day = callLineHeld letter day noId
 
 -- only the code needs it: what a line says, as it is held: its letter, # of one that says nothing and 0 of a bad one, with what its call takes
 unfoldable pub lineHeld : Said → NoticeLine
-lineHeld nothing = dayHeld 35 0
-lineHeld bad = dayHeld 0 0
-lineHeld (opening day) = dayHeld 79 day
-lineHeld (notice (roll day) id) = callHeld 82 day id
-lineHeld (notice (close day) id) = callHeld 67 day id
-lineHeld (notice (reopen day) id) = callHeld 69 day id
+lineHeld nothing = dayLineHeld 35 0
+lineHeld bad = dayLineHeld 0 0
+lineHeld (opening day) = dayLineHeld 79 day
+lineHeld (notice (roll day) id) = callLineHeld 82 day id
+lineHeld (notice (close day) id) = callLineHeld 67 day id
+lineHeld (notice (reopen day) id) = callLineHeld 69 day id
 lineHeld (notice (measure p q price) id) =
     record { letter = 77; day = 0; id = id; p = held p; q = held q; price = held price }

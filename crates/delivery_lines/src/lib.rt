@@ -1,14 +1,15 @@
 // A line of `notices.txt`, and the words of which lines of a delivery are made.
-use entries::NumberRead;
-use lines::Command;
+use file_text_lines::NumberRead;
+use session_lines::Command;
 ghost use mathlib.Core.Path.{_≡_};
 ghost use Prim.Native.Nat.{_+_, _*_, _≤_};
 ghost use lib.ListN.{getD, length, take};
-ghost use Rattle.entries.specs.Entries.{wordAt, idBytes};
-ghost use Rattle.delivery_lines.specs.NoticeLines.{blank, trimmed, markLength, held, numberHeld, wholeWord, priceHeld, isId, dateLetter, dayHeld, daySaid, measureSaid, wordsSaid, trimmedSaid, saidBy, lineHeld};
+ghost use Rattle.file_text_lines.specs.Entries.{wordAt, idBytes};
+ghost use Rattle.delivery_lines.specs.NoticeLines.{blank, trimmed, markLength, held, numberHeld, wholeWord, priceHeld, isId, dateLetter, dayLineHeld, daySaid, measureSaid, wordsSaid, trimmedSaid, saidBy, lineHeld};
 ghost use Rattle.delivery_lines.specs.Ends.{endsBlank};
 
-// A line: the letter O, R, C, E or M, the day of the first four, the id, p, q and the price of an M. A line that says nothing has the letter #, a bad one 0. Numbers of 1,000,000,000 and more are held as that.
+// A line: the letter O, R, C, E or M, the day of the first four, the id, p, q and the price of an M.
+// A line that says nothing has the letter #, a bad one 0. Numbers of 1,000,000,000 and more are held as that.
 pub struct NoticeLine {
     pub letter: u8,
     pub day: u16,
@@ -67,7 +68,7 @@ pub fn mark_length(text: &[u8]) -> usize
 }
 
 // A number with one digit more; 1,000,000,000 for every number that is larger.
-fn with_digit(value: u32, digit: u16) -> u32
+fn digit_more(value: u32, digit: u16) -> u32
     requires { ⌜ (value ≤ 1000000000) × (digit ≤ 9) ⌝ }
     ensures { λ r. ⌜ r ≡ held (10 * value + digit) ⌝ }
 {
@@ -95,7 +96,7 @@ pub fn read_number(word: &[u8]) -> NumberRead
         if !product::is_digit(word[i]) {
             return none;
         }
-        value = with_digit(value, lines::digit_value(word[i]));
+        value = digit_more(value, session_lines::digit_value(word[i]));
         i += 1;
     }
     NumberRead { there: true, value }
@@ -105,7 +106,7 @@ pub fn read_number(word: &[u8]) -> NumberRead
 fn read_whole(word: &[u8]) -> NumberRead
     ensures { λ r. ⌜ r ≡ numberHeld (wholeWord (now (word .entry))) ⌝ }
 {
-    if entries::is_pointed(word) {
+    if file_text_lines::is_pointed(word) {
         let end = word.len() - 5;
         return read_number(&word[..end]);
     }
@@ -117,7 +118,7 @@ pub fn read_price(word: &[u8]) -> NumberRead
     ensures { λ r. ⌜ r ≡ priceHeld (now (word .entry)) ⌝ }
 {
     let whole = read_whole(word);
-    let part = entries::part_read(word);
+    let part = file_text_lines::part_read(word);
     if !(whole.there & part.there) {
         return NumberRead {
             there: false,
@@ -160,33 +161,33 @@ pub fn is_id(word: &[u8]) -> bool
 pub fn number_in(line: &[u8], k: usize) -> NumberRead
     ensures { λ r. ⌜ r ≡ numberHeld (wordAt (now (line .entry)) k) ⌝ }
 {
-    read_number(entries::word_at(line, k))
+    read_number(file_text_lines::word_at(line, k))
 }
 
 // The price that word k of a line is.
 pub fn price_in(line: &[u8], k: usize) -> NumberRead
     ensures { λ r. ⌜ r ≡ priceHeld (wordAt (now (line .entry)) k) ⌝ }
 {
-    read_price(entries::word_at(line, k))
+    read_price(file_text_lines::word_at(line, k))
 }
 
 // Whether word k of a line is an id.
 pub fn is_id_in(line: &[u8], k: usize) -> bool
     ensures { λ r. ⌜ r ≡ isId (wordAt (now (line .entry)) k) ⌝ }
 {
-    is_id(entries::word_at(line, k))
+    is_id(file_text_lines::word_at(line, k))
 }
 
 // The four bytes of the id that word k of a line is.
-pub fn id_in(line: &[u8], k: usize) -> records::FourBytes
+pub fn id_word(line: &[u8], k: usize) -> file_records::FourBytes
     ensures { λ r. ⌜ r ≡ idBytes (wordAt (now (line .entry)) k) ⌝ }
 {
-    entries::id_bytes(entries::word_at(line, k))
+    file_text_lines::id_bytes(file_text_lines::word_at(line, k))
 }
 
 // A line with a letter and a day.
-fn day_held(letter: u8, day: u16) -> NoticeLine
-    ensures { λ r. ⌜ r ≡ dayHeld letter day ⌝ }
+fn notice_day_held(letter: u8, day: u16) -> NoticeLine
+    ensures { λ r. ⌜ r ≡ dayLineHeld letter day ⌝ }
 {
     NoticeLine {
         letter,
@@ -206,35 +207,35 @@ fn is_date_letter(letter: u8) -> bool
 }
 
 // A line of a letter and a date, or a bad one.
-fn day_line(letter: u8, date: Command) -> NoticeLine
+fn day_notice(letter: u8, date: Command) -> NoticeLine
     ensures { λ r. ⌜ r ≡ lineHeld (daySaid letter date) ⌝ }
 {
     if date.letter == 0 {
-        return day_held(0, 0);
+        return notice_day_held(0, 0);
     }
     if !is_date_letter(letter) {
-        return day_held(0, 0);
+        return notice_day_held(0, 0);
     }
-    day_held(letter, date.day)
+    notice_day_held(letter, date.day)
 }
 
 // A measure or a bad line.
 fn measure_line(line: &[u8]) -> NoticeLine
     ensures { λ r. ⌜ r ≡ lineHeld (measureSaid (now (line .entry))) ⌝ }
 {
-    if blocks::byte_at(line, 0) != b'M' {
-        return day_held(0, 0);
+    if file_blocks::byte_at(line, 0) != b'M' {
+        return notice_day_held(0, 0);
     }
     if !is_id_in(line, 1) {
-        return day_held(0, 0);
+        return notice_day_held(0, 0);
     }
     let p = number_in(line, 2);
     let q = number_in(line, 3);
     let price = price_in(line, 4);
     if !(p.there & (q.there & price.there)) {
-        return day_held(0, 0);
+        return notice_day_held(0, 0);
     }
-    let id = id_in(line, 1);
+    let id = id_word(line, 1);
     NoticeLine {
         letter: b'M',
         day: 0,
@@ -249,14 +250,14 @@ fn measure_line(line: &[u8]) -> NoticeLine
 fn words_line(line: &[u8]) -> NoticeLine
     ensures { λ r. ⌜ r ≡ lineHeld (wordsSaid (now (line .entry))) ⌝ }
 {
-    if entries::is_letter_form(line, 2) {
-        let date = vendor_lines::date_in(entries::word_at(line, 1));
-        return day_line(blocks::byte_at(line, 0), date);
+    if file_text_lines::is_letter_form(line, 2) {
+        let date = confirm_lines::date_in(file_text_lines::word_at(line, 1));
+        return day_notice(file_blocks::byte_at(line, 0), date);
     }
-    if entries::is_letter_form(line, 5) {
+    if file_text_lines::is_letter_form(line, 5) {
         return measure_line(line);
     }
-    day_held(0, 0)
+    notice_day_held(0, 0)
 }
 
 // What a line without blanks at its end says.
@@ -264,10 +265,10 @@ fn trimmed_line(line: &[u8]) -> NoticeLine
     ensures { λ r. ⌜ r ≡ lineHeld (trimmedSaid (now (line .entry))) ⌝ }
 {
     if line.len() == 0 {
-        return day_held(b'#', 0);
+        return notice_day_held(b'#', 0);
     }
     if line[0] == b'#' {
-        return day_held(b'#', 0);
+        return notice_day_held(b'#', 0);
     }
     words_line(line)
 }

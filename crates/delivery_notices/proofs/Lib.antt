@@ -1,3 +1,3 @@
-pub mod Storing
-pub mod Ends
-pub mod Taking
+pub mod NoticesStored
+pub mod NoticeEnds
+pub mod NoticesSoFar

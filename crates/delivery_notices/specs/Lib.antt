@@ -1,3 +1,3 @@
 pub mod Notices
-pub mod Lists
-pub mod Reading
+pub mod NoticeLists
+pub mod NoticeReading

@@ -1,4 +1,5 @@
--- A text of notices, `notices.txt`: the opening and the calls that it says, each with the number of its line (docs/DELIVERY.md, The state, Form, from which the quotations are).
+-- A text of notices, `notices.txt`: the opening and the calls that it says, each with the number of its line
+-- (docs/DELIVERY.md, The state, Form, from which the quotations are).
 -- Assumes nothing.
 use Prim.Native.Nat.{ℕ, _+_}
 use mathlib.Core.Bool.{Bool, _&&_, cond}
@@ -6,16 +7,18 @@ use mathlib.Core.List.{List, [], _∷_, _++_}
 use lib.Dec.{eqb, ltb}
 use lib.ListN.{length, take}
 use Rattle.history.specs.Book.{Call}
-use Rattle.lines.specs.Lines.{linesFrom}
+use Rattle.session_lines.specs.CommandLines.{linesFrom}
 use Rattle.delivery_lines.specs.NoticeLines.{Said, nothing, bad, opening, notice, saidBy, unmarked}
 
--- a notice: 'what the exchange and the calendar brought since', the number of its line from 1, its call, and the id of a measure's product
+-- 'what the exchange and the calendar brought since',
+-- a notice: the number of its line from 1, its call, and the id of a measure's product
 pub record Notice : Type 0 where
   pub line : ℕ
   pub call : Call
   pub id : List ℕ
 
--- what the lines so far say: the number of the line of the `O`, 0 before it, and its date; the notices, 'oldest first'; how many lines there were up to the first bad one; and the number of that one, 0 where there is none
+-- what the lines so far say: the number of the line of the `O`, 0 before it, and its date; the notices, 'oldest first';
+-- how many lines there were up to the first bad one; and the number of that one, 0 where there is none
 pub record Told : Type 0 where
   pub opened : ℕ
   pub date : ℕ
@@ -27,7 +30,8 @@ pub record Told : Type 0 where
 unfoldable pub nothingTold : Told
 nothingTold = record { opened = 0; date = 0; notices = []; lines = 0; bad = 0 }
 
--- after a bad line: 'The first bad line is told .. K its number from 1'
+-- 'The first bad line is told .. K its number from 1':
+-- after a bad line
 unfoldable pub badTold : Told → Told
 badTold t = record { opened = t .opened; date = t .date; notices = t .notices; lines = t .lines + 1; bad = t .lines + 1 }
 
@@ -35,7 +39,8 @@ badTold t = record { opened = t .opened; date = t .date; notices = t .notices; l
 abbrev pub goodTold : Told → ℕ → ℕ → List Notice → Told
 goodTold t opened date notices = record { opened = opened; date = date; notices = notices; lines = t .lines + 1; bad = 0 }
 
--- after a line that says something or nothing: 'The first line that says something is the only `O`'
+-- 'The first line that says something is the only `O`':
+-- after a line that says something or nothing
 unfoldable pub saidTold : Told → Said → Told
 saidTold t nothing = goodTold t (t .opened) (t .date) (t .notices)
 saidTold t bad = badTold t
@@ -58,6 +63,8 @@ linesTold long t (line ∷ lines) =
 unfoldable pub wholeTold : Told → Told
 wholeTold t = cond (eqb (t .opened) 0) (nextTold t bad) t
 
--- 'At most 65,536 bytes, the mark included; beyond that the line that holds byte 65,537 is bad': it is the last of the lines of the first 65,537 bytes. 'A line ends with a line feed or with the text'
+-- 'A line ends with a line feed or with the text';
+-- 'At most 65,536 bytes, the mark included; beyond that the line that holds byte 65,537 is bad':
+-- it is the last of the lines of the first 65,537 bytes
 unfoldable pub textTold : List ℕ → Told
 textTold text = wholeTold (linesTold (ltb 65536 (length text)) nothingTold (linesFrom [] (unmarked (take 65537 text))))

@@ -4,14 +4,15 @@ ghost use mathlib.Core.Path.{_≡_};
 ghost use mathlib.Core.Bool.{true};
 ghost use Prim.Native.Nat.{_+_, _*_, _≤_, _<_};
 ghost use lib.ListN.{length, set, take};
-ghost use Rattle.sessions.specs.Parts.{LineEnd};
+ghost use Rattle.session_parts.specs.TermsParts.{LineEndsAt};
 ghost use Rattle.delivery_lines.specs.NoticeLines.{Said, bad, saidBy, lineHeld};
 ghost use Rattle.delivery_notices.specs.Notices.{nothingTold, linesTold};
-ghost use Rattle.delivery_notices.specs.Lists.{kindIn, firstIn, StoredIn, listsFit, TextIn};
-ghost use Rattle.delivery_notices.specs.Reading.{nothingTaken, badTaken, mayStand, wholeTaken, readLength, SaidIn, LineTaken, LinesIn};
+ghost use Rattle.delivery_notices.specs.NoticeLists.{kindIn, firstIn, StoredIn, listsFit, TextIn};
+ghost use Rattle.delivery_notices.specs.NoticeReading.{noNoticesTaken, badTaken, mayStand, wholeTaken, readLength, SaidIn, LineTaken, NoticeLinesIn};
 
-// What the lines so far say: whether the lists have room, the number of the line of the O, 0 before it, and its date, how many notices stand in the lists, how many lines there were up to the first bad one, and the number of that one, 0 where there is none.
-pub struct Taken {
+// What the lines so far say: whether the lists have room, the number of the line of the O, 0 before it, and its date,
+// how many notices stand in the lists, how many lines there were up to the first bad one, and the number of that one, 0 where there is none.
+pub struct NoticesTaken {
     pub fits: bool,
     pub opened: u32,
     pub date: u16,
@@ -91,7 +92,7 @@ fn store_notice(line: u32, n: NoticeLine, i: usize, calls: &mut [u32], ids: &mut
 }
 
 // After a bad line.
-fn bad_taken(t: Taken) -> Taken
+fn bad_taken(t: NoticesTaken) -> NoticesTaken
     requires { ⌜ t .lines ≤ 65538 ⌝ }
     ensures { λ r. ⌜ r ≡ badTaken t ⌝ }
 {
@@ -112,7 +113,7 @@ fn may_stand(letter: u8, opened: u32) -> bool
 }
 
 // After a line, by what it says.
-fn take_said(t: Taken, n: NoticeLine, calls: &mut [u32], ids: &mut [u8]) -> Taken
+fn take_said(t: NoticesTaken, n: NoticeLine, calls: &mut [u32], ids: &mut [u8]) -> NoticesTaken
     requires { ⌜ (t .lines ≤ 65538) × (t .count ≤ 6553) × (t .bad ≡ 0) × (5 * t .count + 5 ≤ length (now calls)) × (4 * t .count + 4 ≤ length (now ids)) ⌝ }
     ensures { λ r. ⌜ SaidIn t n (now (calls .entry)) (now (calls .exit)) (now (ids .entry)) (now (ids .exit)) r ⌝ }
 {
@@ -139,7 +140,13 @@ fn take_said(t: Taken, n: NoticeLine, calls: &mut [u32], ids: &mut [u8]) -> Take
 }
 
 // After a line; after a bad one nothing more is taken. A line that is cut is bad whatever it says.
-fn take_line(t: Taken, line: &[u8], cut: bool, calls: &mut [u32], ids: &mut [u8]) -> Taken
+fn take_line(
+    t: NoticesTaken,
+    line: &[u8],
+    cut: bool,
+    calls: &mut [u32],
+    ids: &mut [u8],
+) -> NoticesTaken
     requires { ⌜ (t .lines ≤ 65538) × (t .count ≤ 6553) × (5 * t .count + 5 ≤ length (now calls)) × (4 * t .count + 4 ≤ length (now ids)) ⌝ }
     ensures { λ r. ⌜ LineTaken t (now (line .entry)) cut (now (calls .entry)) (now (calls .exit)) (now (ids .entry)) (now (ids .exit)) r ⌝ }
 {
@@ -155,7 +162,7 @@ fn take_line(t: Taken, line: &[u8], cut: bool, calls: &mut [u32], ids: &mut [u8]
 // The place of the first line feed from a place on, or the text's end.
 fn line_end(text: &[u8], from: usize) -> usize
     requires { ⌜ from ≤ length (now text) ⌝ }
-    ensures { λ r. ⌜ LineEnd (now (text .entry)) from r ⌝ }
+    ensures { λ r. ⌜ LineEndsAt (now (text .entry)) from r ⌝ }
 {
     let mut i = from;
     while i < text.len() {
@@ -168,10 +175,10 @@ fn line_end(text: &[u8], from: usize) -> usize
 }
 
 // Before the first line.
-fn nothing_taken(fits: bool) -> Taken
-    ensures { λ r. ⌜ r ≡ nothingTaken fits ⌝ }
+fn no_notices_taken(fits: bool) -> NoticesTaken
+    ensures { λ r. ⌜ r ≡ noNoticesTaken fits ⌝ }
 {
-    Taken {
+    NoticesTaken {
         fits,
         opened: 0,
         date: 0,
@@ -182,11 +189,11 @@ fn nothing_taken(fits: bool) -> Taken
 }
 
 // All lines of a text; where it is too long, its last line is bad.
-fn read_lines(text: &[u8], long: bool, calls: &mut [u32], ids: &mut [u8]) -> Taken
+fn read_lines(text: &[u8], long: bool, calls: &mut [u32], ids: &mut [u8]) -> NoticesTaken
     requires { ⌜ (length (now text) ≤ 65537) × (32770 ≤ length (now calls)) × (26216 ≤ length (now ids)) ⌝ }
-    ensures { λ r. ⌜ LinesIn (now (text .entry)) long (now (calls .entry)) (now (calls .exit)) (now (ids .entry)) (now (ids .exit)) r ⌝ }
+    ensures { λ r. ⌜ NoticeLinesIn (now (text .entry)) long (now (calls .entry)) (now (calls .exit)) (now (ids .entry)) (now (ids .exit)) r ⌝ }
 {
-    let mut t = nothing_taken(true);
+    let mut t = no_notices_taken(true);
     let mut from: usize = 0;
     while from < text.len() {
         let end = line_end(text, from);
@@ -198,7 +205,7 @@ fn read_lines(text: &[u8], long: bool, calls: &mut [u32], ids: &mut [u8]) -> Tak
 }
 
 // The end of a text: without an O a line is missing.
-fn whole_taken(t: Taken) -> Taken
+fn whole_taken(t: NoticesTaken) -> NoticesTaken
     requires { ⌜ t .lines ≤ 65538 ⌝ }
     ensures { λ r. ⌜ r ≡ wholeTaken t ⌝ }
 {
@@ -228,12 +235,13 @@ fn read_length(n: usize) -> usize
     n
 }
 
-// A text of notices: its date, and its notices in two lent lists, 32,770 numbers and 26,216 bytes or more; or the number of the first bad line. Where a list is shorter nothing is read.
-pub fn read_notices(text: &[u8], calls: &mut [u32], ids: &mut [u8]) -> Taken
+// A text of notices: its date, and its notices in two lent lists, 32,770 numbers and 26,216 bytes or more; or the number of the first bad line.
+// Where a list is shorter nothing is read.
+pub fn read_notices(text: &[u8], calls: &mut [u32], ids: &mut [u8]) -> NoticesTaken
     ensures { λ r. ⌜ TextIn (now (text .entry)) (now (calls .entry)) (now (calls .exit)) (now (ids .entry)) (now (ids .exit)) r ⌝ }
 {
     if !lists_fit(calls.len(), ids.len()) {
-        return nothing_taken(false);
+        return no_notices_taken(false);
     }
     let n = read_length(text.len());
     let part = &text[..n];

@@ -3,7 +3,7 @@
 use mathlib.Core.Path.{_≡_, refl, _∙_}
 use mathlib.Core.List.{List, [], _∷_, _++_}
 use mathlib.Core.Bool.{Bool, true, false, not, _&&_, cond}
-use Prim.Native.Nat.{ℕ, _+_, _-_, _≤_, _<_}
+use Prim.Native.Nat.{ℕ, _+_, _≤_, _<_}
 use native.Mathlib.Nat.{zero-add}
 use native.Mathlib.Omega.{arith}
 use lib.Dec.{eqb, leb}
@@ -11,16 +11,16 @@ use lib.ListN.{length, getD, replicate}
 use borrow.Author.Tests.{ne-eqb}
 use Rattle.questions.specs.Questions.{Answer}
 use Rattle.days.specs.Dates.{monthOf, validDate, dayOf, dayCall}
-use Rattle.days.proofs.Months.{month-most}
+use Rattle.days.proofs.MonthOfDay.{month-most}
 use Rattle.days.proofs.Dates.{valid-facts, day-fits, day-accepted, day-refused}
-use Rattle.master.specs.Products.{sameId}
-use Rattle.lines.specs.declared.Command.{Command}
-use Rattle.lines.specs.declared.DateRead.{DateRead}
-use Rattle.lines.specs.Lines.{linesFrom, yearAt, twoValue, noDateRead, dateForm, dateAt, otherLine, moveForm, moveCommand, commandAt, commandOf}
-use Rattle.entries.specs.declared.NumberRead.{NumberRead}
-use Rattle.entries.specs.Entries.{numberOf, idBytes}
-use Rattle.vendor.specs.Vendor.{times, Short}
-use Rattle.vendor_lines.specs.Lines.{dateIn, monthIn}
+use Rattle.file_load.specs.Products.{sameId}
+use Rattle.session_lines.specs.declared.Command.{Command}
+use Rattle.session_lines.specs.declared.DateRead.{DateRead}
+use Rattle.session_lines.specs.CommandLines.{linesFrom, yearAt, twoValue, noDateRead, dateForm, dateAt, otherLine, moveForm, moveCommand, commandAt, commandOf}
+use Rattle.file_text_lines.specs.declared.NumberRead.{NumberRead}
+use Rattle.file_text_lines.specs.Entries.{wordNumber, idBytes}
+use Rattle.table_vendor.specs.Vendor.{times, Short}
+use Rattle.confirm_lines.specs.ListingLines.{dateIn, monthIn}
 use Rattle.delivery_lines.specs.NoticeLines.{trimmed, unmarked, isId}
 use Rattle.delivery_items.specs.declared.ItemRead.{ItemRead}
 use Rattle.delivery_items.specs.Items.{fieldsOf, fieldAt, noItem, maturityRead, keyRead, shortItem, fullItem, fieldsItem, itemOf, lineRead}
@@ -61,10 +61,6 @@ move-below line n = go (moveForm line n && dateAt line 2 .there)
 day-below : (word : List ℕ) → dateIn word .day < 36525
 unfolding dateIn commandOf commandAt
 day-below word = move-below (λ i. getD (82 ∷ 32 ∷ word) i 0) (length (82 ∷ 32 ∷ word))
-
-month-below : (word : List ℕ) → monthIn word .day < 36525
-unfolding monthIn
-month-below word = day-below (word ++ (45 ∷ 48 ∷ 49 ∷ []))
 
 key-below : (name : List ℕ) → keyRead name (maturityRead name .day) < 65536
 unfolding keyRead maturityRead
@@ -122,12 +118,12 @@ fields-below text = go (eqb (length (fieldsOf text)) 3) (eqb (length (fieldsOf t
     three = shortItem (fieldAt text 0) (fieldAt text 1) (fieldAt text 2)
 
     five : ItemRead
-    five = fullItem (shortItem (fieldAt text 0) (fieldAt text 2) (fieldAt text 3)) (numberOf (fieldAt text 1) 65535) (numberOf (fieldAt text 4) 65535)
+    five = fullItem (shortItem (fieldAt text 0) (fieldAt text 2) (fieldAt text 3)) (wordNumber (fieldAt text 1) 65535) (wordNumber (fieldAt text 4) 65535)
 
     go : (a b : Bool) → cond {A = ItemRead} a three (cond b five noItem) .key < 65536
     go true b = short-below (fieldAt text 0) (fieldAt text 1) (fieldAt text 2)
     go false true =
-        full-below (shortItem (fieldAt text 0) (fieldAt text 2) (fieldAt text 3)) (numberOf (fieldAt text 1) 65535) (numberOf (fieldAt text 4) 65535)
+        full-below (shortItem (fieldAt text 0) (fieldAt text 2) (fieldAt text 3)) (wordNumber (fieldAt text 1) 65535) (wordNumber (fieldAt text 4) 65535)
         (short-below (fieldAt text 0) (fieldAt text 2) (fieldAt text 3))
     go false false = omega arith
 
@@ -180,5 +176,6 @@ none-far id k h (x ∷ xs) (one g a) = go (sameId (x .id) id) (none-far id k h x
     go true e = rw (ne-eqb (x .row .key) k (λ q. omega arith)) (zero-add (times (rowEntries (rowsFor id xs)) k) ∙ e)
     go false e = e
 
+-- the keys of a product's rows in any input are 16-bit numbers
 pub input-short : (f input id : List ℕ) → Short (rowEntries (rowsFor id (receiptOf f input .rows)))
 input-short f input id = record { below = λ k l. none-far id k (omega arith) (receiptOf f input .rows) (receipt-below f input) }

@@ -1,10 +1,10 @@
-pub mod Bytes
-pub mod Words
-pub mod Dates
-mod Lines
-mod Tables
+pub mod RowBytes
+pub mod WordsReadBack
+pub mod DatesReadBack
+mod RowsReadBack
+mod PrintableRows
 pub mod Orders
-mod Places
-mod Receipts
+mod DeliveredPlaces
+mod OwnReceipts
 mod Inputs
 pub mod Own

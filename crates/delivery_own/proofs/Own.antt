@@ -10,23 +10,23 @@ use borrow.Author.Tests.{eq-eqb}
 use Rattle.questions.specs.Questions.{firstNo}
 use Rattle.product.specs.declared.Kind.{Kind}
 use Rattle.listing.specs.declared.Maturity.{Maturity}
-use Rattle.ids.specs.Ids.{placeCount, isRecord, idAt}
-use Rattle.master.specs.Load.{loadAsks}
+use Rattle.file_ids.specs.Ids.{placeCount, isRecord, idAt}
+use Rattle.file_load.specs.Load.{loadAsks}
 use Rattle.table.specs.Table.{listedIn}
 use Rattle.delivery_notices.specs.Notices.{textTold}
 use Rattle.delivery_rows.specs.Delivery.{Row, opensAt}
-use Rattle.delivery_rows.proofs.Rows.{opens-parts}
-use Rattle.delivery_parts.specs.Parts.{deliverText}
+use Rattle.delivery_rows.proofs.RowsOfTables.{opens-parts}
+use Rattle.delivery_parts.specs.PlaceParts.{deliverText}
 use Rattle.delivery_differences.specs.declared.DeliveredRow.{DeliveredRow}
 use Rattle.delivery_differences.specs.Differences.{differsIn, differing, AnyOrder, NothingFound, OfNote12}
 use Rattle.delivery_differences.proofs.Note12.{of-note-12}
-use Rattle.delivery_differences.proofs.Own.{own-table}
+use Rattle.delivery_differences.proofs.OwnRows.{own-table}
 use Rattle.delivery_receipts.specs.Receipts.{receivedOf, receiptOf}
-use Rattle.delivery_reports.specs.Reports.{keysText, linesFrom}
+use Rattle.delivery_reports.specs.Reports.{keysText, reportFrom}
 use Rattle.delivery_own.specs.Own.{itemBack, received, EachBack, underHeading, printedRows, opensIn, tableIn, rowsIn, foundIn, OwnRows, OwnDelivery}
 use Rattle.delivery_own.proofs.Orders.{order-same, order-length, order-map, order-each, order-for}
-use Rattle.delivery_own.proofs.Places.{open-table, each-to, rows-few, own-at, own-among, own-opens, own-closed}
-use Rattle.delivery_own.proofs.Receipts.{all-received}
+use Rattle.delivery_own.proofs.DeliveredPlaces.{open-table, each-to, rows-few, own-at, own-among, own-opens, own-closed}
+use Rattle.delivery_own.proofs.OwnReceipts.{all-received}
 use Rattle.delivery_own.proofs.Inputs.{input-short}
 
 -- ---- where every key is the same there is no line
@@ -36,13 +36,15 @@ module _ (listed : List Maturity) (rows : List DeliveredRow) (s : NothingFound l
   unfolding differsIn
   same-key k = rw (s .same k) refl
 
+  -- where nothing is found, no key differs, from any key on
   pub none-differ : (n from : ℕ) → differing listed rows n from ≡ []
   unfolding differing
   none-differ zero from = refl
   none-differ (suc n) from = rw (same-key from) (none-differ n (suc from))
 
-  pub no-lines : (kind : Kind) (id : List ℕ) (from : ℕ) → linesFrom kind id listed rows from ≡ []
-  unfolding linesFrom keysText
+  -- where nothing is found, there is no line, from any key on
+  pub no-lines : (kind : Kind) (id : List ℕ) (from : ℕ) → reportFrom kind id listed rows from ≡ []
+  unfolding reportFrom keysText
   no-lines kind id from = ap (keysText kind id listed rows) (none-differ (65536 - from) from)
 
 -- ---- any order of the rows
@@ -91,6 +93,7 @@ module _ (f notices : List ℕ) (a : firstNo (loadAsks f) ≡ 0) (rows : List Ro
       empty-order [] u = refl
       empty-order (x ∷ xs) u = absurd (omega (arith, order-length u))
 
+  -- the rows that `deliver` prints, in any order under the heading, are all received, and nothing is found
   pub any-rows : OwnRows f notices rows (underHeading rows)
   any-rows =
       record {
@@ -104,6 +107,7 @@ module _ (f notices : List ℕ) (a : firstNo (loadAsks f) ≡ 0) (rows : List Ro
 
 -- ---- what is printed
 
+-- of an accepted file and notices without a bad line, `deliver` prints the heading and its rows
 pub printed-is : (f notices : List ℕ) → firstNo (loadAsks f) ≡ 0 → textTold notices .bad ≡ 0 → deliverText f notices ≡ underHeading (printedRows f notices)
 unfolding deliverText
 printed-is f notices a b = rw (eq-eqb (firstNo (loadAsks f)) 0 a, eq-eqb (textTold notices .bad) 0 b) refl

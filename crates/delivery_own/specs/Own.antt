@@ -1,4 +1,5 @@
--- A delivery judged by its own notices: what `deliver` prints is read back row by row, and compared with the tables that it was printed from (docs/DELIVERY.md, `deliver`, Rows from elsewhere and What is proved, from which the quotations are).
+-- A delivery judged by its own notices: what `deliver` prints is read back row by row, and compared with the tables that it was printed from
+-- (docs/DELIVERY.md, `deliver`, Rows from elsewhere and What is proved, from which the quotations are).
 -- Assumes nothing.
 use Prim.Native.Nat.{ℕ}
 use mathlib.Core.Path.{_≡_}
@@ -6,17 +7,17 @@ use mathlib.Core.Bool.{true, false}
 use mathlib.Core.List.{List, [], _∷_, _++_, map}
 use Rattle.questions.specs.Questions.{firstNo}
 use Rattle.product.specs.Fields.{isWeekly}
-use Rattle.ids.specs.Ids.{isRecord, idAt}
-use Rattle.master.specs.Load.{loadAsks, found}
+use Rattle.file_ids.specs.Ids.{isRecord, idAt}
+use Rattle.file_load.specs.Load.{loadAsks, found}
 use Rattle.table.specs.declared.Table.{Table}
 use Rattle.table.specs.Table.{listedIn}
-use Rattle.printing.specs.Text.{decimal, dayText, nameText}
-use Rattle.contents.specs.Contents.{idText}
-use Rattle.lines.specs.Lines.{linesFrom}
+use Rattle.session_text.specs.TermsText.{decimal, dayText, nameText}
+use Rattle.file_text_print.specs.Contents.{idText}
+use Rattle.session_lines.specs.CommandLines.{linesFrom}
 use Rattle.delivery_notices.specs.Notices.{textTold}
 use Rattle.delivery_tables.specs.Tables.{tableAfter}
-use Rattle.delivery_rows.specs.Delivery.{Row, rowText, rowsText, headingText, opensAt, delivery}
-use Rattle.delivery_parts.specs.Parts.{deliverText}
+use Rattle.delivery_rows.specs.Delivery.{Row, rowText, rowsText, deliveryHeading, opensAt, delivery}
+use Rattle.delivery_parts.specs.PlaceParts.{deliverText}
 use Rattle.delivery_items.specs.declared.ItemRead.{ItemRead}
 use Rattle.delivery_items.specs.Items.{lineRead}
 use Rattle.delivery_differences.specs.declared.DeliveredRow.{DeliveredRow}
@@ -25,7 +26,8 @@ use Rattle.delivery_receipts.specs.Receipts.{Received, receivedOf, formFits, re
 use Rattle.delivery_receipts.specs.Receiving.{rowsFor}
 use Rattle.delivery_reports.specs.Reports as reports
 
--- 'AXA,2,2008-04,2008-04-18,0': the line of a row, without its line feed
+-- 'AXA,2,2008-04,2008-04-18,0':
+-- the line of a row, without its line feed
 unfoldable pub rowLine : Row → List ℕ
 rowLine r =
     idText (r .id)
@@ -65,9 +67,10 @@ pub data EachBack (f : List ℕ) : List Row → Type 0 where
   none : EachBack f []
   more : {r : Row} {rs : List Row} → ReadBack f r → EachBack f rs → EachBack f (r ∷ rs)
 
--- 'under a heading that is always there', some rows
+-- 'under a heading that is always there',
+-- some rows
 abbrev pub underHeading : List Row → List ℕ
-underHeading rows = headingText ++ rowsText rows
+underHeading rows = deliveryHeading ++ rowsText rows
 
 -- the rows that `deliver` prints of a file after a text of notices
 abbrev pub printedRows : List ℕ → List ℕ → List Row
@@ -85,11 +88,12 @@ tableIn f notices p = tableAfter f (idAt f p) (textTold notices .date) (textTold
 abbrev pub rowsIn : List ℕ → List ℕ → ℕ → List DeliveredRow
 rowsIn f input p = rowsFor (idAt f p) (receiptOf f input .rows)
 
--- the lines that are found of that product: 'One line for a key that differs'
+-- 'One line for a key that differs':
+-- the lines that are found of that product
 abbrev pub foundIn : List ℕ → List ℕ → List ℕ → ℕ → List ℕ
 foundIn f notices input p =
     let t = tableIn f notices p in
-    reports.linesFrom (t .product .kind) (idAt f p) (listedIn t) (rowsIn f input p) 0
+    reports.reportFrom (t .product .kind) (idAt f p) (listedIn t) (rowsIn f input p) 0
 
 -- of a text that has these rows, in this order: all are received, and nothing is found
 pub record OwnRows (f notices : List ℕ) (rows : List Row) (text : List ℕ) : Type 0 where
@@ -109,5 +113,6 @@ pub record OwnDelivery (f notices : List ℕ) : Type 0 where
   pub any : firstNo (loadAsks f) ≡ 0 → (rows : List Row) → AnyOrder (printedRows f notices) rows → OwnRows f notices rows (underHeading rows)
   -- 'what `deliver` prints' itself
   pub own : firstNo (loadAsks f) ≡ 0 → textTold notices .bad ≡ 0 → OwnRows f notices (printedRows f notices) (deliverText f notices)
-  -- 'and finds none of the four only where the rows are a reordering of the fresh listing': of every input
+  -- 'and finds none of the four only where the rows are a reordering of the fresh listing':
+  -- of every input
   pub only : (input : List ℕ) (p : ℕ) → opensIn f notices p → OfNote12 (tableIn f notices p) (rowsIn f input p)

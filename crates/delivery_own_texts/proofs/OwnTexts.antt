@@ -10,18 +10,18 @@ use lib.Dec.{eqb}
 use lib.ListN.{length, length-map}
 use borrow.Author.Tests.{eq-eqb}
 use Rattle.questions.specs.Questions.{firstNo}
-use Rattle.ids.specs.Ids.{placeCount, isRecord, recordCount, idAt}
-use Rattle.master.specs.Load.{loadAsks, found}
+use Rattle.file_ids.specs.Ids.{placeCount, isRecord, recordCount, idAt}
+use Rattle.file_load.specs.Load.{loadAsks, found}
 use Rattle.table.specs.Table.{listedIn, openCall}
-use Rattle.vendor.specs.Vendor.{times}
+use Rattle.table_vendor.specs.Vendor.{times}
 use Rattle.delivery_notices.specs.Notices.{textTold}
 use Rattle.delivery_rows.specs.Delivery.{Row, opensAt}
-use Rattle.delivery_parts.specs.Parts.{partsText}
+use Rattle.delivery_parts.specs.PlaceParts.{partsText}
 use Rattle.delivery_differences.specs.declared.DeliveredRow.{DeliveredRow}
 use Rattle.delivery_differences.specs.Differences.{firstRow, rightOf, whyFrom, whyOf, differing, AnyOrder, NothingFound}
 use Rattle.delivery_reports.specs.Reports.{differencesHeading, keysText}
 use Rattle.delivery_receipts.specs.Receipts.{Received, receivedOf, receiptOf}
-use Rattle.delivery_inputs.specs.Inputs.{badRowsText, counted}
+use Rattle.delivery_inputs.specs.ReconcileInputs.{badRowsText, badsCounted}
 use Rattle.delivery_reconciled.specs.Reconciled.{sumTo, listedAt, keysAt, placeText, idOf, isStranger, strangerText, differencesText, differCount}
 use Rattle.delivery_reconciled.specs.Reconciled.{reconcileText, summaryText, lastText, toldText, reconcileTold}
 use Rattle.delivery_own.specs.Own.{itemBack, received, EachBack, none, more, underHeading, printedRows, tableIn, rowsIn, OwnRows}
@@ -120,9 +120,10 @@ module _ (f notices : List ℕ) (a : firstNo (loadAsks f) ≡ 0) (b : textTold n
   rows-counted = ap length (of-rows .all) ∙ length-map rows (λ (r : Row). receivedOf (itemBack r))
 
   last : lastText (openCall f) f (textTold notices) (receiptOf f (underHeading rows)) ≡ summaryText (recordCount f) (length rows) 0 0
-  unfolding lastText counted
+  unfolding lastText badsCounted
   last = rw (of-rows .over, of-rows .bads, none-counted, rows-counted) refl
 
+  -- `reconcile` finds nothing in the rows under their heading: no line on standard output, 0 differ and 0 bad
   pub finds-nothing : FindsNothing f notices rows (underHeading rows)
   unfolding reconcileText reconcileTold toldText badRowsText
   finds-nothing =

@@ -1,17 +1,17 @@
 -- A text of notices says at most 6,553 of them: a line with a call has nine bytes and a line feed or the text's end.
 -- Assumes nothing.
-use mathlib.Core.Path.{_≡_, refl, _∙_, sym, ap}
+use mathlib.Core.Path.{_≡_, refl, ap}
 use mathlib.Core.Bool.{Bool, true, false, _&&_, cond}
-use mathlib.Core.List.{List, [], _∷_, _++_, map}
-use Prim.Native.Nat.{ℕ, zero, suc, _+_, _*_, _≤_, _<_}
+use mathlib.Core.List.{List, [], _∷_, _++_}
+use Prim.Native.Nat.{ℕ, suc, _+_, _*_, _≤_}
 use native.Mathlib.Omega.{arith}
 use lib.Dec.{eqb, ltb}
-use lib.ListN.{length, take, drop, length-append, length-take, length-drop, length-map}
+use lib.ListN.{length, take, length-append, length-take, length-drop}
 use Rattle.history.specs.Book.{Call, roll, close, reopen, measure}
-use Rattle.lines.specs.Lines.{linesFrom}
+use Rattle.session_lines.specs.CommandLines.{linesFrom}
 use Rattle.delivery_lines.specs.NoticeLines.{Said, nothing, bad, opening, notice, saidBy, lineHeld, markLength, unmarked}
-use Rattle.delivery_lines.proofs.Lengths.{said-long}
-use Rattle.delivery_notices.specs.Notices.{Notice, Told, nothingTold, badTold, saidTold, nextTold, linesTold, wholeTold, textTold}
+use Rattle.delivery_lines.proofs.NoticeLengths.{said-long}
+use Rattle.delivery_notices.specs.Notices.{Told, nothingTold, badTold, saidTold, nextTold, linesTold, wholeTold, textTold}
 
 -- the bytes of some lines, each with its line feed
 unfoldable size : List (List ℕ) → ℕ
@@ -115,6 +115,7 @@ unmarked-few : (text : List ℕ) → length (unmarked text) ≤ length text
 unfolding unmarked
 unmarked-few text = omega (arith, length-drop (markLength text) text)
 
+-- a text says at most 6,553 notices
 pub notices-few : (text : List ℕ) → length (textTold text .notices) ≤ 6553
 unfolding textTold
 notices-few text =

@@ -1,4 +1,4 @@
-pub mod Parts
+pub mod PlaceParts
 pub mod Wholes
 pub mod Next
 pub mod Few

@@ -1,7 +1,7 @@
 -- A text is what comes next of itself, what comes next comes in its parts one after the other, and so do the parts of a numbered row of parts.
 -- Assumes nothing.
 use mathlib.Core.Path.{_≡_, refl, _∙_, sym, ap}
-use mathlib.Core.List.{List, [], _++_}
+use mathlib.Core.List.{List, _++_}
 use mathlib.Core.Logic.{_⊎_, inl, inr}
 use Prim.Native.Nat.{ℕ, zero, suc, _+_, _≤_, _<_}
 use native.Mathlib.Numerals.{add-one}
@@ -9,9 +9,10 @@ use native.Mathlib.Omega.{arith}
 use lib.ListN.{length, take, drop, length-append}
 use lib.Seq.{take-length, take-take, take-add, take-append-seam, drop-append-seam, drop-drop}
 use Rattle.questions.proofs.Bools.{lt-or-ge}
-use Rattle.delivery_parts.specs.Parts.{partsText}
+use Rattle.delivery_parts.specs.PlaceParts.{partsText}
 use Rattle.delivery_parts.specs.Next.{NextOf}
 
+-- a text comes next of itself, from its start
 pub next-whole : (text : List ℕ) → NextOf text 0 text
 next-whole text = record { is = take-length text; within = omega arith }
 
@@ -44,14 +45,17 @@ module _ (text : List ℕ) (at : ℕ) (a b : List ℕ) (n : NextOf text at (a ++
 
 -- ---- numbered parts
 
+-- the first 0 of some numbered parts have no bytes
 pub parts-none : (part : ℕ → List ℕ) → length (partsText part 0) ≡ 0
 unfolding partsText
 parts-none part = refl
 
+-- one more numbered part adds its own length
 pub parts-more : (part : ℕ → List ℕ) (n : ℕ) → length (partsText part (n + 1)) ≡ length (partsText part n) + length (part n)
 unfolding partsText
 parts-more part n = rw (add-one n) (length-append (partsText part n) (part n))
 
+-- each numbered part comes next after the parts before it
 pub next-part : (text : List ℕ) (at : ℕ) (part : ℕ → List ℕ) (p n : ℕ) → p < n → NextOf text at (partsText part n) → NextOf text (at + length (partsText part p)) (part p)
 unfolding partsText
 next-part text at part p zero h x = absurd (omega arith)

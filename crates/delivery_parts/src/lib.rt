@@ -1,11 +1,12 @@
 // A delivery place by place.
-use years::FileCalendar;
+use file_calendar::FileCalendar;
 ghost use mathlib.Core.Path.{_≡_};
-ghost use Rattle.years.specs.Calendars.{calendarAnswer};
+ghost use Rattle.file_calendar.specs.Calendars.{calendarAnswer};
 ghost use Rattle.table.specs.Table.{openIn};
-ghost use Rattle.delivery_parts.specs.Parts.{partFits, noPart, PlaceIn};
+ghost use Rattle.delivery_parts.specs.PlaceParts.{partFits, noPart, PlaceIn};
 
-// What a place gives: whether the buffers have room, whether it holds a record, its product's id, open's refusal, and how many bytes of rows stand in the buffer.
+// What a place gives: whether the buffers have room, whether it holds a record, its product's id, open's refusal,
+// and how many bytes of rows stand in the buffer.
 pub struct PlacePart {
     pub fits: bool,
     pub holds: bool,
@@ -34,7 +35,9 @@ fn no_part(fits: bool) -> PlacePart
     }
 }
 
-// The rows of the product at a place at the start of a lent buffer of 1,024 bytes or more, and the refusals of the first notices of two lists in another, one byte each. The file's verdict by `judge` is at hand. Without room nothing is done.
+// The rows of the product at a place at the start of a lent buffer of 1,024 bytes or more,
+// and the refusals of the first notices of two lists in another, one byte each.
+// The file's verdict by `judge` is at hand. Without room nothing is done.
 pub fn deliver_place(
     file: &[u8],
     judged: FileCalendar,
@@ -51,10 +54,10 @@ pub fn deliver_place(
     if !part_fits(count as usize, refusals.len(), out.len()) {
         return no_part(false);
     }
-    if !ids::is_record(file, place) {
+    if !file_ids::is_record(file, place) {
         return no_part(true);
     }
-    let id = ids::id_at(file, place);
+    let id = file_ids::id_at(file, place);
     let d = delivery_tables::deliver(file, judged, id, date, calls, ids, count, refusals);
     let refusal = d.refusal;
     if refusal != 0 {

@@ -1,2 +1,2 @@
-pub mod Places
-pub mod Finding
+pub mod ProductPlaces
+pub mod IdFound

@@ -1,8 +1,8 @@
 // The products of a master file, place by place.
 use product::Product;
 ghost use mathlib.Core.Path.{_≡_};
-ghost use Rattle.master.specs.Products.{sameId};
-ghost use Rattle.delivery_products.specs.Products.{noProduct, placeCall, placeAnswer};
+ghost use Rattle.file_load.specs.Products.{sameId};
+ghost use Rattle.delivery_products.specs.ProductsByPlace.{noProduct, placeCall, placeAnswer};
 
 // The refusal, 0 where the place holds a record, and the record's product, zeros with a refusal.
 pub struct PlaceProduct {
@@ -14,7 +14,7 @@ pub struct PlaceProduct {
 fn no_product(number: u8) -> PlaceProduct
     ensures { λ r. ⌜ r ≡ noProduct number ⌝ }
 {
-    let product = opening::zero_product();
+    let product = product::zero_product();
     PlaceProduct {
         refusal: number,
         product,
@@ -25,15 +25,15 @@ fn no_product(number: u8) -> PlaceProduct
 pub fn product_in(file: &[u8], place: usize) -> PlaceProduct
     ensures { λ r. ⌜ placeAnswer r ≡ placeCall (now (file .entry)) place ⌝ }
 {
-    let judged = master::judge(file);
+    let judged = file_load::judge(file);
     let refusal = judged.refusal;
     if refusal != 0 {
         return no_product(refusal);
     }
-    if !ids::is_record(file, place) {
+    if !file_ids::is_record(file, place) {
         return no_product(9);
     }
-    let product = master::product_at(file, place / 15, place % 15);
+    let product = file_load::product_at(file, place / 15, place % 15);
     PlaceProduct {
         refusal: 0,
         product,

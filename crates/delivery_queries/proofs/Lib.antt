@@ -1,5 +1,5 @@
-pub mod Long
+pub mod LongQuestions
 pub mod Answering
-pub mod Standings
-pub mod Notices
-pub mod Tables
+pub mod QueryStandings
+pub mod NoticeCounts
+pub mod QueriedTables

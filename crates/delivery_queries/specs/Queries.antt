@@ -1,32 +1,33 @@
 -- What `query` answers to the questions of its input (docs/DELIVERY.md, `query`, from which the quotations are; docs/DECISIONS.md, The delivery).
 -- Assumes nothing.
 use Prim.Native.Nat.{ℕ, _+_}
-use mathlib.Core.Bool.{Bool, _&&_, cond}
+use mathlib.Core.Bool.{_&&_, cond}
 use mathlib.Core.List.{List, [], _∷_, _++_}
 use lib.Dec.{eqb, leb, ltb}
 use lib.ListN.{getD, take}
 use Rattle.questions.specs.Questions.{firstNo}
 use Rattle.product.specs.Fields.{isWeekly}
-use Rattle.years.specs.declared.FileCalendar.{FileCalendar}
-use Rattle.years.specs.Calendars.{calendarAnswer}
-use Rattle.master.specs.Load.{loadAsks, found, productOf}
+use Rattle.file_calendar.specs.declared.FileCalendar.{FileCalendar}
+use Rattle.file_calendar.specs.Calendars.{calendarAnswer}
+use Rattle.file_load.specs.Load.{loadAsks, found, productOf}
 use Rattle.table.specs.declared.Outcome.{Outcome}
 use Rattle.table.specs.Table.{openCall, openIn}
 use Rattle.history.specs.History.{tableRun}
-use Rattle.lines.specs.Lines.{linesFrom}
+use Rattle.session_lines.specs.CommandLines.{linesFrom}
 use Rattle.delivery_lines.specs.NoticeLines.{trimmed, unmarked}
-use Rattle.delivery_notices.specs.declared.Taken.{Taken}
+use Rattle.delivery_notices.specs.declared.NoticesTaken.{NoticesTaken}
 use Rattle.delivery_notices.specs.Notices.{Notice, textTold}
-use Rattle.delivery_notices.specs.Lists.{noticesTo}
+use Rattle.delivery_notices.specs.NoticeLists.{noticesTo}
 use Rattle.delivery_tables.specs.Tables.{callsFor, tableAfter}
-use Rattle.delivery_refusals.specs.Refusals.{masterText, badText}
+use Rattle.delivery_refusals.specs.Refusals.{masterText, badNoticeText}
 use Rattle.delivery_items.specs.declared.LongLine.{LongLine}
 use Rattle.delivery_questions.specs.declared.QuestionLine.{QuestionLine}
 use Rattle.delivery_questions.specs.QuestionLines.{Asked, nothing, bad, askedBy}
 use Rattle.delivery_answers.specs.declared.Standing.{Standing}
 use Rattle.delivery_answers.specs.Replies as replies
 
--- what is known of the product with an id: whether 'an id .. is not in the file', the sort of its maturities, 'the opening's number', and its table after the notices
+-- what is known of the product with an id: whether 'an id .. is not in the file',
+-- the sort of its maturities, 'the opening's number', and its table after the notices
 unfoldable pub standingOf : List ℕ → ℕ → List Notice → List ℕ → Standing
 standingOf f date ns id =
     record {
@@ -40,22 +41,25 @@ standingOf f date ns id =
 unfoldable pub nextNumber : ℕ → ℕ
 nextNumber k = cond (ltb k 18446744073709551615) (k + 1) k
 
--- 'A question a line': the answers to some lines, of which the first has the number k, one after the other
-unfoldable pub linesText : (List ℕ → Standing) → ℕ → List (List ℕ) → List ℕ
-linesText of k [] = []
-linesText of k (line ∷ lines) = replies.answerText of k line ++ linesText of (nextNumber k) lines
+-- 'A question a line':
+-- the answers to some lines, of which the first has the number k, one after the other
+unfoldable pub repliesText : (List ℕ → Standing) → ℕ → List (List ℕ) → List ℕ
+repliesText of k [] = []
+repliesText of k (line ∷ lines) = replies.questionAnswer of k line ++ repliesText of (nextNumber k) lines
 
--- standard output: the answers to the lines of the input, numbered from 1, 'one byte order mark before the first line' left out; nothing of a file that is refused, or of notices with a bad line
+-- standard output: the answers to the lines of the input, numbered from 1, 'one byte order mark before the first line' left out;
+-- nothing of a file that is refused, or of notices with a bad line
 unfoldable pub queryText : List ℕ → List ℕ → List ℕ → List ℕ
 queryText f notices input =
     let t = textTold notices in
-    cond (eqb (firstNo (loadAsks f)) 0 && eqb (t .bad) 0) (linesText (standingOf f (t .date) (t .notices)) 1 (linesFrom [] (unmarked input))) []
+    cond (eqb (firstNo (loadAsks f)) 0 && eqb (t .bad) 0) (repliesText (standingOf f (t .date) (t .notices)) 1 (linesFrom [] (unmarked input))) []
 
--- standard error: `master.bin: NO n`, which 'is judged before the notices are read', or the first bad line; 'Refused notices are not told here'
+-- 'A `master.bin` that is refused: .. it is judged before the notices are read'; 'Refused notices are not told here':
+-- standard error, `master.bin: NO n`, or the first bad line
 unfoldable pub queryTold : List ℕ → List ℕ → List ℕ
 queryTold f notices =
     let t = textTold notices in
-    cond (eqb (firstNo (loadAsks f)) 0) (cond (eqb (t .bad) 0) [] (badText (t .bad))) (masterText (firstNo (loadAsks f)))
+    cond (eqb (firstNo (loadAsks f)) 0) (cond (eqb (t .bad) 0) [] (badNoticeText (t .bad))) (masterText (firstNo (loadAsks f)))
 
 -- only the code needs it: the same of a product by what an id and a date open; by what the file opens it is `standingOf`
 unfoldable pub standingBy : (List ℕ → ℕ → Outcome) → List ℕ → ℕ → List Notice → List ℕ → Standing
@@ -68,7 +72,7 @@ standingBy opening f date ns id =
     }
 
 -- only the code needs it: the same by a verdict and by the notices in two lists, none of which is taken where a buffer has no room for their refusals
-unfoldable pub standingIn : FileCalendar → List ℕ → Taken → List ℕ → List ℕ → ℕ → List ℕ → Standing
+unfoldable pub standingIn : FileCalendar → List ℕ → NoticesTaken → List ℕ → List ℕ → ℕ → List ℕ → Standing
 standingIn judged f t calls ids room id =
     standingBy (openIn (calendarAnswer judged) f) f (t .date) (cond (leb (t .count) room) (noticesTo calls ids (t .count)) []) id
 
@@ -76,10 +80,11 @@ standingIn judged f t calls ids room id =
 unfoldable pub longAsked : LongLine → Asked
 longAsked l = cond (l .over) (cond (eqb (getD (l .bytes) 0 0) 35) nothing bad) (askedBy (take (l .length) (l .bytes)))
 
--- only the code needs it: what is answered to a line, as it is held; from an empty line fed with a line of any length this is `answerText` (proofs, Long: `any-length`)
+-- only the code needs it: what is answered to a line, as it is held;
+-- from an empty line fed with a line of any length this is `answerText` (proofs, Long: `any-length`)
 unfoldable pub longText : (List ℕ → Standing) → ℕ → LongLine → List ℕ
 longText of k l = replies.askedText of k (trimmed (take (l .length) (l .bytes))) (longAsked l)
 
 -- only the code needs it: the answer to a line with a question as it is held
 unfoldable pub heldAnswer : Standing → ℕ → List ℕ → QuestionLine → List ℕ
-heldAnswer s k line q = cond (replies.heldMisfits s q) (replies.badText k) (line ++ replies.replyLine s q)
+heldAnswer s k line q = cond (replies.heldMisfits s q) (replies.badQuestionText k) (line ++ replies.replyLine s q)

@@ -1,21 +1,21 @@
 // What `query` answers to one line, in a lent buffer.
 use delivery_answers::Standing;
 use delivery_items::LongLine;
-use delivery_notices::Taken;
+use delivery_notices::NoticesTaken;
 use delivery_questions::QuestionLine;
-use lines::Line;
-use master::Found;
-use years::FileCalendar;
+use file_calendar::FileCalendar;
+use file_load::Found;
+use session_lines::Line;
 ghost use mathlib.Core.Path.{_≡_};
 ghost use mathlib.Core.Bool.{true, _&&_};
 ghost use Prim.Native.Nat.{_+_, _≤_};
 ghost use lib.ListN.{length, take};
 ghost use Rattle.product.specs.Fields.{isWeekly};
-ghost use Rattle.master.specs.Load.{found, productOf};
-ghost use Rattle.printing.specs.Buffer.{Written, Printed, roomy};
+ghost use Rattle.file_load.specs.Load.{found, productOf};
+ghost use Rattle.session_text.specs.Buffer.{Written, Printed, roomy};
 ghost use Rattle.delivery_lines.specs.NoticeLines.{trimmed};
 ghost use Rattle.delivery_questions.specs.QuestionLines.{askedHeld};
-ghost use Rattle.delivery_answers.specs.Replies.{badText};
+ghost use Rattle.delivery_answers.specs.Replies.{badQuestionText};
 ghost use Rattle.delivery_queries.specs.Queries.{standingIn, longAsked, longText, heldAnswer};
 
 // Whether the file has a product with an id, and whether that is a weekly one.
@@ -28,9 +28,9 @@ struct KnownId {
 fn known_id(file: &[u8], id: [u8; 4]) -> KnownId
     ensures { λ r. ⌜ (r .known ≡ found (now (file .entry)) id) × (r .weekly ≡ (found (now (file .entry)) id && isWeekly (productOf (now (file .entry)) id .kind))) ⌝ }
 {
-    match master::find(file, id) {
+    match file_load::find(file, id) {
         Found::At(block, record) => {
-            let p = master::product_at(file, block, record);
+            let p = file_load::product_at(file, block, record);
             let kind = p.kind;
             let weekly = product::is_weekly(kind);
             KnownId {
@@ -45,11 +45,12 @@ fn known_id(file: &[u8], id: [u8; 4]) -> KnownId
     }
 }
 
-// What is known of the product with an id after the notices of two lists. The file's verdict by `judge` is at hand. A lent buffer takes a byte for each notice; where it has no room for them no notice is taken.
+// What is known of the product with an id after the notices of two lists. The file's verdict by `judge` is at hand.
+// A lent buffer takes a byte for each notice; where it has no room for them no notice is taken.
 pub fn standing(
     file: &[u8],
     judged: FileCalendar,
-    t: Taken,
+    t: NoticesTaken,
     calls: &[u32],
     ids: &[u8],
     refusals: &mut [u8],
@@ -120,9 +121,9 @@ fn put_held(out: &mut [u8], at: usize, line: LongLine) -> usize
 // The line that says that a line is bad.
 fn put_bad(out: &mut [u8], at: usize, number: u64) -> usize
     requires { ⌜ at + 64 ≤ length (now out) ⌝ }
-    ensures { λ r. ⌜ Written (now (out .entry)) (now (out .exit)) at r (badText number) × (r ≤ at + 64) ⌝ }
+    ensures { λ r. ⌜ Written (now (out .entry)) (now (out .exit)) at r (badQuestionText number) × (r ≤ at + 64) ⌝ }
 {
-    put_line(out, at, delivery_answers::bad_line(number))
+    put_line(out, at, delivery_answers::bad_question_line(number))
 }
 
 // The answer to a line with a question about a product of which this is known.
@@ -158,7 +159,7 @@ fn has_room(out: &[u8], at: usize) -> bool
 pub fn answer_line(
     file: &[u8],
     judged: FileCalendar,
-    t: Taken,
+    t: NoticesTaken,
     calls: &[u32],
     ids: &[u8],
     refusals: &mut [u8],

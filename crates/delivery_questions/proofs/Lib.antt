@@ -1,1 +1,1 @@
-mod Forms
+mod QuestionForms

@@ -1,20 +1,20 @@
 -- A line of what `query` reads, and what it asks (docs/DELIVERY.md, `query`, from which the quotations are; docs/DECISIONS.md, The delivery).
 -- Assumes nothing.
 use Prim.Native.Nat.{ℕ}
-use mathlib.Core.Bool.{Bool, true, false, not, _&&_, cond}
+use mathlib.Core.Bool.{Bool, true, false, _&&_, cond}
 use mathlib.Core.List.{List, [], _∷_}
 use lib.Dec.{leb, eqb}
 use lib.ListN.{getD, length, replicate}
 use Rattle.questions.specs.Search.{every}
 use Rattle.days.specs.Dates.{monthOf}
-use Rattle.lines.specs.declared.Command.{Command}
-use Rattle.entries.specs.declared.NumberRead.{NumberRead}
-use Rattle.entries.specs.Entries.{wordsOf, wordAt, idBytes}
-use Rattle.vendor_lines.specs.Lines.{dateIn, monthIn}
+use Rattle.session_lines.specs.declared.Command.{Command}
+use Rattle.file_text_lines.specs.Entries.{wordsOf, wordAt, idBytes}
+use Rattle.confirm_lines.specs.ListingLines.{dateIn, monthIn}
 use Rattle.delivery_lines.specs.NoticeLines.{trimmed, isNumber, valueOf, isPrice, priceOf, isId, saysNothing, held}
 use Rattle.delivery_questions.specs.declared.QuestionLine.{QuestionLine}
 
--- what is asked of a product: the last trading day of a maturity, which is named by its month or by the date of its Friday, and by its key; the due day of a day; whether a price passes; the cash of 'contracts, agreed, final'; the size
+-- what is asked of a product: the last trading day of a maturity, which is named by its month or by the date of its Friday, and by its key;
+-- the due day of a day; whether a price passes; the cash of 'contracts, agreed, final'; the size
 pub data Question : Type 0 where
   last : Bool → ℕ → Question
   due tick : ℕ → Question
@@ -26,23 +26,28 @@ pub data Asked : Type 0 where
   nothing bad : Asked
   asks : List ℕ → Question → Asked
 
--- the word `last`, as in 'AXA last 2008-06'
+-- 'AXA last 2008-06':
+-- the word `last`
 abbrev pub lastWord : List ℕ
 lastWord = 108 ∷ 97 ∷ 115 ∷ 116 ∷ []
 
--- the word `due`, as in 'AXA due 2008-03-22'
+-- 'AXA due 2008-03-22':
+-- the word `due`
 abbrev pub dueWord : List ℕ
 dueWord = 100 ∷ 117 ∷ 101 ∷ []
 
--- the word `tick`, as in 'AXA tick 12.3400'
+-- 'AXA tick 12.3400':
+-- the word `tick`
 abbrev pub tickWord : List ℕ
 tickWord = 116 ∷ 105 ∷ 99 ∷ 107 ∷ []
 
--- the word `cash`, as in 'AXA cash 3 12.3400 12.5000'
+-- 'AXA cash 3 12.3400 12.5000':
+-- the word `cash`
 abbrev pub cashWord : List ℕ
 cashWord = 99 ∷ 97 ∷ 115 ∷ 104 ∷ []
 
--- the word `size`, as in 'AXA size'
+-- 'AXA size':
+-- the word `size`
 abbrev pub sizeWord : List ℕ
 sizeWord = 115 ∷ 105 ∷ 122 ∷ 101 ∷ []
 
@@ -93,7 +98,8 @@ wordsAsked line =
     bad)))
     bad
 
--- what a line without blanks at its end asks: 'Empty lines and comments are passed over', 'one of more than 255 bytes' is bad
+-- 'Empty lines and comments are passed over', 'one of more than 255 bytes' is bad:
+-- what a line without blanks at its end asks
 unfoldable pub trimmedAsked : List ℕ → Asked
 trimmedAsked line = cond (saysNothing line) nothing (cond (leb (length line) 255) (wordsAsked line) bad)
 
@@ -110,8 +116,8 @@ abbrev pub oneHeld : ℕ → List ℕ → Bool → ℕ → ℕ → QuestionLine
 oneHeld letter id friday day number = record { letter = letter; id = id; friday = friday; day = day; number = number; agreed = 0; «final_price» = 0 }
 
 -- only the code needs it: a question with the day of a date, or a bad line
-unfoldable pub dayHeld : ℕ → List ℕ → Bool → Command → QuestionLine
-dayHeld letter id friday date = cond (eqb (date .letter) 0) (bareHeld 0) (oneHeld letter id friday (date .day) 0)
+unfoldable pub dayQuestionHeld : ℕ → List ℕ → Bool → Command → QuestionLine
+dayQuestionHeld letter id friday date = cond (eqb (date .letter) 0) (bareHeld 0) (oneHeld letter id friday (date .day) 0)
 
 -- only the code needs it: what a line asks, as it is held: the first letter of its question, # of one that asks nothing and 0 of a bad one, with its numbers
 unfoldable pub askedHeld : Asked → QuestionLine

@@ -1,10 +1,12 @@
 // A line of what `query` reads.
-use lines::Command;
+use session_lines::Command;
 ghost use mathlib.Core.Path.{_≡_};
-ghost use Rattle.entries.specs.Entries.{wordAt};
-ghost use Rattle.delivery_questions.specs.QuestionLines.{isWord, lastAsked, dueAsked, tickAsked, threeAsked, cashAsked, sizeAsked, wordsAsked, trimmedAsked, askedBy, bareHeld, oneHeld, dayHeld, askedHeld};
+ghost use Rattle.file_text_lines.specs.Entries.{wordAt};
+ghost use Rattle.delivery_questions.specs.QuestionLines.{isWord, lastAsked, dueAsked, tickAsked, threeAsked, cashAsked, sizeAsked, wordsAsked, trimmedAsked, askedBy, bareHeld, oneHeld, dayQuestionHeld, askedHeld};
 
-// A question: its first letter, l, d, t, c or s, the id, the key of `last`, and whether it is a Friday, or the day of `due`, the price of `tick` or the contracts of `cash`, and its two prices. A line that asks nothing has the letter #, a bad one 0. Numbers of 1,000,000,000 and more are held as that.
+// A question: its first letter, l, d, t, c or s, the id, the key of `last`, and whether it is a Friday, or the day of `due`,
+// the price of `tick` or the contracts of `cash`, and its two prices.
+// A line that asks nothing has the letter #, a bad one 0. Numbers of 1,000,000,000 and more are held as that.
 pub struct QuestionLine {
     pub letter: u8,
     pub id: [u8; 4],
@@ -63,8 +65,8 @@ fn is_word(name: &[u8], word: &[u8]) -> bool
 }
 
 // A question with a day that was read, or a bad line.
-fn day_held(letter: u8, id: [u8; 4], friday: bool, date: Command) -> QuestionLine
-    ensures { λ r. ⌜ r ≡ dayHeld letter id friday date ⌝ }
+fn day_question_held(letter: u8, id: [u8; 4], friday: bool, date: Command) -> QuestionLine
+    ensures { λ r. ⌜ r ≡ dayQuestionHeld letter id friday date ⌝ }
 {
     if date.letter == 0 {
         return bare_held(0);
@@ -77,9 +79,9 @@ fn last_asked(id: [u8; 4], word: &[u8]) -> QuestionLine
     ensures { λ r. ⌜ r ≡ askedHeld (lastAsked id (now (word .entry))) ⌝ }
 {
     if word.len() != 7 {
-        return day_held(b'l', id, true, vendor_lines::date_in(word));
+        return day_question_held(b'l', id, true, confirm_lines::date_in(word));
     }
-    let first = vendor_lines::month_in(word);
+    let first = confirm_lines::month_in(word);
     if first.letter == 0 {
         return bare_held(0);
     }
@@ -90,7 +92,7 @@ fn last_asked(id: [u8; 4], word: &[u8]) -> QuestionLine
 fn due_asked(id: [u8; 4], word: &[u8]) -> QuestionLine
     ensures { λ r. ⌜ r ≡ askedHeld (dueAsked id (now (word .entry))) ⌝ }
 {
-    day_held(b'd', id, false, vendor_lines::date_in(word))
+    day_question_held(b'd', id, false, confirm_lines::date_in(word))
 }
 
 // A question about a price.
@@ -124,7 +126,7 @@ fn three_asked(id: [u8; 4], name: &[u8], word: &[u8]) -> QuestionLine
 fn cash_asked(id: [u8; 4], line: &[u8]) -> QuestionLine
     ensures { λ r. ⌜ r ≡ askedHeld (cashAsked id (wordAt (now (line .entry)) 1) (wordAt (now (line .entry)) 2) (wordAt (now (line .entry)) 3) (wordAt (now (line .entry)) 4)) ⌝ }
 {
-    if !is_word(b"cash", entries::word_at(line, 1)) {
+    if !is_word(b"cash", file_text_lines::word_at(line, 1)) {
         return bare_held(0);
     }
     let contracts = delivery_lines::number_in(line, 2);
@@ -161,13 +163,17 @@ fn words_asked(line: &[u8]) -> QuestionLine
     if !delivery_lines::is_id_in(line, 0) {
         return bare_held(0);
     }
-    let id = delivery_lines::id_in(line, 0);
-    let words = entries::word_count(line);
+    let id = delivery_lines::id_word(line, 0);
+    let words = file_text_lines::word_count(line);
     if words == 2 {
-        return size_asked(id, entries::word_at(line, 1));
+        return size_asked(id, file_text_lines::word_at(line, 1));
     }
     if words == 3 {
-        return three_asked(id, entries::word_at(line, 1), entries::word_at(line, 2));
+        return three_asked(
+            id,
+            file_text_lines::word_at(line, 1),
+            file_text_lines::word_at(line, 2),
+        );
     }
     if words == 5 {
         return cash_asked(id, line);

@@ -1,30 +1,36 @@
 -- The places of a product's rows, one row after the other, and the rows that stand there.
 -- Assumes nothing.
 use mathlib.Core.Path.{_≡_, refl, _∙_, sym, ap}
-use mathlib.Core.Bool.{Bool, true, false, not, _&&_, cond}
+use mathlib.Core.Bool.{Bool, true, false, not, cond}
 use mathlib.Core.List.{List, [], _∷_, _++_, append-nil}
 use Prim.Native.Nat.{ℕ, zero, suc, _+_, _≤_, _<_}
 use native.Mathlib.Numerals.{add-one}
 use native.Mathlib.Omega.{arith}
-use lib.ListN.{length, getD, take, set, length-set}
+use lib.ListN.{length, take, set, length-set}
 use lib.Seq.{take-suc-set}
 use Rattle.questions.specs.Search.{every}
-use Rattle.questions.proofs.Bools.{lt-or-ge}
-use Rattle.master.specs.Products.{sameId}
-use Rattle.master.specs.Load.{found}
+use Rattle.file_load.specs.Products.{sameId}
+use Rattle.file_load.specs.Load.{found}
 use Rattle.delivery_differences.specs.declared.DeliveredRow.{DeliveredRow}
 use Rattle.delivery_differences.specs.Differences.{rowAt, rowsAt}
 use Rattle.delivery_receipts.specs.Receipts.{Received}
 use Rattle.delivery_receipts.specs.Receiving.{idIn, Lists, receivedAt, receivedTo, placesTo, rowsFor, PlacesIn, firstUnknown}
 
 pub record Gathering (id ids : List ℕ) (n : ℕ) (before : List ℕ) (out : List ℕ) (size i : ℕ) : Type 0 where
+  -- the places gathered so far are those of the product's rows among the first i
   pub is : take size out ≡ placesTo id ids i
+  -- the places gathered are at most as many as the rows looked at
   pub few : size ≤ i
+  -- the rows looked at are at most the n rows
   pub within : i ≤ n
+  -- there are at most 65,536 rows
   pub small : n ≤ 65536
+  -- the list has room for as many places as there are rows
   pub room : n ≤ length before
+  -- the list of places keeps its length
   pub long : length out ≡ length before
 
+-- before the first row no place is gathered
 pub starts : (id ids : List ℕ) (n : ℕ) (before : List ℕ) → n ≤ 65536 → n ≤ length before → Gathering id ids n before before 0 0
 unfolding placesTo
 starts id ids n before s r = record { is = refl; few = omega arith; within = omega arith; small = s; room = r; long = refl }
@@ -34,12 +40,15 @@ unfolding placesTo
 places-more id ids i = rw (add-one i) refl
 
 module _ (id ids : List ℕ) (n : ℕ) (before out : List ℕ) (size i : ℕ) (g : Gathering id ids n before out size i) (l : i < n) where
+  -- while a row is left, the list has room for one more place
   pub place-room : size < length out
   place-room = omega (arith, g .few, g .room, g .long)
 
+  -- while a row is left, its place is below 65,536
   pub place-small : i < 65536
   place-small = omega (arith, g .small)
 
+  -- a row with the product's id adds its place, another row adds none
   pub gathers : (own : Bool) → own ≡ sameId (idIn ids i) id → (r : ℕ) (after : List ℕ) → r ≡ size + cond own 1 0 → after ≡ cond own (set out size i) out → Gathering id ids n before after r (i + 1)
   gathers true e r after p q =
       let w : take r after ≡ take size out ++ (i ∷ []) = rw (q, p, add-one size) (take-suc-set out size i place-room) in
@@ -62,6 +71,7 @@ module _ (id ids : List ℕ) (n : ℕ) (before out : List ℕ) (size i : ℕ) (g
         long = ap length q ∙ g .long;
       }
 
+-- after the last row the places gathered are all those of the product's rows
 pub gathered : (id ids : List ℕ) (n : ℕ) (before out : List ℕ) (size i : ℕ) → Gathering id ids n before out size i → n ≤ i → PlacesIn id ids n before out size
 gathered id ids n before out size i g h =
     let e : i ≡ n = omega (arith, g .within) in
@@ -71,6 +81,7 @@ gathered id ids n before out size i g h =
       long = g .long;
     }
 
+-- with more than 65,536 rows, or without room for their places, nothing is gathered
 pub none-gathered : (id ids : List ℕ) (n : ℕ) (before : List ℕ) → (n ≤ 65536 → n ≤ length before → ⊥) → PlacesIn id ids n before before 0
 none-gathered id ids n before h = record { is = λ s r. absurd (h s r); fits = omega arith; long = refl }
 
@@ -102,6 +113,7 @@ last id a n = go (sameId (idIn (a .ids) n) id)
     go true = refl
     go false = refl
 
+-- the rows at a product's places are the rows of the product, in their order
 pub rows-are : (id : List ℕ) (a : Lists) (n : ℕ) → rowsAt (a .keys) (a .days) (a .fulls) (a .numbers) (a .backs) (placesTo id (a .ids) n) ≡ rowsFor id (receivedTo a n)
 unfolding placesTo receivedTo
 rows-are id a zero = none id (a .keys) (a .days) (a .fulls) (a .numbers) (a .backs)
@@ -114,10 +126,12 @@ rows-are id a (suc n) =
 -- ---- an id that is not in the file
 
 module _ (f ids : List ℕ) (i : ℕ) where
+  -- a row whose id is in the file is not the first of an unknown id
   pub known-id : found f (idIn ids i) ≡ true → false ≡ firstUnknown f ids i
   unfolding firstUnknown
   known-id e = rw e refl
 
+  -- a row whose id is not in the file is the first of its id exactly where no row before it has that id
   pub unknown-id : found f (idIn ids i) ≡ false → (b : Bool) → b ≡ every i (λ j. not (sameId (idIn ids j) (idIn ids i))) → b ≡ firstUnknown f ids i
   unfolding firstUnknown
   unknown-id e b q = q ∙ rw e refl

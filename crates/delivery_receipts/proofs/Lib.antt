@@ -1,4 +1,4 @@
-mod Storing
-mod Taking
-pub mod Feeding
+mod RowsStored
+mod RowsSoFar
+pub mod RowLinesFed
 pub mod Gathering

@@ -1,14 +1,15 @@
--- The rows that `reconcile` reads: the good ones in their order, and the numbers of the bad lines (docs/DELIVERY.md, `reconcile`, from which the quotations are; docs/DECISIONS.md, The delivery).
+-- The rows that `reconcile` reads: the good ones in their order, and the numbers of the bad lines
+-- (docs/DELIVERY.md, `reconcile`, from which the quotations are; docs/DECISIONS.md, The delivery).
 -- Assumes nothing.
-use Prim.Native.Nat.{ℕ, _+_}
+use Prim.Native.Nat.{ℕ}
 use mathlib.Core.Bool.{Bool, true, false, not, _&&_, _||_, cond}
 use mathlib.Core.List.{List, [], _∷_, _++_}
 use lib.Dec.{eqb, ltb}
 use lib.ListN.{length}
 use Rattle.product.specs.Fields.{isWeekly}
-use Rattle.master.specs.Load.{found, productOf}
-use Rattle.lines.specs.Lines.{linesFrom}
-use Rattle.lists.specs.Lists.{nextLine}
+use Rattle.file_load.specs.Load.{found, productOf}
+use Rattle.session_lines.specs.CommandLines.{linesFrom}
+use Rattle.file_text_read.specs.Lists.{nextLine}
 use Rattle.delivery_lines.specs.NoticeLines.{unmarked}
 use Rattle.delivery_items.specs.declared.ItemRead.{ItemRead}
 use Rattle.delivery_items.specs.declared.LineRead.{LineRead}
@@ -26,11 +27,13 @@ abbrev pub receivedOf : ItemRead → Received
 receivedOf i =
     record { id = i .id; row = record { key = i .key; day = i .day; full = i .full; number = i .number; back = i .back } }
 
--- bad is 'a maturity of the form that its product's kind does not have (of an id that is not in the file both are taken)'
+-- 'a maturity of the form that its product's kind does not have (of an id that is not in the file both are taken)':
+-- such a row is bad
 unfoldable pub formFits : List ℕ → ItemRead → Bool
 formFits f i = not (found f (i .id)) || cond (isWeekly (productOf f (i .id) .kind)) (i .weekly) (not (i .weekly))
 
--- what the lines so far brought: the good rows, whether a line was there that is not empty, how many lines there were, at most 999,999,999, the numbers of the bad ones, and whether there was a good row too many
+-- what the lines so far brought: the good rows, whether a line was there that is not empty,
+-- how many lines there were, at most 999,999,999, the numbers of the bad ones, and whether there was a good row too many
 pub record Receipt : Type 0 where
   pub rows : List Received
   pub begun : Bool
@@ -59,7 +62,9 @@ oneMore s i = record { rows = s .rows ++ (receivedOf i ∷ []); begun = true; li
 pub data Sort : Type 0 where
   ended empty heading bad tooMany good : Sort
 
--- the sort of a line, where reading has ended or not, a line was there that is not empty or not, and so many good rows were there, with room for so many: 'More than 65,536 good rows: the first one too many is told as bad, reading ends'
+-- 'More than 65,536 good rows: the first one too many is told as bad, reading ends':
+-- the sort of a line, where reading has ended or not, a line was there that is not empty or not,
+-- and so many good rows were there, with room for so many
 unfoldable pub sortOf : ℕ → List ℕ → Bool → Bool → ℕ → LineRead → Sort
 sortOf room f over begun count r =
     cond over ended
@@ -85,7 +90,8 @@ unfoldable pub linesReceived : ℕ → List ℕ → Receipt → List (List ℕ) 
 linesReceived room f s [] = s
 linesReceived room f s (line ∷ lines) = linesReceived room f (lineReceived room f s (lineRead line)) lines
 
--- what standard input brought: 'Line ends and the mark as above'
+-- 'Line ends and the mark as above':
+-- what standard input brought
 unfoldable pub receiptOf : List ℕ → List ℕ → Receipt
 receiptOf f input = linesReceived 65536 f noReceipt (linesFrom [] (unmarked input))
 

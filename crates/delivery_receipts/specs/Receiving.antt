@@ -7,9 +7,9 @@ use mathlib.Core.List.{List, [], _∷_, _++_}
 use lib.Dec.{eqb, leb}
 use lib.ListN.{length, getD, take, drop, set}
 use Rattle.questions.specs.Search.{every}
-use Rattle.master.specs.Products.{sameId}
-use Rattle.master.specs.Load.{found}
-use Rattle.lists.specs.Lists.{nextLine}
+use Rattle.file_load.specs.Products.{sameId}
+use Rattle.file_load.specs.Load.{found}
+use Rattle.file_text_read.specs.Lists.{nextLine}
 use Rattle.delivery_items.specs.declared.ItemRead.{ItemRead}
 use Rattle.delivery_items.specs.declared.LineRead.{LineRead}
 use Rattle.delivery_items.specs.declared.LongLine.{LongLine}
@@ -63,18 +63,19 @@ pub record RowStored (i : ℕ) (item : ItemRead) (before after : Lists) : Type 0
   pub numbers : after .numbers ≡ set (before .numbers) i (item .number)
   pub backs : after .backs ≡ set (before .backs) i (item .back)
 
--- the code's state after a line: how many rows, whether a line was there that is not empty, how many lines, whether there was a row too many, and the number of this line where it is bad, 0 where it is not
-abbrev pub stateAfter : Receiving → ℕ → Bool → Bool → ℕ → Receiving
-stateAfter s rows begun over told = record { rows = rows; begun = begun; lines = nextLine (s .lines); over = over; bad = told }
+-- the code's state after a line: how many rows, whether a line was there that is not empty, how many lines,
+-- whether there was a row too many, and the number of this line where it is bad, 0 where it is not
+abbrev pub receivingAfter : Receiving → ℕ → Bool → Bool → ℕ → Receiving
+receivingAfter s rows begun over told = record { rows = rows; begun = begun; lines = nextLine (s .lines); over = over; bad = told }
 
 -- the code's state after a line of a sort
 unfoldable pub stateBrought : Sort → Receiving → Receiving
 stateBrought ended s = record { rows = s .rows; begun = s .begun; lines = s .lines; over = s .over; bad = 0 }
-stateBrought empty s = stateAfter s (s .rows) (s .begun) false 0
-stateBrought heading s = stateAfter s (s .rows) true false 0
-stateBrought bad s = stateAfter s (s .rows) true false (nextLine (s .lines))
-stateBrought tooMany s = stateAfter s (s .rows) true true (nextLine (s .lines))
-stateBrought good s = stateAfter s (s .rows + 1) true false 0
+stateBrought empty s = receivingAfter s (s .rows) (s .begun) false 0
+stateBrought heading s = receivingAfter s (s .rows) true false 0
+stateBrought bad s = receivingAfter s (s .rows) true false (nextLine (s .lines))
+stateBrought tooMany s = receivingAfter s (s .rows) true true (nextLine (s .lines))
+stateBrought good s = receivingAfter s (s .rows + 1) true false 0
 
 -- and after a line that says this
 unfoldable pub receiving : ℕ → List ℕ → Receiving → LineRead → Receiving
@@ -98,7 +99,7 @@ pub record SameLengths (before after : Lists) : Type 0 where
   pub backs : length (after .backs) ≡ length (before .backs)
 
 -- of a state and lists before and after one line more: the rows are those of the definition, and so are the bad lines, whichever were told before
-pub record LineIn (f : List ℕ) (s : Receiving) (l : LongLine) (before after : Lists) (r : Receiving) : Type 0 where
+pub record RowLineIn (f : List ℕ) (s : Receiving) (l : LongLine) (before after : Lists) (r : Receiving) : Type 0 where
   pub is : (bads : List ℕ) → receiptIn r after (bads ++ toldOf (r .bad)) ≡ lineReceived (roomIn before) f (receiptIn s before bads) (heldRead l)
   pub lengths : SameLengths before after
 
@@ -127,6 +128,7 @@ pub record PlacesIn (id ids : List ℕ) (n : ℕ) (before after : List ℕ) (r :
   pub fits : r ≤ length after
   pub long : length after ≡ length before
 
--- 'then `product`, once for each id that is not in the file, in the order of their first rows': row i is such a first row
+-- 'then `product`, once for each id that is not in the file, in the order of their first rows':
+-- row i is such a first row
 unfoldable pub firstUnknown : List ℕ → List ℕ → ℕ → Bool
 firstUnknown f ids i = not (found f (idIn ids i)) && every i (λ j. not (sameId (idIn ids j) (idIn ids i)))

@@ -2,19 +2,20 @@
 use delivery_items::ItemRead;
 use delivery_items::LineRead;
 use delivery_items::LongLine;
-use master::Found;
+use file_load::Found;
 ghost use mathlib.Core.Path.{_≡_};
 ghost use Prim.Native.Nat.{_+_, _*_, _≤_, _<_};
 ghost use mathlib.Core.Bool.{false, not, _&&_, cond};
 ghost use lib.Dec.{leb};
 ghost use lib.ListN.{length, set};
 ghost use Rattle.questions.specs.Search.{every};
-ghost use Rattle.master.specs.Products.{sameId};
-ghost use Rattle.master.specs.Load.{found};
+ghost use Rattle.file_load.specs.Products.{sameId};
+ghost use Rattle.file_load.specs.Load.{found};
 ghost use Rattle.delivery_receipts.specs.Receipts.{formFits};
-ghost use Rattle.delivery_receipts.specs.Receiving.{idIn, fullMark, RowStored, receiving, LineIn, LineFed, PlacesIn, firstUnknown};
+ghost use Rattle.delivery_receipts.specs.Receiving.{idIn, fullMark, RowStored, receiving, RowLineIn, LineFed, PlacesIn, firstUnknown};
 
-// How many good rows there are, whether a line was there that is not empty, how many lines there were, whether there was a good row too many, and the number of the last line where it is bad, else 0.
+// How many good rows there are, whether a line was there that is not empty, how many lines there were,
+// whether there was a good row too many, and the number of the last line where it is bad, else 0.
 pub struct Receiving {
     pub rows: u32,
     pub begun: bool,
@@ -59,7 +60,7 @@ pub fn line_from(line: LongLine, part: &[u8], from: usize) -> LineEnd
                 ended: true,
             };
         }
-        l = delivery_items::extend(l, byte);
+        l = delivery_items::extend_long(l, byte);
     }
     LineEnd {
         line: l,
@@ -74,9 +75,9 @@ fn form_fits(file: &[u8], item: ItemRead) -> bool
 {
     let id = item.id;
     let weekly = item.weekly;
-    match master::find(file, id) {
+    match file_load::find(file, id) {
         Found::At(block, record) => {
-            let p = master::product_at(file, block, record);
+            let p = file_load::product_at(file, block, record);
             let kind = p.kind;
             product::is_weekly(kind) == weekly
         }
@@ -98,7 +99,7 @@ fn receive(file: &[u8], s: Receiving, read: LineRead, room: u32) -> Receiving
             bad: 0,
         };
     }
-    let lines = lists::next_line(s.lines);
+    let lines = file_text_read::next_line(s.lines);
     if read.empty {
         return Receiving {
             rows: s.rows,
@@ -207,7 +208,7 @@ pub fn take_line(
     numbers: &mut [u16],
     backs: &mut [u16],
 ) -> Receiving
-    ensures { λ r. ⌜ LineIn (now (file .entry)) s line (record { ids = now (ids .entry); keys = now (keys .entry); days = now (days .entry); fulls = now (fulls .entry); numbers = now (numbers .entry); backs = now (backs .entry) }) (record { ids = now (ids .exit); keys = now (keys .exit); days = now (days .exit); fulls = now (fulls .exit); numbers = now (numbers .exit); backs = now (backs .exit) }) r ⌝ }
+    ensures { λ r. ⌜ RowLineIn (now (file .entry)) s line (record { ids = now (ids .entry); keys = now (keys .entry); days = now (days .entry); fulls = now (fulls .entry); numbers = now (numbers .entry); backs = now (backs .entry) }) (record { ids = now (ids .exit); keys = now (keys .exit); days = now (days .exit); fulls = now (fulls .exit); numbers = now (numbers .exit); backs = now (backs .exit) }) r ⌝ }
 {
     let room = room_of(
         ids.len(),
@@ -229,15 +230,15 @@ pub fn take_line(
 }
 
 // The four bytes of id i of a list; 0 past its end.
-fn id_in(ids: &[u8], i: u32) -> records::FourBytes
+fn id_in(ids: &[u8], i: u32) -> file_records::FourBytes
     ensures { λ r. ⌜ r ≡ idIn (now (ids .entry)) i ⌝ }
 {
     let at = 4 * (i as usize);
     [
-        blocks::byte_at(ids, at),
-        blocks::byte_at(ids, at + 1),
-        blocks::byte_at(ids, at + 2),
-        blocks::byte_at(ids, at + 3),
+        file_blocks::byte_at(ids, at),
+        file_blocks::byte_at(ids, at + 1),
+        file_blocks::byte_at(ids, at + 2),
+        file_blocks::byte_at(ids, at + 3),
     ]
 }
 
@@ -253,7 +254,8 @@ fn put_place(places: &mut [u16], size: usize, place: u32, is: bool) -> usize
     size
 }
 
-// The places of a product's rows among the first n, in their order, at the start of a lent list, and how many there are. Without room for n places, or with more than 65,536 rows, none is written.
+// The places of a product's rows among the first n, in their order, at the start of a lent list, and how many there are.
+// Without room for n places, or with more than 65,536 rows, none is written.
 pub fn places_of(id: [u8; 4], ids: &[u8], n: u32, places: &mut [u16]) -> usize
     ensures { λ r. ⌜ PlacesIn id (now (ids .entry)) n (now (places .entry)) (now (places .exit)) r ⌝ }
 {
@@ -292,7 +294,7 @@ fn stands_first(ids: &[u8], i: u32) -> bool
 fn is_unknown(file: &[u8], ids: &[u8], i: u32) -> bool
     ensures { λ r. ⌜ r ≡ not (found (now (file .entry)) (idIn (now (ids .entry)) i)) ⌝ }
 {
-    match master::find(file, id_in(ids, i)) {
+    match file_load::find(file, id_in(ids, i)) {
         Found::At(_, _) => false,
         Found::Nothing => true,
     }

@@ -1,3 +1,3 @@
 mod Listed
 mod Strangers
-pub mod Rows
+pub mod RowIds

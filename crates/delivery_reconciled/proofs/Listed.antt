@@ -1,32 +1,29 @@
 -- What a place lists is the definition's: nothing without a record or a table, else what its table lists.
 -- Assumes nothing.
 use mathlib.Core.Path.{_≡_, refl, _∙_, sym, ap}
-use mathlib.Core.Bool.{Bool, true, false, cond}
-use mathlib.Core.List.{List, [], _∷_, map}
+use mathlib.Core.Bool.{true, false}
+use mathlib.Core.List.{List, [], map}
 use Prim.Native.Nat.{ℕ, _≤_, _<_}
-use native.Mathlib.Omega.{arith}
-use lib.Dec.{eqb, leb}
 use lib.ListN.{length, take}
 use borrow.Author.Tests.{eq-eqb, ne-eqb, le-leb, lt-leb}
 use Rattle.questions.proofs.Bools.{clash}
 use Rattle.product.specs.declared.Kind.{Kind}
 use Rattle.listing.specs.Months.{placesOfKind}
-use Rattle.ids.specs.Ids.{isRecord, idAt}
-use Rattle.table.specs.declared.Table.{Table}
+use Rattle.file_ids.specs.Ids.{isRecord, idAt}
 use Rattle.table.specs.declared.Outcome.{Outcome}
 use Rattle.table.specs.Table.{listedIn}
 use Rattle.history.specs.History.{tableRun}
 use Rattle.delivery_notices.specs.Notices.{Told}
-use Rattle.delivery_notices.specs.Lists.{noticesTo, noticeHeld}
+use Rattle.delivery_notices.specs.NoticeLists.{noticesTo, noticeHeld}
 use Rattle.delivery_tables.specs.declared.Delivered.{Delivered}
 use Rattle.delivery_tables.specs.Tables.{callsFor, NoticesMade, Delivers}
-use Rattle.delivery_tables.proofs.Held.{run-same}
+use Rattle.delivery_tables.proofs.CallsHeld.{run-same}
 use Rattle.delivery_parts.proofs.Wholes.{notices-length}
-use Rattle.delivery_refusals.specs.Refusals.{refusalText}
-use Rattle.lines.specs.declared.Line.{Line}
-use Rattle.lines.specs.Lines.{emptyLine}
-use Rattle.contents.specs.Contents.{LineWith}
-use Rattle.contents.proofs.Building.{nothing}
+use Rattle.delivery_refusals.specs.Refusals.{refusalTold}
+use Rattle.session_lines.specs.declared.Line.{Line}
+use Rattle.session_lines.specs.CommandLines.{emptyLine}
+use Rattle.file_text_print.specs.Contents.{LineWith}
+use Rattle.file_text_print.proofs.Building.{nothing}
 use Rattle.delivery_reconciled.specs.declared.PlaceListed.{PlaceListed}
 use Rattle.delivery_reconciled.specs.Reconciled.{kindAt, listedAt, openingText}
 use Rattle.delivery_reconciled.specs.Standings.{nothingListed, ListedIn}
@@ -43,6 +40,7 @@ module _ (opening : List ℕ → ℕ → Outcome) (f : List ℕ) (t : Told) (p :
 
 module _ (opening : List ℕ → ℕ → Outcome) (f : List ℕ) (p date count : ℕ) (calls ids refusals : List ℕ)
     (id : List ℕ) (i : id ≡ idAt f p) (kind : Kind) (k : kind ≡ kindAt f p) where
+  -- without room for the refusals a place lists nothing
   pub listed-idle : length refusals < count → (r : PlaceListed) → r ≡ nothingListed false false id kind
       → ListedIn opening f p date count calls ids refusals refusals r
   listed-idle h r e =
@@ -56,6 +54,7 @@ module _ (opening : List ℕ → ℕ → Outcome) (f : List ℕ) (p date count :
       }
 
   module _ (h : count ≤ length refusals) where
+    -- a place without a record lists nothing
     pub listed-empty : isRecord f p ≡ false → (r : PlaceListed) → r ≡ nothingListed true false id kind
         → ListedIn opening f p date count calls ids refusals refusals r
     listed-empty n r e =
@@ -72,6 +71,7 @@ module _ (opening : List ℕ → ℕ → Outcome) (f : List ℕ) (p date count :
       number : (t : Told) → date ≡ t .date → d .refusal ≡ opening (idAt f p) (t .date) .refusal
       number t e = m .refusal ∙ rw (i, e) refl
 
+      -- a place whose product has a refused opening lists nothing
       pub listed-refused : (d .refusal ≡ 0 → ⊥) → (r : PlaceListed) → r ≡ nothingListed true true id kind
           → ListedIn opening f p date count calls ids refusals refusals′ r
       listed-refused n r e =
@@ -84,6 +84,7 @@ module _ (opening : List ℕ → ℕ → Outcome) (f : List ℕ) (p date count :
             long = m .long;
           }
 
+      -- a place whose product is opened lists the maturities of its table
       pub listed-table : d .refusal ≡ 0 → (n : ℕ) → n ≡ placesOfKind (d .table .product .kind)
           → ListedIn opening f p date count calls ids refusals refusals′
           (record { fits = true; holds = true; id = id; kind = kind; listed = n; maturities = d .table .maturities })
@@ -109,11 +110,13 @@ module _ (opening : List ℕ → ℕ → Outcome) (f : List ℕ) (p date count :
 -- ---- a refused opening
 
 module _ (opening : List ℕ → ℕ → Outcome) (f : List ℕ) (opened date p : ℕ) (r : Line) where
+  -- of a place without a record no refused opening is told
   pub opening-none : isRecord f p ≡ false → r ≡ emptyLine → LineWith emptyLine (openingText opening f opened date p) r
   unfolding openingText
   opening-none n e = rw n (nothing r e)
 
+  -- of a place with a record the refusal of its opening is told, where there is one
   pub opening-some : isRecord f p ≡ true → (id : List ℕ) → id ≡ idAt f p → (o : Outcome) → o ≡ opening id date
-      → LineWith emptyLine (refusalText opened (o .refusal) id) r → LineWith emptyLine (openingText opening f opened date p) r
+      → LineWith emptyLine (refusalTold opened (o .refusal) id) r → LineWith emptyLine (openingText opening f opened date p) r
   unfolding openingText
   opening-some y id i o q l = rw (y, ← i, ← q) l

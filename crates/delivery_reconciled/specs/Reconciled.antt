@@ -1,4 +1,5 @@
--- The two texts of the program `reconcile`: what it writes to standard output and what it tells on standard error (docs/DELIVERY.md, `reconcile`, from which the quotations are; docs/DECISIONS.md, The delivery, The reconciliation and The program `reconcile`).
+-- The two texts of the program `reconcile`: what it writes to standard output and what it tells on standard error
+-- (docs/DELIVERY.md, `reconcile`, from which the quotations are; docs/DECISIONS.md, The delivery, The reconciliation and The program `reconcile`).
 -- Assumes nothing.
 use Prim.Native.Nat.{ℕ, zero, suc, _+_, _/_, _%_}
 use mathlib.Core.Bool.{Bool, not, _&&_, cond}
@@ -9,22 +10,22 @@ use Rattle.questions.specs.Questions.{firstNo}
 use Rattle.questions.specs.Search.{every}
 use Rattle.product.specs.declared.Kind.{Kind}
 use Rattle.listing.specs.declared.Maturity.{Maturity}
-use Rattle.ids.specs.Ids.{placeCount, isRecord, recordCount, idAt}
-use Rattle.master.specs.Products.{productAt, sameId}
-use Rattle.master.specs.Load.{loadAsks, found}
+use Rattle.file_ids.specs.Ids.{placeCount, isRecord, recordCount, idAt}
+use Rattle.file_load.specs.Products.{productAt, sameId}
+use Rattle.file_load.specs.Load.{loadAsks, found}
 use Rattle.table.specs.declared.Outcome.{Outcome}
 use Rattle.table.specs.Table.{listedIn, openCall}
 use Rattle.history.specs.History.{tableRun}
 use Rattle.delivery_notices.specs.Notices.{Told, textTold}
 use Rattle.delivery_tables.specs.Tables.{callsFor}
-use Rattle.delivery_refusals.specs.Refusals.{masterText, badText, refusalText}
-use Rattle.delivery_parts.specs.Parts.{partsText}
+use Rattle.delivery_refusals.specs.Refusals.{masterText, badNoticeText, refusalTold}
+use Rattle.delivery_parts.specs.PlaceParts.{partsText}
 use Rattle.delivery_answers.specs.Numbers.{numberText}
 use Rattle.delivery_differences.specs.Differences.{differing, noRow}
 use Rattle.delivery_reports.specs.Reports.{differencesHeading, keysText, unknownText}
 use Rattle.delivery_receipts.specs.Receipts.{Received, Receipt, receiptOf}
 use Rattle.delivery_receipts.specs.Receiving.{rowsFor}
-use Rattle.delivery_inputs.specs.Inputs.{badRowsText, counted}
+use Rattle.delivery_inputs.specs.ReconcileInputs.{badRowsText, badsCounted}
 
 -- the sum of the first n numbers
 unfoldable pub sumTo : (ℕ → ℕ) → ℕ → ℕ
@@ -35,13 +36,15 @@ sumTo number (suc n) = sumTo number n + number n
 abbrev pub kindAt : List ℕ → ℕ → Kind
 kindAt f p = productAt f (p / 15) (p % 15) .kind
 
--- the maturities that the table of the product at a place lists after the notices; none without a table: 'Rows of a product without a table are `extra`'
+-- 'Rows of a product without a table are `extra`':
+-- the maturities that the table of the product at a place lists after the notices; none without a table
 unfoldable pub listedAt : (List ℕ → ℕ → Outcome) → List ℕ → Told → ℕ → List Maturity
 listedAt opening f t p =
     cond (eqb (opening (idAt f p) (t .date) .refusal) 0)
     (listedIn (tableRun (opening (idAt f p) (t .date) .table) (callsFor (idAt f p) (t .notices)))) []
 
--- 'One line for a key that differs', 'keys rising': the keys of the product at a place, by the rows with its id
+-- 'One line for a key that differs', 'keys rising':
+-- the keys of the product at a place, by the rows with its id
 unfoldable pub keysAt : (List ℕ → ℕ → Outcome) → List ℕ → Told → List Received → ℕ → List ℕ
 keysAt opening f t rows p = cond (isRecord f p) (differing (listedAt opening f t p) (rowsFor (idAt f p) rows) 65536 0) []
 
@@ -54,7 +57,8 @@ placeText opening f t rows p =
 abbrev pub idOf : List Received → ℕ → List ℕ
 idOf rows i = getD rows i (record { id = []; row = noRow }) .id
 
--- 'then `product`, once for each id that is not in the file, in the order of their first rows': row i is such a first row
+-- 'then `product`, once for each id that is not in the file, in the order of their first rows':
+-- row i is such a first row
 unfoldable pub isStranger : List ℕ → List Received → ℕ → Bool
 isStranger f rows i = not (found f (idOf rows i)) && every i (λ j. not (sameId (idOf rows j) (idOf rows i)))
 
@@ -62,7 +66,8 @@ isStranger f rows i = not (found f (idOf rows i)) && every i (λ j. not (sameId 
 unfoldable pub strangerText : List ℕ → List Received → ℕ → List ℕ
 strangerText f rows i = cond (isStranger f rows i) (unknownText (idOf rows i)) []
 
--- the lines of all products, 'Products in the file's order', and of all ids that are not in the file, under the heading
+-- 'Products in the file's order':
+-- the lines of all products, and of all ids that are not in the file, under the heading
 unfoldable pub differencesText : (List ℕ → ℕ → Outcome) → List ℕ → Told → List Received → List ℕ
 differencesText opening f t rows =
     differencesHeading ++ (partsText (placeText opening f t rows) (placeCount f) ++ partsText (strangerText f rows) (length rows))
@@ -72,19 +77,22 @@ unfoldable pub differCount : (List ℕ → ℕ → Outcome) → List ℕ → Tol
 differCount opening f t rows =
     sumTo (λ p. length (keysAt opening f t rows p)) (placeCount f) + sumTo (λ i. cond (isStranger f rows i) 1 0) (length rows)
 
--- standard output: of a file that is refused and of notices with a bad line nothing, and 'More than 65,536 good rows: .. standard output stays empty'
+-- 'More than 65,536 good rows: .. standard output stays empty':
+-- standard output; of a file that is refused and of notices with a bad line nothing either
 unfoldable pub reconcileText : List ℕ → List ℕ → List ℕ → List ℕ
 reconcileText f notices input =
     let t = textTold notices in
     let r = receiptOf f input in
     cond (eqb (firstNo (loadAsks f)) 0 && (eqb (t .bad) 0 && not (r .over))) (differencesText (openCall f) f t (r .rows)) []
 
--- 'refused openings as above': `notices.txt:K: NO n ID`, 'by the line of the `O`', of the product at a place
+-- 'refused openings as above', 'by the line of the `O`':
+-- `notices.txt:K: NO n ID`, of the product at a place
 unfoldable pub openingText : (List ℕ → ℕ → Outcome) → List ℕ → ℕ → ℕ → ℕ → List ℕ
 openingText opening f opened date p =
-    cond (isRecord f p) (refusalText opened (opening (idAt f p) date .refusal) (idAt f p)) []
+    cond (isRecord f p) (refusalTold opened (opening (idAt f p) date .refusal) (idAt f p)) []
 
--- '`788 products, 10676 rows, 3 differ, 0 bad`', with a line feed
+-- '`788 products, 10676 rows, 3 differ, 0 bad`',
+-- with a line feed
 unfoldable pub summaryText : ℕ → ℕ → ℕ → ℕ → List ℕ
 summaryText products rows differ bad =
     numberText products
@@ -98,7 +106,7 @@ summaryText products rows differ bad =
 unfoldable pub lastText : (List ℕ → ℕ → Outcome) → List ℕ → Told → Receipt → List ℕ
 lastText opening f t r =
     cond (r .over) []
-    (summaryText (recordCount f) (length (r .rows)) (differCount opening f t (r .rows)) (counted (length (r .bads))))
+    (summaryText (recordCount f) (length (r .rows)) (differCount opening f t (r .rows)) (badsCounted (length (r .bads))))
 
 -- 'Standard error: refused openings .., bad lines by number, and last' the counts
 unfoldable pub toldText : (List ℕ → ℕ → Outcome) → List ℕ → Told → Receipt → List ℕ
@@ -110,5 +118,5 @@ unfoldable pub reconcileTold : List ℕ → List ℕ → List ℕ → List ℕ
 reconcileTold f notices input =
     let t = textTold notices in
     cond (eqb (firstNo (loadAsks f)) 0)
-    (cond (eqb (t .bad) 0) (toldText (openCall f) f t (receiptOf f input)) (badText (t .bad)))
+    (cond (eqb (t .bad) 0) (toldText (openCall f) f t (receiptOf f input)) (badNoticeText (t .bad)))
     (masterText (firstNo (loadAsks f)))

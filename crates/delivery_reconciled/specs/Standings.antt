@@ -2,18 +2,18 @@
 -- Assumes nothing.
 use Prim.Native.Nat.{ℕ, _+_, _≤_, _<_}
 use mathlib.Core.Path.{_≡_}
-use mathlib.Core.Bool.{Bool, true, false, _&&_, cond}
-use mathlib.Core.List.{List, [], _∷_, _++_, map}
+use mathlib.Core.Bool.{Bool, true, _&&_, cond}
+use mathlib.Core.List.{List, [], _++_, map}
 use lib.Dec.{leb, ltb}
 use lib.ListN.{length, take, drop, replicate}
 use Rattle.product.specs.declared.Kind.{Kind}
 use Rattle.listing.specs.Rules.{unused}
-use Rattle.ids.specs.Ids.{isRecord, idAt}
+use Rattle.file_ids.specs.Ids.{isRecord, idAt}
 use Rattle.table.specs.declared.Outcome.{Outcome}
 use Rattle.delivery_notices.specs.Notices.{Told}
-use Rattle.delivery_notices.specs.Lists.{noticesTo, noticeHeld}
-use Rattle.delivery_parts.specs.Parts.{partsText}
-use Rattle.delivery_reports.specs.declared.Progress.{Progress}
+use Rattle.delivery_notices.specs.NoticeLists.{noticesTo, noticeHeld}
+use Rattle.delivery_parts.specs.PlaceParts.{partsText}
+use Rattle.delivery_reports.specs.declared.ReportProgress.{ReportProgress}
 use Rattle.delivery_reports.specs.Reports.{unknownText}
 use Rattle.delivery_receipts.specs.Receiving.{idIn, firstUnknown}
 use Rattle.delivery_reconciled.specs.declared.PlaceListed.{PlaceListed}
@@ -24,7 +24,8 @@ abbrev pub nothingListed : Bool → Bool → List ℕ → Kind → PlaceListed
 nothingListed fits holds id kind =
     record { fits = fits; holds = holds; id = id; kind = kind; listed = 0; maturities = replicate 15 unused }
 
--- of a place: the id and the kind of its product, and, where the buffer has room for the refusals and the lists hold the notices of a text, the maturities that its table lists
+-- of a place: the id and the kind of its product,
+-- and, where the buffer has room for the refusals and the lists hold the notices of a t, the maturities that its table lists
 pub record ListedIn (opening : List ℕ → ℕ → Outcome) (f : List ℕ) (p date count : ℕ) (calls ids refusals refusals′ : List ℕ) (r : PlaceListed) : Type 0 where
   pub fits : r .fits ≡ leb count (length refusals)
   pub holds : r .fits ≡ true → r .holds ≡ isRecord f p
@@ -35,21 +36,21 @@ pub record ListedIn (opening : List ℕ → ℕ → Outcome) (f : List ℕ) (p d
   pub long : length refusals′ ≡ length refusals
 
 -- the line of row i of a list of ids, where it is the first with its id and that is not in the file
-unfoldable pub rowText : List ℕ → List ℕ → ℕ → List ℕ
-rowText f ids i = cond (firstUnknown f ids i) (unknownText (idIn ids i)) []
+unfoldable pub idRowText : List ℕ → List ℕ → ℕ → List ℕ
+idRowText f ids i = cond (firstUnknown f ids i) (unknownText (idIn ids i)) []
 
 -- and 1 for that line
 unfoldable pub rowCount : List ℕ → List ℕ → ℕ → ℕ
 rowCount f ids i = cond (firstUnknown f ids i) 1 0
 
 -- there is a row more, and room for its line: none has 64 bytes
-unfoldable pub another : ℕ → ℕ → List ℕ → ℕ → Bool
-another next n out length′ = ltb next n && leb (length′ + 64) (length out)
+unfoldable pub anotherStranger : ℕ → ℕ → List ℕ → ℕ → Bool
+anotherStranger next n out length′ = ltb next n && leb (length′ + 64) (length out)
 
 -- of a buffer before and after: the lines of the rows from one on, up to the next, stand at its start
-pub record StrangersIn (f ids : List ℕ) (n from : ℕ) (before after : List ℕ) (r : Progress) : Type 0 where
+pub record StrangersIn (f ids : List ℕ) (n from : ℕ) (before after : List ℕ) (r : ReportProgress) : Type 0 where
   -- what the rows before the first have, and what was written, is what the rows before the next have
-  pub is : partsText (rowText f ids) (r .next) ≡ partsText (rowText f ids) from ++ take (r .length) after
+  pub is : partsText (idRowText f ids) (r .next) ≡ partsText (idRowText f ids) from ++ take (r .length) after
   -- how many lines were written
   pub lines : sumTo (rowCount f ids) (r .next) ≡ sumTo (rowCount f ids) from + r .lines
   -- it stands at the buffer's start, and nothing else is changed

@@ -1,23 +1,24 @@
 // What `reconcile` prints of a place, of the ids that are not in the file, and what it tells.
-use delivery_reports::Progress;
-use lines::Line;
+use delivery_reports::ReportProgress;
+use file_calendar::FileCalendar;
 use listing::Maturity;
 use product::Kind;
-use years::FileCalendar;
+use session_lines::Line;
 ghost use mathlib.Core.Path.{_≡_};
 ghost use mathlib.Core.Bool.{cond};
 ghost use Prim.Native.Nat.{_+_, _≤_};
 ghost use lib.Dec.{eqb};
 ghost use lib.ListN.{length};
 ghost use lib.Seq.{paste};
-ghost use Rattle.lines.specs.Lines.{emptyLine};
-ghost use Rattle.contents.specs.Contents.{LineWith};
-ghost use Rattle.years.specs.Calendars.{calendarAnswer};
+ghost use Rattle.session_lines.specs.CommandLines.{emptyLine};
+ghost use Rattle.file_text_print.specs.Contents.{LineWith};
+ghost use Rattle.file_calendar.specs.Calendars.{calendarAnswer};
 ghost use Rattle.table.specs.Table.{openIn};
 ghost use Rattle.delivery_reconciled.specs.Reconciled.{kindAt, openingText, summaryText};
-ghost use Rattle.delivery_reconciled.specs.Standings.{nothingListed, ListedIn, rowText, another, StrangersIn};
+ghost use Rattle.delivery_reconciled.specs.Standings.{nothingListed, ListedIn, idRowText, anotherStranger, StrangersIn};
 
-// What a place holds: whether the buffer has room for the refusals, whether there is a record, the id and the kind of its product, and how many of 15 maturities its table lists after the notices; none without a table.
+// What a place holds: whether the buffer has room for the refusals, whether there is a record, the id and the kind of its product,
+// and how many of 15 maturities its table lists after the notices; none without a table.
 pub struct PlaceListed {
     pub fits: bool,
     pub holds: bool,
@@ -31,7 +32,7 @@ pub struct PlaceListed {
 fn kind_at(file: &[u8], place: usize) -> Kind
     ensures { λ r. ⌜ r ≡ kindAt (now (file .entry)) place ⌝ }
 {
-    let p = master::product_at(file, place / 15, place % 15);
+    let p = file_load::product_at(file, place / 15, place % 15);
     p.kind
 }
 
@@ -50,7 +51,8 @@ fn nothing_listed(fits: bool, holds: bool, id: [u8; 4], kind: Kind) -> PlaceList
     }
 }
 
-// The maturities that the table of the product at a place lists after the first notices of two lists. The file's verdict by `judge` is at hand. The buffer has room for the refusals of so many notices, or nothing is listed.
+// The maturities that the table of the product at a place lists after the first notices of two lists. The file's verdict by `judge` is at hand.
+// The buffer has room for the refusals of so many notices, or nothing is listed.
 pub fn listed_at(
     file: &[u8],
     judged: FileCalendar,
@@ -63,12 +65,12 @@ pub fn listed_at(
 ) -> PlaceListed
     ensures { λ r. ⌜ ListedIn (openIn (calendarAnswer judged) (now (file .entry))) (now (file .entry)) place date count (now (calls .entry)) (now (ids .entry)) (now (refusals .entry)) (now (refusals .exit)) r ⌝ }
 {
-    let id = ids::id_at(file, place);
+    let id = file_ids::id_at(file, place);
     let kind = kind_at(file, place);
     if refusals.len() < count as usize {
         return nothing_listed(false, false, id, kind);
     }
-    if !ids::is_record(file, place) {
+    if !file_ids::is_record(file, place) {
         return nothing_listed(true, false, id, kind);
     }
     let d = delivery_tables::deliver(file, judged, id, date, calls, ids, count, refusals);
@@ -94,10 +96,10 @@ pub fn listed_at(
 pub fn opening_line(file: &[u8], judged: FileCalendar, place: usize, date: u16, opened: u32) -> Line
     ensures { λ r. ⌜ LineWith emptyLine (openingText (openIn (calendarAnswer judged) (now (file .entry))) (now (file .entry)) opened date place) r ⌝ }
 {
-    if !ids::is_record(file, place) {
-        return lines::empty_line();
+    if !file_ids::is_record(file, place) {
+        return session_lines::empty_line();
     }
-    let id = ids::id_at(file, place);
+    let id = file_ids::id_at(file, place);
     let o = table::open_in(file, judged, id, date);
     delivery_refusals::refusal_text(opened, o.refusal, id)
 }
@@ -106,19 +108,19 @@ pub fn opening_line(file: &[u8], judged: FileCalendar, place: usize, date: u16, 
 pub fn summary_line(products: u64, rows: u64, differ: u64, bad: u64) -> Line
     ensures { λ r. ⌜ LineWith emptyLine (summaryText products rows differ bad) r ⌝ }
 {
-    let first = delivery_answers::with_number(lines::empty_line(), products);
-    let second = delivery_answers::with_number(vendor_lines::feed(first, b" products, "), rows);
-    let third = delivery_answers::with_number(vendor_lines::feed(second, b" rows, "), differ);
-    let last = delivery_answers::with_number(vendor_lines::feed(third, b" differ, "), bad);
-    vendor_lines::feed(last, b" bad\n")
+    let first = delivery_answers::with_number(session_lines::empty_line(), products);
+    let second = delivery_answers::with_number(confirm_lines::feed(first, b" products, "), rows);
+    let third = delivery_answers::with_number(confirm_lines::feed(second, b" rows, "), differ);
+    let last = delivery_answers::with_number(confirm_lines::feed(third, b" differ, "), bad);
+    confirm_lines::feed(last, b" bad\n")
 }
 
 // The line of row i of a list of ids where it is the first with an id that is not in the file; else no bytes.
-fn row_line(file: &[u8], ids: &[u8], i: u32) -> Line
-    ensures { λ r. ⌜ LineWith emptyLine (rowText (now (file .entry)) (now (ids .entry)) i) r ⌝ }
+fn id_row_line(file: &[u8], ids: &[u8], i: u32) -> Line
+    ensures { λ r. ⌜ LineWith emptyLine (idRowText (now (file .entry)) (now (ids .entry)) i) r ⌝ }
 {
     if !delivery_receipts::is_first_unknown(file, ids, i) {
-        return lines::empty_line();
+        return session_lines::empty_line();
     }
     delivery_reports::unknown_line(delivery_tables::id_in(ids, i))
 }
@@ -150,7 +152,7 @@ fn append(out: &mut [u8], at: usize, line: Line) -> usize
 
 // Whether there is another row, and room for its line.
 fn goes_on(next: u32, n: u32, out: &[u8], length: usize) -> bool
-    ensures { λ r. ⌜ r ≡ another next n (now (out .entry)) length ⌝ }
+    ensures { λ r. ⌜ r ≡ anotherStranger next n (now (out .entry)) length ⌝ }
 {
     if n <= next {
         return false;
@@ -161,20 +163,21 @@ fn goes_on(next: u32, n: u32, out: &[u8], length: usize) -> bool
     length <= out.len() - 64
 }
 
-// The lines of the ids that are not in the file, of the rows from one on up to row n, in a lent buffer from its start, as long as it has room for another line of 64 bytes.
-pub fn print_strangers(file: &[u8], ids: &[u8], n: u32, from: u32, out: &mut [u8]) -> Progress
+// The lines of the ids that are not in the file, of the rows from one on up to row n,
+// in a lent buffer from its start, as long as it has room for another line of 64 bytes.
+pub fn print_strangers(file: &[u8], ids: &[u8], n: u32, from: u32, out: &mut [u8]) -> ReportProgress
     ensures { λ r. ⌜ StrangersIn (now (file .entry)) (now (ids .entry)) n from (now (out .entry)) (now (out .exit)) r ⌝ }
 {
     let mut next = from;
     let mut length: usize = 0;
     let mut lines: u32 = 0;
     while goes_on(next, n, out, length) {
-        let line = row_line(file, ids, next);
+        let line = id_row_line(file, ids, next);
         length = append(out, length, line);
         lines += line_count(line);
         next += 1;
     }
-    Progress {
+    ReportProgress {
         next,
         length,
         lines,

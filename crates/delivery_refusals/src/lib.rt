@@ -1,32 +1,32 @@
 // The lines that tell what was refused.
-use lines::Line;
-use master::Found;
+use file_load::Found;
+use session_lines::Line;
 ghost use mathlib.Core.Path.{_≡_};
-ghost use Rattle.master.specs.Load.{found};
-ghost use Rattle.lines.specs.Lines.{emptyLine};
-ghost use Rattle.printing.specs.Text.{decimal};
-ghost use Rattle.contents.specs.Contents.{LineWith};
-ghost use Rattle.delivery_notices.specs.Lists.{noticeAt};
-ghost use Rattle.delivery_refusals.specs.Refusals.{noticesAt, masterText, badText, refusedText, refusalText, unknownRefusal, refusalLine, unknownLine};
+ghost use Rattle.file_load.specs.Load.{found};
+ghost use Rattle.session_lines.specs.CommandLines.{emptyLine};
+ghost use Rattle.session_text.specs.TermsText.{decimal};
+ghost use Rattle.file_text_print.specs.Contents.{LineWith};
+ghost use Rattle.delivery_notices.specs.NoticeLists.{noticeAt};
+ghost use Rattle.delivery_refusals.specs.Refusals.{noticesAt, masterText, badNoticeText, refusedNoticeText, refusalTold, unknownRefusal, refusalLine, unknownLine};
 
 // A line with a number of up to five digits more.
 fn with_number(line: Line, n: u32) -> Line
     ensures { λ r. ⌜ LineWith line (decimal n) r ⌝ }
 {
     if n < 10000 {
-        return contents::with_decimal(line, n as u16);
+        return file_text_print::with_decimal(line, n as u16);
     }
-    let first = contents::with_digit(line, (n / 10000 % 10) as u16);
-    contents::with_four(first, (n % 10000) as u16)
+    let first = file_text_print::with_digit(line, (n / 10000 % 10) as u16);
+    file_text_print::with_four(first, (n % 10000) as u16)
 }
 
 // A file that is refused.
 pub fn master_line(refusal: u8) -> Line
     ensures { λ r. ⌜ LineWith emptyLine (masterText refusal) r ⌝ }
 {
-    let name = delivery_rows::with_bytes(lines::empty_line(), b"master.bin: NO ");
-    let number = contents::with_decimal(name, refusal as u16);
-    lines::extend(number, b'\n')
+    let name = delivery_rows::with_bytes(session_lines::empty_line(), b"master.bin: NO ");
+    let number = file_text_print::with_decimal(name, refusal as u16);
+    session_lines::extend(number, b'\n')
 }
 
 // A line that begins with the name of the notices and the number of one of their lines.
@@ -34,36 +34,36 @@ fn notices_line(line: u32) -> Line
     ensures { λ r. ⌜ LineWith emptyLine (noticesAt line) r ⌝ }
 {
     with_number(
-        delivery_rows::with_bytes(lines::empty_line(), b"notices.txt:"),
+        delivery_rows::with_bytes(session_lines::empty_line(), b"notices.txt:"),
         line,
     )
 }
 
 // The first bad line of the notices.
-pub fn bad_line(line: u32) -> Line
-    ensures { λ r. ⌜ LineWith emptyLine (badText line) r ⌝ }
+pub fn bad_notice_line(line: u32) -> Line
+    ensures { λ r. ⌜ LineWith emptyLine (badNoticeText line) r ⌝ }
 {
     delivery_rows::with_bytes(notices_line(line), b": BAD\n")
 }
 
 // A refused call.
-fn refused_line(line: u32, refusal: u8, id: [u8; 4]) -> Line
-    ensures { λ r. ⌜ LineWith emptyLine (refusedText line refusal id) r ⌝ }
+fn refused_notice_line(line: u32, refusal: u8, id: [u8; 4]) -> Line
+    ensures { λ r. ⌜ LineWith emptyLine (refusedNoticeText line refusal id) r ⌝ }
 {
     let no = delivery_rows::with_bytes(notices_line(line), b": NO ");
-    let number = contents::with_decimal(no, refusal as u16);
-    let whole = contents::with_id(lines::extend(number, b' '), id);
-    lines::extend(whole, b'\n')
+    let number = file_text_print::with_decimal(no, refusal as u16);
+    let whole = file_text_print::with_id(session_lines::extend(number, b' '), id);
+    session_lines::extend(whole, b'\n')
 }
 
 // A refused call, or a line with no bytes where the number is 0.
 pub fn refusal_text(line: u32, refusal: u8, id: [u8; 4]) -> Line
-    ensures { λ r. ⌜ LineWith emptyLine (refusalText line refusal id) r ⌝ }
+    ensures { λ r. ⌜ LineWith emptyLine (refusalTold line refusal id) r ⌝ }
 {
     if refusal == 0 {
-        return lines::empty_line();
+        return session_lines::empty_line();
     }
-    refused_line(line, refusal, id)
+    refused_notice_line(line, refusal, id)
 }
 
 // Line i of a product's refused calls: 0 is that of the opening, on a line of the notices, and i that of notice i - 1. One that was accepted has no bytes.
@@ -81,18 +81,18 @@ pub fn refusal_line(
         return refusal_text(opened, refusal, id);
     }
     if refusal != 0 {
-        return lines::empty_line();
+        return session_lines::empty_line();
     }
     let at = (i - 1) as usize;
-    let line = delivery_tables::number_at(calls, 5 * at);
-    refusal_text(line, blocks::byte_at(refusals, at), id)
+    let line = delivery_tables::call_number(calls, 5 * at);
+    refusal_text(line, file_blocks::byte_at(refusals, at), id)
 }
 
 // Whether the file has a product with an id.
 fn is_found(file: &[u8], id: [u8; 4]) -> bool
     ensures { λ r. ⌜ r ≡ found (now (file .entry)) id ⌝ }
 {
-    match master::find(file, id) {
+    match file_load::find(file, id) {
         Found::At(_, _) => true,
         Found::Nothing => false,
     }
@@ -102,7 +102,7 @@ fn is_found(file: &[u8], id: [u8; 4]) -> bool
 fn unknown_refusal(file: &[u8], calls: &[u32], ids: &[u8], i: u32) -> u8
     ensures { λ r. ⌜ r ≡ unknownRefusal (now (file .entry)) (noticeAt (now (calls .entry)) (now (ids .entry)) i) ⌝ }
 {
-    if delivery_tables::number_at(calls, 5 * (i as usize) + 1) != 3 {
+    if delivery_tables::call_number(calls, 5 * (i as usize) + 1) != 3 {
         return 0;
     }
     if is_found(file, delivery_tables::id_in(ids, i)) {
@@ -112,10 +112,10 @@ fn unknown_refusal(file: &[u8], calls: &[u32], ids: &[u8], i: u32) -> u8
 }
 
 // Line i of the measures of ids that the file has not. Another notice has no bytes.
-pub fn unknown_line(file: &[u8], calls: &[u32], ids: &[u8], i: u32) -> Line
+pub fn unknown_measure_line(file: &[u8], calls: &[u32], ids: &[u8], i: u32) -> Line
     ensures { λ r. ⌜ LineWith emptyLine (unknownLine (now (file .entry)) (now (calls .entry)) (now (ids .entry)) i) r ⌝ }
 {
     let refusal = unknown_refusal(file, calls, ids, i);
-    let line = delivery_tables::number_at(calls, 5 * (i as usize));
+    let line = delivery_tables::call_number(calls, 5 * (i as usize));
     refusal_text(line, refusal, delivery_tables::id_in(ids, i))
 }

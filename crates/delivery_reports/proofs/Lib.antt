@@ -1,3 +1,3 @@
-mod Words
-pub mod Lengths
-pub mod Going
+mod BytesOnLine
+pub mod ReportLengths
+pub mod ReportLines

@@ -8,14 +8,14 @@ use lib.Dec.{leb, ltb}
 use lib.ListN.{length, take, drop}
 use Rattle.product.specs.declared.Kind.{Kind}
 use Rattle.listing.specs.declared.Maturity.{Maturity}
-use Rattle.printing.specs.Text.{decimal, dayText, nameText}
-use Rattle.contents.specs.Contents.{idText}
+use Rattle.session_text.specs.TermsText.{decimal, dayText, nameText}
+use Rattle.file_text_print.specs.Contents.{idText}
 use Rattle.delivery_differences.specs.declared.Why.{Why}
 use Rattle.delivery_differences.specs.declared.Why.the-variants.{Same, Missing, Extra, Twice, Day, Number, DaysBack}
 use Rattle.delivery_differences.specs.declared.DeliveredRow.{DeliveredRow}
 use Rattle.delivery_differences.specs.declared.Difference.{Difference}
 use Rattle.delivery_differences.specs.Differences.{differenceOf, differing}
-use Rattle.delivery_reports.specs.declared.Progress.{Progress}
+use Rattle.delivery_reports.specs.declared.ReportProgress.{ReportProgress}
 
 -- `missing`, `extra`, `twice`, `day`, `number`, `days_back`
 unfoldable pub whyText : Why → List ℕ
@@ -47,7 +47,8 @@ rightText Day m = dayText (m .day)
 rightText Number m = decimal (m .number)
 rightText DaysBack m = decimal (m .back)
 
--- 'product,maturity,why,delivered,right', with commas, 44, and a line feed, 10
+-- 'product,maturity,why,delivered,right',
+-- with commas, 44, and a line feed, 10
 unfoldable pub differenceText : Kind → List ℕ → ℕ → Difference → List ℕ
 differenceText kind id k d =
     idText id
@@ -57,11 +58,13 @@ differenceText kind id k d =
     ++ (whyText (d .why)
     ++ ((44 ∷ []) ++ (deliveredText (d .why) (d .delivered) ++ ((44 ∷ []) ++ (rightText (d .why) (d .right) ++ (10 ∷ [])))))))))
 
--- 'XXXX,,product,,': an id that is not in the file
+-- 'XXXX,,product,,':
+-- an id that is not in the file
 unfoldable pub unknownText : List ℕ → List ℕ
 unknownText id = idText id ++ (44 ∷ 44 ∷ 112 ∷ 114 ∷ 111 ∷ 100 ∷ 117 ∷ 99 ∷ 116 ∷ 44 ∷ 44 ∷ 10 ∷ [])
 
--- 'product,maturity,why,delivered,right', the heading
+-- 'product,maturity,why,delivered,right',
+-- the heading
 unfoldable pub differencesHeading : List ℕ
 differencesHeading =
     (112 ∷ 114 ∷ 111 ∷ 100 ∷ 117 ∷ 99 ∷ 116 ∷ 44 ∷ [])
@@ -79,18 +82,19 @@ keysText kind id listed rows (k ∷ ks) =
 abbrev pub differingFrom : List Maturity → List DeliveredRow → ℕ → List ℕ
 differingFrom listed rows from = differing listed rows (65536 - from) from
 
--- 'One line for a key that differs', 'keys rising': the lines of a product, of the keys from one on
-unfoldable pub linesFrom : Kind → List ℕ → List Maturity → List DeliveredRow → ℕ → List ℕ
-linesFrom kind id listed rows from = keysText kind id listed rows (differingFrom listed rows from)
+-- 'One line for a key that differs', 'keys rising':
+-- the lines of a product, of the keys from one on
+unfoldable pub reportFrom : Kind → List ℕ → List Maturity → List DeliveredRow → ℕ → List ℕ
+reportFrom kind id listed rows from = keysText kind id listed rows (differingFrom listed rows from)
 
 -- only the code needs it: there is a key more, and room for its line: none has 64 bytes
-unfoldable pub another : ℕ → List ℕ → ℕ → Bool
-another next out length′ = ltb next 65536 && leb (length′ + 64) (length out)
+unfoldable pub anotherKey : ℕ → List ℕ → ℕ → Bool
+anotherKey next out length′ = ltb next 65536 && leb (length′ + 64) (length out)
 
 -- of a buffer before and after: the lines of the keys from one on, up to the next, stand at its start
-pub record LinesIn (kind : Kind) (id : List ℕ) (listed : List Maturity) (rows : List DeliveredRow) (from : ℕ) (before after : List ℕ) (r : Progress) : Type 0 where
+pub record ReportLinesIn (kind : Kind) (id : List ℕ) (listed : List Maturity) (rows : List DeliveredRow) (from : ℕ) (before after : List ℕ) (r : ReportProgress) : Type 0 where
   -- what was written and the lines that are left are all
-  pub is : linesFrom kind id listed rows from ≡ take (r .length) after ++ linesFrom kind id listed rows (r .next)
+  pub is : reportFrom kind id listed rows from ≡ take (r .length) after ++ reportFrom kind id listed rows (r .next)
   -- how many were written
   pub lines : length (differingFrom listed rows from) ≡ r .lines + length (differingFrom listed rows (r .next))
   -- it stands at the buffer's start, and nothing else is changed

@@ -2,21 +2,21 @@
 use delivery_differences::DeliveredRow;
 use delivery_differences::Difference;
 use delivery_differences::Why;
-use lines::Line;
 use listing::Maturity;
 use product::Kind;
+use session_lines::Line;
 ghost use mathlib.Core.Path.{_≡_};
 ghost use Prim.Native.Nat.{_+_, _≤_};
 ghost use lib.ListN.{length, take};
 ghost use lib.Seq.{paste};
-ghost use Rattle.lines.specs.Lines.{emptyLine};
-ghost use Rattle.printing.specs.Text.{monthText, nameText};
-ghost use Rattle.contents.specs.Contents.{LineWith};
+ghost use Rattle.session_lines.specs.CommandLines.{emptyLine};
+ghost use Rattle.session_text.specs.TermsText.{monthText, nameText};
+ghost use Rattle.file_text_print.specs.Contents.{LineWith};
 ghost use Rattle.delivery_differences.specs.Differences.{differenceOf, rowsAt};
-ghost use Rattle.delivery_reports.specs.Reports.{whyText, deliveredText, rightText, differenceText, unknownText, differencesHeading, another, LinesIn};
+ghost use Rattle.delivery_reports.specs.Reports.{whyText, deliveredText, rightText, differenceText, unknownText, differencesHeading, anotherKey, ReportLinesIn};
 
 // The next key that differs, 65,536 where there is none, how many bytes of the text stand in the buffer, and how many lines they are.
-pub struct Progress {
+pub struct ReportProgress {
     pub next: u32,
     pub length: usize,
     pub lines: u32,
@@ -26,8 +26,8 @@ pub struct Progress {
 fn with_month(line: Line, month: u16) -> Line
     ensures { λ r. ⌜ LineWith line (monthText month) r ⌝ }
 {
-    let year = contents::with_four(line, 2000 + month / 12);
-    contents::with_two(lines::extend(year, b'-'), month % 12 + 1)
+    let year = file_text_print::with_four(line, 2000 + month / 12);
+    file_text_print::with_two(session_lines::extend(year, b'-'), month % 12 + 1)
 }
 
 // A line with the name of a maturity more: its month, or the date of its Friday.
@@ -35,7 +35,7 @@ pub fn with_name(line: Line, kind: Kind, key: u16) -> Line
     ensures { λ r. ⌜ LineWith line (nameText kind key) r ⌝ }
 {
     if product::is_weekly(kind) {
-        return contents::with_day(line, key);
+        return file_text_print::with_day(line, key);
     }
     with_month(line, key)
 }
@@ -46,12 +46,12 @@ fn with_why(line: Line, why: Why) -> Line
 {
     match why {
         Why::Same => line,
-        Why::Missing => vendor_lines::feed(line, b"missing"),
-        Why::Extra => vendor_lines::feed(line, b"extra"),
-        Why::Twice => vendor_lines::feed(line, b"twice"),
-        Why::Day => vendor_lines::feed(line, b"day"),
-        Why::Number => vendor_lines::feed(line, b"number"),
-        Why::DaysBack => vendor_lines::feed(line, b"days_back"),
+        Why::Missing => confirm_lines::feed(line, b"missing"),
+        Why::Extra => confirm_lines::feed(line, b"extra"),
+        Why::Twice => confirm_lines::feed(line, b"twice"),
+        Why::Day => confirm_lines::feed(line, b"day"),
+        Why::Number => confirm_lines::feed(line, b"number"),
+        Why::DaysBack => confirm_lines::feed(line, b"days_back"),
     }
 }
 
@@ -62,11 +62,11 @@ fn with_delivered(line: Line, why: Why, row: DeliveredRow) -> Line
     match why {
         Why::Same => line,
         Why::Missing => line,
-        Why::Extra => contents::with_day(line, row.day),
-        Why::Twice => contents::with_day(line, row.day),
-        Why::Day => contents::with_day(line, row.day),
-        Why::Number => contents::with_decimal(line, row.number),
-        Why::DaysBack => contents::with_decimal(line, row.back),
+        Why::Extra => file_text_print::with_day(line, row.day),
+        Why::Twice => file_text_print::with_day(line, row.day),
+        Why::Day => file_text_print::with_day(line, row.day),
+        Why::Number => file_text_print::with_decimal(line, row.number),
+        Why::DaysBack => file_text_print::with_decimal(line, row.back),
     }
 }
 
@@ -76,12 +76,12 @@ fn with_right(line: Line, why: Why, m: Maturity) -> Line
 {
     match why {
         Why::Same => line,
-        Why::Missing => contents::with_day(line, m.day),
+        Why::Missing => file_text_print::with_day(line, m.day),
         Why::Extra => line,
-        Why::Twice => contents::with_day(line, m.day),
-        Why::Day => contents::with_day(line, m.day),
-        Why::Number => contents::with_decimal(line, m.number),
-        Why::DaysBack => contents::with_decimal(line, m.back),
+        Why::Twice => file_text_print::with_day(line, m.day),
+        Why::Day => file_text_print::with_day(line, m.day),
+        Why::Number => file_text_print::with_decimal(line, m.number),
+        Why::DaysBack => file_text_print::with_decimal(line, m.back),
     }
 }
 
@@ -92,27 +92,30 @@ pub fn difference_line(kind: Kind, id: [u8; 4], key: u16, d: Difference) -> Line
     let why = d.why;
     let row = d.delivered;
     let m = d.right;
-    let begun = contents::with_id(lines::empty_line(), id);
-    let name = with_name(lines::extend(begun, b','), kind, key);
-    let reason = with_why(lines::extend(name, b','), why);
-    let delivered = with_delivered(lines::extend(reason, b','), why, row);
-    let right = with_right(lines::extend(delivered, b','), why, m);
-    lines::extend(right, b'\n')
+    let begun = file_text_print::with_id(session_lines::empty_line(), id);
+    let name = with_name(session_lines::extend(begun, b','), kind, key);
+    let reason = with_why(session_lines::extend(name, b','), why);
+    let delivered = with_delivered(session_lines::extend(reason, b','), why, row);
+    let right = with_right(session_lines::extend(delivered, b','), why, m);
+    session_lines::extend(right, b'\n')
 }
 
 // The line of an id that is not in the file.
 pub fn unknown_line(id: [u8; 4]) -> Line
     ensures { λ r. ⌜ LineWith emptyLine (unknownText id) r ⌝ }
 {
-    vendor_lines::feed(contents::with_id(lines::empty_line(), id), b",,product,,\n")
+    confirm_lines::feed(
+        file_text_print::with_id(session_lines::empty_line(), id),
+        b",,product,,\n",
+    )
 }
 
 // The heading.
 pub fn heading_line() -> Line
     ensures { λ r. ⌜ LineWith emptyLine differencesHeading r ⌝ }
 {
-    vendor_lines::feed(
-        lines::empty_line(),
+    confirm_lines::feed(
+        session_lines::empty_line(),
         b"product,maturity,why,delivered,right\n",
     )
 }
@@ -164,7 +167,7 @@ fn append(out: &mut [u8], at: usize, line: Line) -> usize
 
 // Whether there is another key, and room for its line.
 fn goes_on(next: u32, out: &[u8], length: usize) -> bool
-    ensures { λ r. ⌜ r ≡ another next (now (out .entry)) length ⌝ }
+    ensures { λ r. ⌜ r ≡ anotherKey next (now (out .entry)) length ⌝ }
 {
     if 65536 <= next {
         return false;
@@ -175,7 +178,8 @@ fn goes_on(next: u32, out: &[u8], length: usize) -> bool
     length <= out.len() - 64
 }
 
-// The lines of a product's keys that differ, from a key on, in a lent buffer from its start, as long as it has room for another line of 64 bytes. The product has the first n of 15 maturities, none without a table, and the rows at some places of five lists.
+// The lines of a product's keys that differ, from a key on, in a lent buffer from its start, as long as it has room for another line of 64 bytes.
+// The product has the first n of 15 maturities, none without a table, and the rows at some places of five lists.
 pub fn print_differences(
     kind: Kind,
     id: [u8; 4],
@@ -189,8 +193,8 @@ pub fn print_differences(
     backs: &[u16],
     from: u32,
     out: &mut [u8],
-) -> Progress
-    ensures { λ r. ⌜ LinesIn kind id (take n maturities) (rowsAt (now (keys .entry)) (now (days .entry)) (now (fulls .entry)) (now (numbers .entry)) (now (backs .entry)) (now (places .entry))) from (now (out .entry)) (now (out .exit)) r ⌝ }
+) -> ReportProgress
+    ensures { λ r. ⌜ ReportLinesIn kind id (take n maturities) (rowsAt (now (keys .entry)) (now (days .entry)) (now (fulls .entry)) (now (numbers .entry)) (now (backs .entry)) (now (places .entry))) from (now (out .entry)) (now (out .exit)) r ⌝ }
 {
     let mut next = delivery_differences::next_difference(
         maturities,
@@ -233,7 +237,7 @@ pub fn print_differences(
             next + 1,
         );
     }
-    Progress {
+    ReportProgress {
         next,
         length,
         lines,

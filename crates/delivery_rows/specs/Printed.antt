@@ -10,7 +10,7 @@ use Rattle.product.specs.declared.Kind.{Kind}
 use Rattle.listing.specs.declared.Maturity.{Maturity}
 use Rattle.listing.specs.Rules.{unused}
 use Rattle.table.specs.declared.Table.{Table}
-use Rattle.delivery_rows.specs.Delivery.{rowOf, rowText, tableRows, rowsText}
+use Rattle.delivery_rows.specs.Delivery.{deliveryRow, rowText, tableRows, rowsText}
 
 -- of a buffer before and after: the text stands from `at` on, `next` is the place after it, and nothing else is changed
 pub record RowsIn (before after : List ℕ) (at next : ℕ) (text : List ℕ) : Type 0 where
@@ -22,7 +22,7 @@ pub record RowsIn (before after : List ℕ) (at next : ℕ) (text : List ℕ) : 
 -- only the code needs it: the rows of the first n maturities
 unfoldable pub rowsFirst : List ℕ → Kind → List Maturity → ℕ → List ℕ
 rowsFirst id kind ms zero = []
-rowsFirst id kind ms (suc n) = rowsFirst id kind ms n ++ rowText (rowOf id kind (getD ms n unused))
+rowsFirst id kind ms (suc n) = rowsFirst id kind ms n ++ rowText (deliveryRow id kind (getD ms n unused))
 
 -- there is room for any table's rows: 15 rows of at most 39 bytes
 unfoldable pub hasRoom : List ℕ → ℕ → Bool

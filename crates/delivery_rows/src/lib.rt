@@ -1,16 +1,16 @@
 // The rows of a delivery, in a lent buffer.
-use lines::Line;
 use listing::Maturity;
 use product::Kind;
+use session_lines::Line;
 use table::Table;
 ghost use mathlib.Core.Path.{_≡_};
 ghost use Prim.Native.Nat.{_+_, _≤_};
 ghost use lib.ListN.{length};
 ghost use lib.Seq.{paste};
-ghost use Rattle.lines.specs.Lines.{emptyLine};
-ghost use Rattle.printing.specs.Text.{monthText, nameText};
-ghost use Rattle.contents.specs.Contents.{LineWith};
-ghost use Rattle.delivery_rows.specs.Delivery.{rowOf, rowText, headingText};
+ghost use Rattle.session_lines.specs.CommandLines.{emptyLine};
+ghost use Rattle.session_text.specs.TermsText.{monthText, nameText};
+ghost use Rattle.file_text_print.specs.Contents.{LineWith};
+ghost use Rattle.delivery_rows.specs.Delivery.{deliveryRow, rowText, deliveryHeading};
 ghost use Rattle.delivery_rows.specs.Printed.{RowsIn, rowsOrNone, rowsFirst, hasRoom};
 
 // A line with the bytes of a slice more.
@@ -20,18 +20,18 @@ pub fn with_bytes(line: Line, bytes: &[u8]) -> Line
     let mut whole = line;
     let mut i: usize = 0;
     while i < bytes.len() {
-        whole = lines::extend(whole, bytes[i]);
+        whole = session_lines::extend(whole, bytes[i]);
         i += 1;
     }
     whole
 }
 
 // The heading of the rows.
-pub fn heading_line() -> Line
-    ensures { λ r. ⌜ LineWith emptyLine headingText r ⌝ }
+pub fn delivery_heading_line() -> Line
+    ensures { λ r. ⌜ LineWith emptyLine deliveryHeading r ⌝ }
 {
     with_bytes(
-        lines::empty_line(),
+        session_lines::empty_line(),
         b"product,number,maturity,last_trading_day,days_back\n",
     )
 }
@@ -40,8 +40,8 @@ pub fn heading_line() -> Line
 fn with_month(line: Line, key: u16) -> Line
     ensures { λ r. ⌜ LineWith line (monthText key) r ⌝ }
 {
-    let year = contents::with_four(line, 2000 + key / 12);
-    contents::with_two(lines::extend(year, b'-'), key % 12 + 1)
+    let year = file_text_print::with_four(line, 2000 + key / 12);
+    file_text_print::with_two(session_lines::extend(year, b'-'), key % 12 + 1)
 }
 
 // A line with the name of a maturity more: its month, or the date of its Friday.
@@ -49,21 +49,21 @@ fn with_name(line: Line, kind: Kind, key: u16) -> Line
     ensures { λ r. ⌜ LineWith line (nameText kind key) r ⌝ }
 {
     if product::is_weekly(kind) {
-        return contents::with_day(line, key);
+        return file_text_print::with_day(line, key);
     }
     with_month(line, key)
 }
 
 // The row of a maturity.
 fn row_line(id: [u8; 4], kind: Kind, m: Maturity) -> Line
-    ensures { λ r. ⌜ LineWith emptyLine (rowText (rowOf id kind m)) r ⌝ }
+    ensures { λ r. ⌜ LineWith emptyLine (rowText (deliveryRow id kind m)) r ⌝ }
 {
-    let first = contents::with_id(lines::empty_line(), id);
-    let number = contents::with_decimal(lines::extend(first, b','), m.number);
-    let name = with_name(lines::extend(number, b','), kind, m.key);
-    let day = contents::with_day(lines::extend(name, b','), m.day);
-    let back = contents::with_decimal(lines::extend(day, b','), m.back);
-    lines::extend(back, b'\n')
+    let first = file_text_print::with_id(session_lines::empty_line(), id);
+    let number = file_text_print::with_decimal(session_lines::extend(first, b','), m.number);
+    let name = with_name(session_lines::extend(number, b','), kind, m.key);
+    let day = file_text_print::with_day(session_lines::extend(name, b','), m.day);
+    let back = file_text_print::with_decimal(session_lines::extend(day, b','), m.back);
+    session_lines::extend(back, b'\n')
 }
 
 // The bytes of a line from a place of a buffer on, and the place after them.

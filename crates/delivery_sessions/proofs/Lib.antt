@@ -1,3 +1,3 @@
-pub mod Feeding
-pub mod Passing
-pub mod Runs
+pub mod QueryLinesFed
+pub mod QueryPassing
+pub mod QueryRuns

@@ -1,2 +1,2 @@
-pub mod Parts
-pub mod Runs
+pub mod QueryParts
+pub mod QueryRuns

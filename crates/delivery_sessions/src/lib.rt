@@ -1,15 +1,15 @@
 // The answers of `query` to all lines that end in a part of its input, and to a last line that no line feed ends.
 use delivery_items::LongLine;
-use delivery_notices::Taken;
-use years::FileCalendar;
+use delivery_notices::NoticesTaken;
+use file_calendar::FileCalendar;
 ghost use mathlib.Core.Path.{_≡_};
 ghost use mathlib.Core.Bool.{true};
 ghost use Prim.Native.Nat.{_<_};
 ghost use lib.ListN.{length};
-ghost use Rattle.printing.specs.Buffer.{roomy};
-ghost use Rattle.sessions.specs.Parts.{another};
+ghost use Rattle.session_text.specs.Buffer.{roomy};
+ghost use Rattle.session_parts.specs.TermsParts.{another};
 ghost use Rattle.delivery_queries.specs.Queries.{nextNumber, standingIn};
-ghost use Rattle.delivery_sessions.specs.Parts.{LineFed, Next, Answers, LastAnswer};
+ghost use Rattle.delivery_sessions.specs.QueryParts.{LineFed, QueryNext, QueryAnswers, QueryLastAnswer};
 
 // A line, the place in the part after it, and whether a line feed ended it.
 pub struct LineEnd {
@@ -19,7 +19,7 @@ pub struct LineEnd {
 }
 
 // The number of the line that is begun, its bytes so far, the place in the part of the input, and how many bytes of answers stand in the buffer.
-pub struct Progress {
+pub struct QueryProgress {
     pub number: u64,
     pub line: LongLine,
     pub at: usize,
@@ -52,7 +52,7 @@ pub fn line_from(line: LongLine, part: &[u8], from: usize) -> LineEnd
                 ended: true,
             };
         }
-        l = delivery_items::extend(l, byte);
+        l = delivery_items::extend_long(l, byte);
     }
     LineEnd {
         line: l,
@@ -65,23 +65,23 @@ pub fn line_from(line: LongLine, part: &[u8], from: usize) -> LineEnd
 fn answer_next(
     file: &[u8],
     judged: FileCalendar,
-    t: Taken,
+    t: NoticesTaken,
     calls: &[u32],
     ids: &[u8],
     refusals: &mut [u8],
-    s: Progress,
+    s: QueryProgress,
     part: &[u8],
     out: &mut [u8],
-) -> Progress
+) -> QueryProgress
     requires { ⌜ (s .at < length (now part)) × (roomy (now out) (s .length) ≡ true) ⌝ }
-    ensures { λ r. ⌜ Next (standingIn judged (now (file .entry)) t (now (calls .entry)) (now (ids .entry)) (length (now (refusals .entry)))) (now (part .entry)) (now (out .entry)) (now (out .exit)) s r ⌝ }
+    ensures { λ r. ⌜ QueryNext (standingIn judged (now (file .entry)) t (now (calls .entry)) (now (ids .entry)) (length (now (refusals .entry)))) (now (part .entry)) (now (out .entry)) (now (out .exit)) s r ⌝ }
 {
     let begun = s.line;
     let number = s.number;
     let e = line_from(begun, part, s.at);
     let line = e.line;
     if !e.ended {
-        return Progress {
+        return QueryProgress {
             number,
             line,
             at: e.next,
@@ -100,9 +100,9 @@ fn answer_next(
         out,
         s.length,
     );
-    let empty = delivery_items::empty_line();
+    let empty = delivery_items::empty_long_line();
     let next = next_number(number);
-    Progress {
+    QueryProgress {
         number: next,
         line: empty,
         at: e.next,
@@ -123,11 +123,13 @@ fn goes_on(part: &[u8], at: usize, out: &[u8], n: usize) -> bool
     n <= out.len() - 512
 }
 
-// The answers to the lines that end in a part of the input from a place on, in a lent buffer from its start, as long as it has room for another answer of 512 bytes. A buffer of fewer bytes, and a place past the part, leave all as it is. The verdict on the file and the notices of two lists are at hand.
+// The answers to the lines that end in a part of the input from a place on,
+// in a lent buffer from its start, as long as it has room for another answer of 512 bytes.
+// A buffer of fewer bytes, and a place past the part, leave all as it is. The verdict on the file and the notices of two lists are at hand.
 pub fn answer_part(
     file: &[u8],
     judged: FileCalendar,
-    t: Taken,
+    t: NoticesTaken,
     calls: &[u32],
     ids: &[u8],
     refusals: &mut [u8],
@@ -136,10 +138,10 @@ pub fn answer_part(
     part: &[u8],
     from: usize,
     out: &mut [u8],
-) -> Progress
-    ensures { λ r. ⌜ Answers (standingIn judged (now (file .entry)) t (now (calls .entry)) (now (ids .entry)) (length (now (refusals .entry)))) number line (now (part .entry)) from (now (out .entry)) (now (out .exit)) r ⌝ }
+) -> QueryProgress
+    ensures { λ r. ⌜ QueryAnswers (standingIn judged (now (file .entry)) t (now (calls .entry)) (now (ids .entry)) (length (now (refusals .entry)))) number line (now (part .entry)) from (now (out .entry)) (now (out .exit)) r ⌝ }
 {
-    let mut s = Progress {
+    let mut s = QueryProgress {
         number,
         line,
         at: from,
@@ -151,11 +153,12 @@ pub fn answer_part(
     s
 }
 
-// The answer to a last line that no line feed ends, in a lent buffer from its start, and its length. A line with no bytes has none, and a buffer of fewer than 512 bytes stays as it is.
+// The answer to a last line that no line feed ends, in a lent buffer from its start, and its length.
+// A line with no bytes has none, and a buffer of fewer than 512 bytes stays as it is.
 pub fn answer_last(
     file: &[u8],
     judged: FileCalendar,
-    t: Taken,
+    t: NoticesTaken,
     calls: &[u32],
     ids: &[u8],
     refusals: &mut [u8],
@@ -163,7 +166,7 @@ pub fn answer_last(
     line: LongLine,
     out: &mut [u8],
 ) -> usize
-    ensures { λ r. ⌜ LastAnswer (standingIn judged (now (file .entry)) t (now (calls .entry)) (now (ids .entry)) (length (now (refusals .entry)))) number line (now (out .entry)) (now (out .exit)) r ⌝ }
+    ensures { λ r. ⌜ QueryLastAnswer (standingIn judged (now (file .entry)) t (now (calls .entry)) (now (ids .entry)) (length (now (refusals .entry)))) number line (now (out .entry)) (now (out .exit)) r ⌝ }
 {
     if line.length == 0 {
         return 0;

@@ -2,14 +2,14 @@
 -- Assumes nothing.
 use mathlib.Core.Path.{_≡_, refl, _∙_, sym, ap}
 use mathlib.Core.Bool.{Bool, true, false, cond}
-use mathlib.Core.List.{List, [], _∷_, _++_}
+use mathlib.Core.List.{List, _∷_}
 use Prim.Native.Nat.{ℕ}
 use Rattle.table.specs.declared.Table.{Table}
 use Rattle.history.specs.History.{tableCall, tableRun}
 use Rattle.delivery_notices.specs.Notices.{Notice}
-use Rattle.delivery_calls.proofs.Refused.{refused-same}
+use Rattle.delivery_calls.proofs.RefusedCalls.{refused-same}
 use Rattle.delivery_tables.specs.Tables.{concerns, callsFor, noCall, noticed, refusalsFor, Comment}
-use Rattle.delivery_tables.proofs.Taking.{run-first, run-append, refusals-append}
+use Rattle.delivery_tables.proofs.NoticesOnTable.{run-first, run-append, refusals-append}
 
 noticed-still : (id : List ℕ) (t : Table) (n : Notice) → (concerns id n ≡ true → tableCall t (n .call) .refusal ≡ 0 → ⊥) → noticed id t n .table ≡ t
 unfolding noticed

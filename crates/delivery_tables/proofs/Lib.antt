@@ -1,3 +1,3 @@
-pub mod Taking
-pub mod Held
+pub mod NoticesOnTable
+pub mod CallsHeld
 pub mod Comments

@@ -1,22 +1,22 @@
 // The table of a product after the notices of two lent lists.
-use apart::Rest;
-use delivery_calls::Made;
+use delivery_calls::MadeApart;
+use file_calendar::FileCalendar;
+use session_apart::Rest;
 use table::Table;
-use years::FileCalendar;
 ghost use mathlib.Core.Path.{_≡_};
 ghost use mathlib.Core.Bool.{not, _||_};
 ghost use mathlib.Core.List.{[], _∷_};
 ghost use Prim.Native.Nat.{_+_, _*_, _≤_, _<_};
 ghost use lib.Dec.{eqb};
 ghost use lib.ListN.{length, getD};
-ghost use Rattle.years.specs.Calendars.{calendarAnswer};
+ghost use Rattle.file_calendar.specs.Calendars.{calendarAnswer};
 ghost use Rattle.table.specs.Table.{openIn, sound};
 ghost use Rattle.history.specs.History.{tableCall};
-ghost use Rattle.replay.specs.Replay.{callOf};
-ghost use Rattle.master.specs.Products.{sameId};
-ghost use Rattle.apart.specs.Apart.{tableWith};
-ghost use Rattle.delivery_calls.specs.Calls.{CallMade};
-ghost use Rattle.delivery_notices.specs.Lists.{noticeAt, noticesTo};
+ghost use Rattle.history_replay.specs.Replay.{callOf};
+ghost use Rattle.file_load.specs.Products.{sameId};
+ghost use Rattle.session_apart.specs.Apart.{tableWith};
+ghost use Rattle.delivery_calls.specs.CallsApart.{CallMade};
+ghost use Rattle.delivery_notices.specs.NoticeLists.{noticeAt, noticesTo};
 ghost use Rattle.delivery_tables.specs.Tables.{noticed, NoticesMade, Delivers};
 
 // What a product's notices end with: whether the buffer has room for the refusals, open's refusal, and the table.
@@ -27,7 +27,7 @@ pub struct Delivered {
 }
 
 // Number i of a list; 0 past its end.
-pub fn number_at(list: &[u32], i: usize) -> u32
+pub fn call_number(list: &[u32], i: usize) -> u32
     ensures { λ r. ⌜ r ≡ getD (now (list .entry)) i 0 ⌝ }
 {
     if i < list.len() {
@@ -37,15 +37,15 @@ pub fn number_at(list: &[u32], i: usize) -> u32
 }
 
 // The four bytes of id i of a list; 0 past its end.
-pub fn id_in(ids: &[u8], i: u32) -> records::FourBytes
+pub fn id_in(ids: &[u8], i: u32) -> file_records::FourBytes
     ensures { λ r. ⌜ r ≡ getD (now (ids .entry)) (4 * i) 0 ∷ getD (now (ids .entry)) (4 * i + 1) 0 ∷ getD (now (ids .entry)) (4 * i + 2) 0 ∷ getD (now (ids .entry)) (4 * i + 3) 0 ∷ [] ⌝ }
 {
     let at = 4 * (i as usize);
     [
-        blocks::byte_at(ids, at),
-        blocks::byte_at(ids, at + 1),
-        blocks::byte_at(ids, at + 2),
-        blocks::byte_at(ids, at + 3),
+        file_blocks::byte_at(ids, at),
+        file_blocks::byte_at(ids, at + 1),
+        file_blocks::byte_at(ids, at + 2),
+        file_blocks::byte_at(ids, at + 3),
     ]
 }
 
@@ -69,7 +69,7 @@ fn call_at(
     exchange: &mut [u8; 736],
     calls: &[u32],
     i: u32,
-) -> Made
+) -> MadeApart
     ensures { λ r. ⌜ (ten ≡ sound (tableWith rest (now (closed .entry)) (now (exchange .entry))) → CallMade (tableCall (tableWith rest (now (closed .entry)) (now (exchange .entry))) (callOf (getD (now (calls .entry)) (5 * i + 1) 0) (getD (now (calls .entry)) (5 * i + 2) 0) (getD (now (calls .entry)) (5 * i + 3) 0) (getD (now (calls .entry)) (5 * i + 4) 0))) r (now (closed .exit)) (now (exchange .exit))) ⌝ }
 {
     let at = 5 * (i as usize);
@@ -80,10 +80,10 @@ fn call_at(
         ten,
         closed,
         exchange,
-        number_at(calls, at + 1),
-        number_at(calls, at + 2),
-        number_at(calls, at + 3),
-        number_at(calls, at + 4),
+        call_number(calls, at + 1),
+        call_number(calls, at + 2),
+        call_number(calls, at + 3),
+        call_number(calls, at + 4),
     )
 }
 
@@ -99,17 +99,18 @@ fn notice_at(
     calls: &[u32],
     ids: &[u8],
     i: u32,
-) -> Made
+) -> MadeApart
     ensures { λ r. ⌜ (ten ≡ sound (tableWith rest (now (closed .entry)) (now (exchange .entry))) → CallMade (noticed id (tableWith rest (now (closed .entry)) (now (exchange .entry))) (noticeAt (now (calls .entry)) (now (ids .entry)) i)) r (now (closed .exit)) (now (exchange .exit))) ⌝ }
 {
-    let kind = number_at(calls, 5 * (i as usize) + 1);
+    let kind = call_number(calls, 5 * (i as usize) + 1);
     if !concerns(kind, id_in(ids, i), id) {
-        return Made { refusal: 0, rest };
+        return MadeApart { refusal: 0, rest };
     }
     call_at(file, judged, rest, ten, closed, exchange, calls, i)
 }
 
-// The first notices of two lists on a product's table, one after the other, with the number of each one's refusal in a lent buffer. The maps are apart, so that most notices copy neither; the answer to question 10 stays as it is.
+// The first notices of two lists on a product's table, one after the other, with the number of each one's refusal in a lent buffer.
+// The maps are apart, so that most notices copy neither; the answer to question 10 stays as it is.
 fn run_notices(
     file: &[u8],
     judged: FileCalendar,
@@ -155,7 +156,7 @@ fn take_notices(
     let cal = table.calendar;
     let mut closed = cal.closed;
     let mut exchange = cal.exchange;
-    let start = apart::rest_of(table);
+    let start = session_apart::table_rest(table);
     let rest = run_notices(
         file,
         judged,
@@ -169,10 +170,13 @@ fn take_notices(
         count,
         refusals,
     );
-    apart::table_of(rest, closed, exchange)
+    session_apart::table_of(rest, closed, exchange)
 }
 
-// The table of the product with an id, opened on a date, after the first notices of two lists. The file's verdict by `judge` is at hand, so questions 1 to 8 are not asked again. The number of each notice's refusal, 0 where it is accepted or is no call of the product, goes to a lent buffer; where that has no room for them no notice is taken.
+// The table of the product with an id, opened on a date, after the first notices of two lists.
+// The file's verdict by `judge` is at hand, so questions 1 to 8 are not asked again.
+// The number of each notice's refusal, 0 where it is accepted or is no call of the product, goes to a lent buffer;
+// where that has no room for them no notice is taken.
 pub fn deliver(
     file: &[u8],
     judged: FileCalendar,

@@ -1,4 +1,6 @@
--- The worked examples marked P, as one table of tests (01, March 2008 and its neighbours), and our own for document 02: months of futures of 2005 (note 1), days stepped back (note 2), weekly options (note 3), sizes, prices and cash with ten-thousandths of a share (note 11).
+-- The worked examples marked P, as one table of tests (01, March 2008 and its neighbours),
+-- and our own for document 02: months of futures of 2005 (note 1), days stepped back (note 2), weekly options (note 3),
+-- sizes, prices and cash with ten-thousandths of a share (note 11).
 -- Assumes nothing.
 use Prim.Native.Nat.{ℕ}
 use mathlib.Core.Bool.{Bool, true, false, not, _&&_}
@@ -12,7 +14,7 @@ use Rattle.calendar.specs.declared.Cover.{Cover}
 use Rattle.calendar.specs.declared.Calendar.{Calendar}
 use Rattle.calendar.specs.Trading.{closeDay}
 use Rattle.product.specs.declared.Kind.the-variants.{Future, Option}
-use Rattle.product.specs.declared.Text.the-variants.{Of2008, Of2005}
+use Rattle.product.specs.declared.ListingText.the-variants.{Of2008, Of2005}
 use Rattle.product.specs.declared.Term.the-variants.{Months12, Weeks5}
 use Rattle.product.specs.declared.Product.{Product}
 use Rattle.product.specs.Fields.{EUR}
@@ -25,7 +27,7 @@ use Rattle.listing.specs.Months.{ruleOf, weekIntoCover}
 use Rattle.table.specs.declared.Table.{Table}
 use Rattle.table.specs.declared.Outcome.{Outcome}
 use Rattle.table.specs.Table.{listedIn, openedTable, rollCall}
-use Rattle.prices.specs.Prices.{tickCall, cashCall}
+use Rattle.table_prices.specs.TablePrices.{tickCall, cashCall}
 
 -- a call's refusal and value
 abbrev pub answers : Answer ℕ → ℕ → ℕ → Bool
@@ -78,11 +80,13 @@ also20 = closeDay only21 (dayOf 2008 3 20)
 unfoldable pub mayDay : Calendar
 mayDay = closeDay open2008 (dayOf 2009 5 1)
 
--- 'kind 1 of FR11', on a date
+-- 'kind 1 of FR11',
+-- on a date
 unfoldable pub monthsOn : ℕ → List ℕ
 monthsOn date = freshKeys (ruleOf only21 (Option Months12) FR11) only21 date
 
--- 'kind 4, a future of 2005' (02, note 1), of FR01, on a date
+-- 'kind 4, a future of 2005' (02, note 1),
+-- of FR01, on a date
 unfoldable pub futuresOn : ℕ → List ℕ
 futuresOn date = freshKeys (ruleOf only21 (Future Of2005) FR01) only21 date
 
@@ -143,7 +147,8 @@ rows =
     -- 'With 20 March closed too: 19 March for both'
     eqb (lastTradingDay also20 (Option Months12) FR11 (monthNumber 2008 3)) (dayOf 2008 3 19) ∷
     eqb (lastTradingDay also20 (Option Months12) IT11 (monthNumber 2008 3)) (dayOf 2008 3 19) ∷
-    -- 'March 2008 in the example shows 1 for FR11' (02, note 2), and 0 for IT11
+    -- 'March 2008 in the example shows 1 for FR11' (02, note 2),
+    -- and 0 for IT11
     eqb (workedOut only21 (Option Months12) FR11 (monthNumber 2008 3) .back) 1 ∷
     eqb (workedOut only21 (Option Months12) IT11 (monthNumber 2008 3) .back) 0 ∷
     -- with 20 March closed too 2 and 1
@@ -170,19 +175,23 @@ rows =
     -- weekly options (02, note 3), with only 21 March closed: a table of 17 March 2008 lists the Fridays 28 March, 4, 11 and 25 April, for FR11 and IT11 alike
     sameList (fridaysOn FR11 (dayOf 2008 3 17)) (dayOf 2008 3 28 ∷ dayOf 2008 4 4 ∷ dayOf 2008 4 11 ∷ dayOf 2008 4 25 ∷ []) ∷
     sameList (fridaysOn IT11 (dayOf 2008 3 17)) (dayOf 2008 3 28 ∷ dayOf 2008 4 4 ∷ dayOf 2008 4 11 ∷ dayOf 2008 4 25 ∷ []) ∷
-    -- 'The Italian rule takes no part in them': on Friday 28 March itself IT11 still lists it
+    -- 'The Italian rule takes no part in them':
+    -- on Friday 28 March itself IT11 still lists it
     sameList (fridaysOn IT11 (dayOf 2008 3 28)) (dayOf 2008 3 28 ∷ dayOf 2008 4 4 ∷ dayOf 2008 4 11 ∷ dayOf 2008 4 25 ∷ []) ∷
-    -- 'each taken back to the latest trading day at or before it': Friday 1 May 2009, closed, ends on Thursday 30 April, one day back
+    -- 'each taken back to the latest trading day at or before it':
+    -- Friday 1 May 2009, closed, ends on Thursday 30 April, one day back
     eqb (workedOut mayDay (Option Weeks5) IT11 (dayOf 2009 5 1) .day) (dayOf 2009 4 30) ∷
     eqb (workedOut mayDay (Option Weeks5) IT11 (dayOf 2009 5 1) .back) 1 ∷
     -- rolled to 29 March the table lists 4, 11, 25 April and 2 May, which has number 5
     eqb (weeklyRolled .refusal) 0 ∷
     sameList (map (λ m. m .key) (listedIn (weeklyRolled .table))) (dayOf 2008 4 4 ∷ dayOf 2008 4 11 ∷ dayOf 2008 4 25 ∷ dayOf 2008 5 2 ∷ []) ∷
     sameList (map (λ m. m .number) (listedIn (weeklyRolled .table))) (2 ∷ 3 ∷ 4 ∷ 5 ∷ []) ∷
-    -- '24 .. is the date at least seven days after the cover's first day?': in a cover from 2010 not 7 January, but 8 January
+    -- '24 .. is the date at least seven days after the cover's first day?':
+    -- in a cover from 2010 not 7 January, but 8 January
     not (weekIntoCover (Option Weeks5) cover2010 (dayOf 2010 1 7)) ∷
     weekIntoCover (Option Weeks5) cover2010 (dayOf 2010 1 8) ∷
-    -- 'in opening kind 5': of kind 1 it is not asked
+    -- 'in opening kind 5':
+    -- of kind 1 it is not asked
     weekIntoCover (Option Months12) cover2010 (dayOf 2010 1 1) ∷
     -- '3 contracts of 100, agreed 12.3400, final 12.5000: +480,000'; 'whole sizes give the old amount and rest 0' (02, note 11)
     pays (cashCall futureTable 3 123400 125000) 480000 ∷
@@ -190,13 +199,15 @@ rows =
     eqb (newSize 1000000 3 2) 1500000 ∷ eqb (newPrice 123400 1000000 1500000) 82267 ∷
     -- 100 shares at 10.0000, 1 for 3: 33.3333 shares at 30.0000
     eqb (newSize 1000000 1 3) 333333 ∷ eqb (newPrice 100000 1000000 333333) 300000 ∷
-    -- 'halves upward': one ten-thousandth, 1 for 2, stays; 1 for 3 is 0, which 29 refuses
+    -- 'halves upward':
+    -- one ten-thousandth, 1 for 2, stays; 1 for 3 is 0, which 29 refuses
     eqb (newSize 1 1 2) 1 ∷ eqb (newSize 1 1 3) 0 ∷ measureRight 1 1 2 100 ∷ not (measureRight 1 1 3 100) ∷
     -- 65,535.9999 shares, 1 for 1, pass 29, and not 2 for 1; neither does a price above 99,999.9999
     measureRight 655359999 1 1 100 ∷ not (measureRight 655359999 2 1 100) ∷ not (measureRight 10000 1 2 999999999) ∷
     -- one contract of 33.3333 shares, agreed 0.0100, final 0.0101: +33 rest 3,333
     isPositive (cashOf 1 333333 100 101) 33 3333 ∷
-    -- 'the sign covering both, zero being positive': of one ten-thousandth, from 0.0001 to 0 a negative amount of 0, rest 1; equal prices a positive 0
+    -- 'the sign covering both, zero being positive':
+    -- of one ten-thousandth, from 0.0001 to 0 a negative amount of 0, rest 1; equal prices a positive 0
     isNegative (cashOf 1 1 1 0) 0 1 ∷ isPositive (cashOf 1 1 100 100) 0 0 ∷
     -- 100,000 contracts of 65,535.9999 shares, agreed 0.0001, final 99,999.9999: 6,553,599,976,892,800,020 rest 0
     isPositive (cashOf 100000 655359999 1 999999999) 6553599976892800020 0 ∷

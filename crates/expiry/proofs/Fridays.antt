@@ -24,6 +24,7 @@ first-friday : (d : ℕ) → firstFrom friday d 7 d ≡ d + wait d
 first-friday d =
     first-is friday d 7 d (wait d) (omega arith) (λ i h. ne-eqb (weekdayOf (d + i)) 4 (omega arith)) (eq-eqb (weekdayOf (d + wait d)) 4 (omega arith))
 
+-- the third Friday of a month is two weeks after the first Friday on or after the month's first day
 pub third-is : (m : ℕ) → thirdFriday m ≡ firstOf m + wait (firstOf m) + 14
 unfolding thirdFriday
 third-is m = ap (λ (d : ℕ). d + 14) (first-friday (firstOf m))
@@ -53,6 +54,7 @@ pub no-friday : (d w : ℕ) → w ≡ weekdayOf d → (w ≡ 4 → ⊥) → fals
 unfolding weeklyFriday
 no-friday d w e n = rw (ne-eqb (weekdayOf d) 4 (λ q. n (e ∙ q)))
 
+-- a Friday is a weekly Friday exactly where it is not the third Friday of its month
 pub not-third : (d w t : ℕ) → w ≡ weekdayOf d → w ≡ 4 → t ≡ thirdFriday (monthOf d) → not (eqb d t) ≡ weeklyFriday d
 unfolding weeklyFriday
 not-third d w t e q r = rw (eq-eqb (weekdayOf d) 4 (sym e ∙ q), r)

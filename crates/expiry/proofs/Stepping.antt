@@ -16,10 +16,13 @@ use Rattle.expiry.specs.LastDays.{thirdFriday, monthAnchor, lastDay, las
 
 -- the state of the loop: the day looked for is the latest trading day before the day, and the steps made lead from the anchor to the day
 pub record Stepping (f : ℕ → Bool) (anchor day back : ℕ) : Type 0 where
+  -- the latest trading day before the day is the latest one before the anchor
   pub same : latest f (day - 1) ≡ latest f (anchor - 1)
+  -- the day plus the steps made is the anchor
   pub made : day + back ≡ anchor
 
 module _ (f : ℕ → Bool) (anchor : ℕ) where
+  -- the loop starts at the anchor with no step made
   pub starts : Stepping f anchor anchor 0
   starts = record { same = refl; made = omega arith }
 
@@ -48,12 +51,14 @@ module _ (f : ℕ → Bool) (anchor : ℕ) where
 
 -- 'The last trading day is the anchor if it is a trading day, else the latest trading day before it'
 module _ (cal : Calendar) (anchor : ℕ) where
+  -- where the anchor is a trading day, it is the last trading day, with no day stepped back
   pub there : tradingDay cal anchor ≡ true → _≡_ {A = LastDay} (record { day = anchor; back = 0 }) (steppedTo anchor (lastDay cal anchor))
   unfolding lastDay
   there t =
       let z : 0 ≡ anchor - anchor = omega arith in
       rw (t, ← z)
 
+  -- where the anchor is no trading day, the last trading day is the latest trading day before it
   pub before : tradingDay cal anchor ≡ false → steppedTo anchor (latest (tradingDay cal) (anchor - 1)) ≡ steppedTo anchor (lastDay cal anchor)
   unfolding lastDay
   before t = rw t

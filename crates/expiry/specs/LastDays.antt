@@ -30,15 +30,18 @@ weeklyFriday d = friday d && not (eqb d (thirdFriday (monthOf d)))
 unfoldable pub monthAnchor : List ℕ → ℕ → ℕ
 monthAnchor group m = cond (italian group) (thirdFriday m - 1) (thirdFriday m)
 
--- a maturity is named by its key: a month by its number, a weekly maturity by the day number of its Friday, 'by whose date it is named' (02, note 3). The key of a day is where the keys from that day on begin: its month's number; of weekly maturities the day's own number
+-- a maturity is named by its key: a month by its number, a weekly maturity by the day number of its Friday, 'by whose date it is named' (02, note 3).
+-- The key of a day is where the keys from that day on begin: its month's number; of weekly maturities the day's own number
 unfoldable pub keyOf : Kind → ℕ → ℕ
 keyOf kind d = cond (isWeekly kind) d (monthOf d)
 
--- the anchor of a key: its month's; 'A weekly maturity's anchor is its Friday', and 'The Italian rule takes no part in them' (02, note 3)
+-- 'A weekly maturity's anchor is its Friday', and 'The Italian rule takes no part in them' (02, note 3):
+-- the anchor of a key: its month's, or its Friday
 unfoldable pub anchorOf : Kind → List ℕ → ℕ → ℕ
 anchorOf kind group key = cond (isWeekly kind) key (monthAnchor group key)
 
--- 'The last trading day is the anchor if it is a trading day, else the latest trading day before it'; 0 where there is none
+-- 'The last trading day is the anchor if it is a trading day, else the latest trading day before it';
+-- 0 where there is none
 unfoldable pub lastDay : Calendar → ℕ → ℕ
 lastDay cal anchor = cond (tradingDay cal anchor) anchor (latest (tradingDay cal) (anchor - 1))
 

@@ -1,5 +1,7 @@
-// The line that is printed, piece by piece, and what is told on standard error. No buffer stands beside the block: `io::write_all`, which `os::fail` calls, has one of 4,096 bytes.
-use intake_texts::Ended;
+// The line that is printed, piece by piece, and what is told on standard error.
+// No buffer stands beside the block: `io::write_all`, which `os::fail` calls, has one of 4,096 bytes.
+use file_intake_text::Ended;
+use libc::EBADF;
 use libc::EIO;
 use libc::EISDIR;
 use libc::ENOSPC;
@@ -8,9 +10,9 @@ ghost use mathlib.Core.Path.{_≡_};
 ghost use mathlib.Core.Bool.{true};
 ghost use Prim.Native.Nat.{_+_};
 ghost use lib.ListN.{length};
-ghost use Rattle.printing.specs.Text.{decimal};
-ghost use Rattle.contents.specs.Whole.{NextOf};
-ghost use Rattle.intake_texts.specs.Texts.{endedText};
+ghost use Rattle.session_text.specs.TermsText.{decimal};
+ghost use Rattle.file_text_print.specs.WholeText.{NextOf};
+ghost use Rattle.file_intake_text.specs.GatewayTexts.{endedText};
 
 // Whether standard output has taken all that was handed to it, and how many bytes that is. Its fields are private: only this file makes one.
 pub struct Sent {
@@ -36,6 +38,8 @@ fn tell_reason(error: i32) {
         streams::tell(b"EISDIR\n");
     } else if error == ENOSPC {
         streams::tell(b"ENOSPC\n");
+    } else if error == EBADF {
+        streams::tell(b"EBADF\n");
     } else {
         streams::tell(b"unknown\n");
     }
@@ -89,8 +93,8 @@ fn write_number(sent: Sent, e: Ended, n: u16) -> Sent
     requires { ⌜ NextOf (endedText e) (sent .bytes) (decimal n) ⌝ }
     ensures { λ r. ⌜ r .bytes ≡ sent .bytes + length (decimal n) ⌝ }
 {
-    let digits = intake_texts::five_digits(n);
-    let from = 5 - intake_texts::digit_count(n);
+    let digits = file_intake_text::five_digits(n);
+    let from = 5 - file_intake_text::digit_count(n);
     write_piece(sent, e, &digits[from..])
 }
 

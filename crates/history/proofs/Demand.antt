@@ -13,12 +13,12 @@ use Rattle.product.specs.declared.Product.{Product}
 use Rattle.listing.specs.Rules.{Rule, widest, lastDayOf, countFrom, freshKeys, maturity}
 use Rattle.expiry.specs.LastDays.{lastTradingDay}
 use Rattle.listing.specs.Months.{coverRule, keysOf, ruleOf, freshOf}
-use Rattle.listing.proofs.Places.{before-none}
+use Rattle.listing.proofs.OpenPlaces.{before-none}
 use Rattle.listing.proofs.Lawful.{Lawful, key-of, day-past}
 use Rattle.listing.proofs.OfKinds.{rule-lawful, rule-keys, months-most}
 use Rattle.table.specs.declared.Table.{Table}
 use Rattle.history.specs.declared.Called.{Called}
-use Rattle.places.specs.Numbering.{isListed, numberOf, unnumbered}
+use Rattle.table_numbering.specs.Numbering.{isListed, numberOf, unnumbered}
 use Rattle.table.specs.Table.{listedIn, sound, openedTable}
 use Rattle.history.specs.Book.{Call, Book, bookOpened, bookAfter, bookRun, bookReplies}
 use Rattle.history.specs.History.{tableCall, tableRun, tableReplies, calendarOfCalls, dateOfCalls, opens, WasListed, Demand3}
@@ -26,8 +26,8 @@ use Rattle.history.proofs.Gone.{once-apart}
 use Rattle.history.proofs.Left.{left-listed}
 use Rattle.history.proofs.Moves.{fresh, now, present-is, number-is, given-most, numbersFirst}
 use Rattle.history.proofs.Soundness.{Opened, opened}
-use Rattle.history.proofs.Runs.{ruleIn, frontIn, known, Inv, Later, starts, turn-later, run-later, run-append}
-use Rattle.history.proofs.Tables.{tableIn, table-lists, sound-in, turn, table-run, reply-run, calendar-run, date-run, opened-in}
+use Rattle.history.proofs.BookMoments.{ruleIn, frontIn, known, Inv, Later, starts, turn-later, run-later, run-append}
+use Rattle.history.proofs.TableAsBook.{tableIn, table-lists, sound-in, turn, table-run, reply-run, calendar-run, date-run, opened-in}
 
 -- without its numbers a numbered listing is the fresh one
 unnumbered-is : (r : Rule) (cal : Calendar) (nu : ℕ → ℕ) (ks : List ℕ) → unnumbered (map (maturity r cal nu) ks) ≡ map (maturity r cal (λ k. 0)) ks

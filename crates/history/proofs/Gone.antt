@@ -13,10 +13,10 @@ use Rattle.questions.proofs.Bools.{clash, both, and-both, or-left, or-right, is
 use Rattle.calendar.specs.declared.Calendar.{Calendar}
 use Rattle.product.specs.declared.Kind.{Kind}
 use Rattle.listing.specs.declared.Maturity.{Maturity}
-use Rattle.places.specs.Laws.{Rising}
-use Rattle.places.proofs.Rising.{rising-tail, rising-once}
+use Rattle.table_numbering.specs.NumberingLaws.{Rising}
+use Rattle.table_numbering.proofs.MonthsRise.{rising-tail, rising-once}
 use Rattle.history.specs.Book.{bookOpened}
-use Rattle.history.proofs.Numbers.{one-append, listed-one}
+use Rattle.history.proofs.ListingNumbers.{one-append, listed-one}
 
 -- 'no month has left' at the opening
 pub none-left : (kind : Kind) (group : List ℕ) (size : ℕ) (cal : Calendar) (date k : ℕ) → oneOf (bookOpened kind group size cal date .gone) k ≡ false

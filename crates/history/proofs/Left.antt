@@ -14,11 +14,11 @@ use Rattle.calendar.specs.Trading.{closeDay, reopenDay}
 use Rattle.product.specs.declared.Kind.{Kind}
 use Rattle.listing.specs.declared.Maturity.{Maturity}
 use Rattle.listing.specs.Months.{freshOf}
-use Rattle.places.specs.Numbering.{isListed, missing}
+use Rattle.table_numbering.specs.Numbering.{isListed, missing}
 use Rattle.history.specs.Book.{Call, roll, close, reopen, measure, Book, bookOpened, bookAsks, bookMoved, bookResized, bookAccepted, bookAfter, bookRun}
-use Rattle.history.proofs.Numbers.{one-append, listed-one}
+use Rattle.history.proofs.ListingNumbers.{one-append, listed-one}
 use Rattle.history.proofs.Gone.{none-left}
-use Rattle.history.proofs.Runs.{known}
+use Rattle.history.proofs.BookMoments.{known}
 
 -- a month that is missing elsewhere is listed here
 missing-listed : (ms others : List Maturity) (k : ℕ) → isListed (missing ms others) k ≡ true → isListed ms k ≡ true
@@ -64,9 +64,13 @@ module _ (kind : Kind) (group : List ℕ) where
 
   -- after some beginning of the calls the book listed the month
   pub record BookListed (b : Book) (cs : List Call) (k : ℕ) : Type 0 where
+    -- a beginning of the list of calls
     pub beginning : List Call
+    -- the calls after the beginning
     pub rest : List Call
+    -- the beginning and the rest are all the calls
     pub whole : cs ≡ beginning ++ rest
+    -- after the beginning the book lists the month
     pub listed : isListed (bookRun kind group b beginning .maturities) k ≡ true
 
   -- a list of calls: the month had left before it, or was listed in it

@@ -14,14 +14,14 @@ use Rattle.calendar.specs.declared.Calendar.{Calendar}
 use Rattle.listing.specs.declared.Maturity.{Maturity}
 use Rattle.listing.specs.Rules.{Rule, lastOf, front, countFrom, keysBefore, freshKeys, maturity}
 use Rattle.listing.proofs.Walks.{bit}
-use Rattle.listing.proofs.Places.{before-none}
+use Rattle.listing.proofs.OpenPlaces.{before-none}
 use Rattle.listing.proofs.Lawful.{Lawful, inListing, front-most, fresh-is, key-of, keys-stay}
-use Rattle.places.specs.Numbering.{isListed, numberOf, missing, renumbered}
-use Rattle.places.specs.Laws.{only, MissingLaw}
-use Rattle.listing.proofs.Counting.{count-add, count-window, count-balance, count-less, length-sift}
-use Rattle.places.proofs.Rising.{listing-rises}
-use Rattle.places.proofs.Renumbering.{missing-law}
-use Rattle.history.proofs.Numbers.{but, next, number-of, listed-is, renumbered-is, Numbers, next-keeps, next-numbers}
+use Rattle.table_numbering.specs.Numbering.{isListed, numberOf, missing, renumbered}
+use Rattle.table_numbering.specs.NumberingLaws.{only, MissingLaw}
+use Rattle.listing.proofs.KeyCounts.{count-add, count-window, count-balance, count-less, length-sift}
+use Rattle.table_numbering.proofs.MonthsRise.{listing-rises}
+use Rattle.table_numbering.proofs.Renumbering.{missing-law}
+use Rattle.history.proofs.ListingNumbers.{but, next, number-of, listed-is, renumbered-is, Numbers, next-keeps, next-numbers}
 
 -- the fresh listing of a rule, not yet numbered
 abbrev pub fresh : Rule → Calendar → ℕ → List Maturity
@@ -35,25 +35,38 @@ now r cal date = inListing r (front r cal date)
 abbrev pub numbersNext : Rule → Calendar → ℕ → ℕ → (ℕ → ℕ) → Calendar → ℕ → ℕ → ℕ
 numbersNext r cal date given nu cal′ date′ = next (but (now r cal′ date′) (now r cal date)) given nu
 
+-- the numbers that keys have once a first listing is made
 abbrev pub numbersFirst : Rule → Calendar → ℕ → ℕ → ℕ
 numbersFirst r cal date = next (but (now r cal date) (λ k. false)) 0 (λ k. 0)
 
 -- the maturities are the fresh listing with the numbers of nu; a key that ever had a number and is not before the front is listed; given − listed is at least 0 and at most the keys before the front
 pub record Numbered (r : Rule) (cal : Calendar) (date : ℕ) (ms : List Maturity) (given : ℕ) (nu : ℕ → ℕ) : Type 0 where
+  -- the maturities are the fresh listing with these numbers
   pub listing : ms ≡ map (maturity r cal nu) (freshKeys r cal date)
+  -- the numbers of the fresh keys are distinct, from 1 to the count given
   pub numbers : Numbers (now r cal date) given nu
+  -- a key that ever had a number and is not before the front is in the fresh listing
   pub there : (k : ℕ) → 1 ≤ nu k → front r cal date ≤ k → now r cal date k ≡ true
+  -- the front is not before the rule's first key
   pub begins : r .first ≤ front r cal date
+  -- the count given is at least the number of maturities
   pub enough : length ms ≤ given
+  -- the count given is at most the number of maturities and of keys before the front
   pub few : given ≤ length ms + keysBefore r cal date
 
 -- what holds once the listing of another calendar and date replaces it: it is numbered again, numbers once given stay, entered + old = left + new, its months are the fresh ones, and those that left lie from the old front on, before the new
 pub record Moved (r : Rule) (cal : Calendar) (date : ℕ) (ms : List Maturity) (given : ℕ) (nu : ℕ → ℕ) (cal′ : Calendar) (date′ : ℕ) : Type 0 where
+  -- the listing that replaces the old one is numbered
   pub numbered : Numbered r cal′ date′ (renumbered ms given (fresh r cal′ date′)) (given + length (missing (fresh r cal′ date′) ms)) (numbersNext r cal date given nu cal′ date′)
+  -- a number once given stays the same after the move
   pub grows : (k : ℕ) → 1 ≤ nu k → numbersNext r cal date given nu cal′ date′ k ≡ nu k
+  -- the months that entered and the old listing are as many as those that left and the new listing
   pub balance : length (missing (fresh r cal′ date′) ms) + length ms ≡ length (missing ms (fresh r cal′ date′)) + length (renumbered ms given (fresh r cal′ date′))
+  -- the months of the new listing are those of the fresh one
   pub listed : (k : ℕ) → isListed (renumbered ms given (fresh r cal′ date′)) k ≡ isListed (fresh r cal′ date′) k
+  -- the months that left are those of the old listing that the fresh one has not, by rising month
   pub left : MissingLaw ms (fresh r cal′ date′) (missing ms (fresh r cal′ date′))
+  -- a month that left is before the new front and not before the old one
   pub between : (k : ℕ) → isListed (missing ms (fresh r cal′ date′)) k ≡ true → (front r cal date ≤ k) × (k < front r cal′ date′)
 
 module _ (r : Rule) (w : Lawful r) where
@@ -65,6 +78,7 @@ module _ (r : Rule) (w : Lawful r) where
       length-map (freshKeys r cal date) (maturity r cal nu) ∙ ap length (fresh-is r w cal date) ∙ length-sift (now r cal date) (r .beyond) 0
 
   module _ (cal : Calendar) (date : ℕ) (nu : ℕ → ℕ) where
+    -- a month is listed in the numbered fresh listing where the rule lists it at the date
     pub listed-now : (k : ℕ) → isListed (map (maturity r cal nu) (freshKeys r cal date)) k ≡ now r cal date k
     listed-now k = rw (fresh-is r w cal date) (listed-is (lastOf r cal) nu (now r cal date) k (r .beyond) (below cal date k))
 
@@ -76,6 +90,7 @@ module _ (r : Rule) (w : Lawful r) where
     pub present-is : (k : ℕ) → isListed ms k ≡ now r cal date k
     present-is k = rw (I .listing) (listed-now cal date nu k)
 
+    -- a month in the fresh listing has its number, any other 0
     pub number-is : (k : ℕ) → numberOf ms k ≡ cond (now r cal date k) (nu k) 0
     number-is k = rw (I .listing) (number-now cal date nu k)
 
@@ -144,6 +159,7 @@ module _ (r : Rule) (w : Lawful r) where
       entered-law : MissingLaw (fresh r cal′ date′) ms (missing (fresh r cal′ date′) ms)
       entered-law = missing-law ms (fresh r cal′ date′) (listing-rises r w cal′ date′ (λ k. 0))
 
+      -- as many months entered as keys are in the new listing and not in the old one
       pub entered-is : length (missing (fresh r cal′ date′) ms) ≡ countFrom (but p′ p) (r .beyond) 0
       entered-is =
           entered-law .count (r .beyond) (λ k e. below cal′ date′ k (sym (listed-now cal′ date′ (λ k. 0) k) ∙ e))
@@ -226,6 +242,7 @@ module _ (r : Rule) (w : Lawful r) where
         few = omega (arith, I .few, balance, passed);
       }
 
+      -- a numbered listing, replaced by that of a calendar and date whose front is not before the old one, is numbered again
       pub moves : Moved r cal date ms given nu cal′ date′
       moves = record { numbered = moved-numbered; grows = moved-keeps; balance = balance; listed = listed-then; left = left-law; between = left-between }
 
@@ -255,10 +272,12 @@ module _ (r : Rule) (w : Lawful r) where
         go true e = both (now r cal date k) true e .0
         go false e = let q : first-numbers k ≡ 0 = rw e in absurd (omega arith)
 
+    -- the first listing has as many maturities as the fresh one
     pub first-length : length (renumbered [] 0 (fresh r cal date)) ≡ length (fresh r cal date)
     first-length =
         ap length first-listing ∙ length-map (freshKeys r cal date) (maturity r cal first-numbers) ∙ sym (length-map (freshKeys r cal date) (maturity r cal (λ k. 0)))
 
+    -- the first listing is numbered, with as many numbers given as it has maturities
     pub first-numbered : Numbered r cal date (renumbered [] 0 (fresh r cal date)) (length (fresh r cal date)) first-numbers
     first-numbered = record {
       listing = first-listing;

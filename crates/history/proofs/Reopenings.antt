@@ -15,14 +15,14 @@ use Rattle.calendar.specs.Trading.{inCover, reopenDay, closedWeekday}
 use Rattle.listing.specs.declared.Maturity.{Maturity}
 use Rattle.listing.specs.Rules.{Rule, frontStays, freshKeys, maturity}
 use Rattle.listing.specs.Months.{ruleOf, freshOf}
-use Rattle.listing.proofs.Fronts.{same-keys}
-use Rattle.places.specs.Numbering.{isListed, numberOf, missing}
+use Rattle.listing.proofs.FrontStays.{same-keys}
+use Rattle.table_numbering.specs.Numbering.{isListed, numberOf, missing}
 use Rattle.table.specs.declared.Table.{Table}
 use Rattle.table.specs.declared.Outcome.{Outcome}
 use Rattle.table.specs.Table.{listedIn, sound, moved, reopenAsks, reopenCall}
-use Rattle.table.proofs.Calls.{answered-yes}
+use Rattle.table.proofs.TableQuestions.{answered-yes}
 use Rattle.table.proofs.Opens.{refusal-is}
-use Rattle.history.proofs.Numbers.{listed-one, months-of}
+use Rattle.history.proofs.ListingNumbers.{listed-one, months-of}
 use Rattle.history.proofs.SoundTables.{sound-numbered}
 
 -- maturities that are all listed among others: none is missing there

@@ -25,19 +25,19 @@ use Rattle.listing.proofs.Lawful.{Lawful, complete-length, key-at, keys-rise}
 use Rattle.listing.proofs.Fresh.{places-most}
 use Rattle.listing.proofs.OfKinds.{rule-lawful, rule-places, rule-begins, rule-keys, months-most, rule-deep, six-back}
 use Rattle.table.specs.declared.Table.{Table}
-use Rattle.places.specs.Numbering.{isListed, numberOf, sameMaturity, numbersRight}
-use Rattle.places.proofs.Rising.{place-of, at-map}
-use Rattle.places.proofs.Unique.{same-maturity}
+use Rattle.table_numbering.specs.Numbering.{isListed, numberOf, sameMaturity, numbersRight}
+use Rattle.table_numbering.proofs.MonthsRise.{place-of, at-map}
+use Rattle.table_numbering.proofs.Unique.{same-maturity}
 use Rattle.table.specs.Table.{listedIn, listsFresh, sound, moved, rollCall, closeCall, reopenCall}
-use Rattle.measures.specs.Measures.{measureCall}
-use Rattle.measures.proofs.Kept.{asked-range, resized-sound}
+use Rattle.table_measures.specs.Measures.{measureCall}
+use Rattle.table_measures.proofs.ValueKept.{asked-range, resized-sound}
 use Rattle.history.specs.Book.{Call, roll, close, reopen, measure, Book, calendarAfter, dateAfter, bookAsks}
 use Rattle.history.specs.History.{tableCall}
-use Rattle.history.proofs.Numbers.{Numbers}
+use Rattle.history.proofs.ListingNumbers.{Numbers}
 use Rattle.history.proofs.Moves.{fresh, now, Numbered, listed-now, given-most, numbersNext, moves}
 use Rattle.history.proofs.Soundness.{Opened, at-used, is-sound}
-use Rattle.history.proofs.Calls.{rule-stays, after-opened, forward}
-use Rattle.history.proofs.Tables.{acceptedCall, eitherCall, table-answer}
+use Rattle.history.proofs.AcceptedCalls.{rule-stays, after-opened, forward}
+use Rattle.history.proofs.TableAsBook.{acceptedCall, eitherCall, table-answer}
 
 -- a month with a number is listed
 number-listed : (ms : List Maturity) (k : ℕ) → 1 ≤ numberOf ms k → isListed ms k ≡ true
@@ -325,9 +325,11 @@ module _ (t : Table) (e : sound t ≡ true) where
       → getD (t .maturities) i unused .key ≡ getD (freshKeys (ruleOf (t .calendar) (t .product .kind) (t .product .group)) (t .calendar) (t .date)) i 0
   key-right i h = same-in t (sounds t e) i h .0
 
+  -- the number of the key in a used place of a sound table is the number in that place
   pub number-right : (i : ℕ) → i < placesOfKind (t .product .kind) → numberOf (listedIn t) (getD (t .maturities) i unused .key) ≡ getD (t .maturities) i unused .number
   number-right i h = ap (numberOf (listedIn t)) (key-right i h) ∙ number-key t (sounds t e) i h
 
+  -- the key in a used place of a sound table is listed
   pub key-listed : (i : ℕ) → i < placesOfKind (t .product .kind) → isListed (listedIn t) (getD (t .maturities) i unused .key) ≡ true
   key-listed i h =
       number-listed (listedIn t) (getD (t .maturities) i unused .key) (omega (arith, number-right i h, number-in t (sounds t e) i h .pos))
@@ -336,14 +338,18 @@ module _ (t : Table) (e : sound t ≡ true) where
   pub call-sound : (c : Call) → sound (tableCall t c .table) ≡ true
   call-sound = called-sound t (sounds t e) e
 
+  -- a roll of a sound table gives a sound table
   pub roll-sound : (date : ℕ) → sound (rollCall t date .table) ≡ true
   roll-sound date = call-sound (roll date)
 
+  -- closing a day of a sound table gives a sound table
   pub close-sound : (day : ℕ) → sound (closeCall t day .table) ≡ true
   close-sound day = call-sound (close day)
 
+  -- reopening a day of a sound table gives a sound table
   pub reopen-sound : (day : ℕ) → sound (reopenCall t day .table) ≡ true
   reopen-sound day = call-sound (reopen day)
 
+  -- a measure of a sound table gives a sound table
   pub measure-sound : (p q price : ℕ) → sound (measureCall t p q price .table) ≡ true
   measure-sound p q price = call-sound (measure p q price)

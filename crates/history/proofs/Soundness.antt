@@ -25,23 +25,31 @@ use Rattle.listing.proofs.Walks.{sift-at}
 use Rattle.listing.proofs.Lawful.{Lawful, fresh-is, complete-length, keys-rise}
 use Rattle.listing.proofs.OfKinds.{rule-lawful, rule-places}
 use Rattle.table.specs.declared.Table.{Table}
-use Rattle.places.specs.Numbering.{sameMaturity, numbersRight}
+use Rattle.table_numbering.specs.Numbering.{sameMaturity, numbersRight}
 use Rattle.table.specs.Table.{listedIn, listsFresh, sound}
 use Rattle.history.specs.History.{opens}
-use Rattle.places.proofs.Rising.{at-map}
-use Rattle.history.proofs.Numbers.{mat}
+use Rattle.table_numbering.proofs.MonthsRise.{at-map}
+use Rattle.history.proofs.ListingNumbers.{mat}
 use Rattle.history.proofs.Moves.{fresh, now, Numbered}
 
 -- the questions of an accepted open, answered yes
 pub record Opened (p : Product) (cal : Calendar) (date : ℕ) : Type 0 where
+  -- the product is right
   pub product : productRight p ≡ true
+  -- the cover is valid
   pub valid : validCover (cal .cover) ≡ true
+  -- the calendar is clean
   pub cleaned : clean cal ≡ true
+  -- every seven days of the cover have a trading day
   pub weeks : everyWeek cal ≡ true
+  -- the date is in the cover
   pub covered : inCover (cal .cover) date ≡ true
+  -- the date passes question 24
   pub week : weekIntoCover (p .kind) (cal .cover) date ≡ true
+  -- the fresh listing is all in the cover
   pub full : allInCover cal (p .kind) (p .group) date ≡ true
 
+-- where a product opens with a calendar and a date, each question of open is answered yes
 pub opened : (p : Product) (cal : Calendar) (date : ℕ) → opens p cal date ≡ true → Opened p cal date
 unfolding opens
 opened p cal date e =
@@ -66,6 +74,7 @@ at-unused ms i h =
     ap (λ (x : ℕ). getD (ms ++ replicate (15 - length ms) unused) x unused) (sym q)
     ∙ getD-append-add ms (replicate (15 - length ms) unused) (i - length ms) unused ∙ at-same unused (15 - length ms) (i - length ms)
 
+-- a used place of the fifteen holds the maturity of the list
 pub at-used : (ms : List Maturity) (i : ℕ) → i < length ms → getD (places15 ms) i unused ≡ getD ms i unused
 unfolding places15
 at-used ms i h = List·getD-append ms (replicate (15 - length ms) unused) unused i h
@@ -153,6 +162,7 @@ module _ (p : Product) (cal : Calendar) (date : ℕ) (ms : List Maturity) (given
             and-both (le-leb 1 (getD (places15 ms) i unused .number) (rw (number-at i h) (I .numbers .pos (key i) (key-listed i h))))
             (and-both (le-leb (getD (places15 ms) i unused .number) given (rw (number-at i h) (I .numbers .small (key i)))) (every-all _ i (λ j l. apart i j h l)))
 
+    -- a table that holds a numbered listing and passes the questions of open is sound
     pub is-sound : sound (tableOf p cal date ms given) ≡ true
     unfolding sound
     is-sound =

@@ -3,7 +3,7 @@
 use mathlib.Core.Path.{_≡_, _∙_, sym, ap}
 use mathlib.Core.Bool.{true}
 use mathlib.Core.List.{List}
-use Prim.Native.Nat.{ℕ, _-_, _≤_}
+use Prim.Native.Nat.{ℕ, _≤_}
 use lib.Dec.{lit≤}
 use lib.ListN.{length, take, replicate, length-map}
 use lib.Seq.{take-at}
@@ -12,7 +12,7 @@ use Rattle.calendar.specs.declared.Calendar.{Calendar}
 use Rattle.calendar.specs.Trading.{coverEnd}
 use Rattle.product.specs.declared.Kind.{Kind}
 use Rattle.product.specs.declared.Kind.the-variants.{Future, Option}
-use Rattle.product.specs.declared.Text.the-variants.{Of2008, Of2005}
+use Rattle.product.specs.declared.ListingText.the-variants.{Of2008, Of2005}
 use Rattle.product.specs.declared.Term.the-variants.{Months12, Months24, Months60, Weeks5}
 use Rattle.product.specs.Fields.{kindNumber}
 use Rattle.listing.specs.declared.Maturity.{Maturity}
@@ -20,7 +20,7 @@ use Rattle.listing.specs.declared.Listing.{Listing}
 use Rattle.listing.specs.Rules.{front, freshKeys, complete, unused, places15}
 use Rattle.expiry.specs.LastDays.{keyOf, lastTradingDay, workedOut}
 use Rattle.listing.specs.Months.{placesOf, placesOfKind, coverRule, ruleOf, freshOf, allInCover, listingOf}
-use Rattle.listing.proofs.Taking.{rest, grown, whole-is, rest-room}
+use Rattle.listing.proofs.ListLoops.{rest, grown, whole-is, rest-room}
 
 -- no kind has more than fifteen places
 pub places-most : (kind : Kind) → placesOfKind kind ≤ 15
@@ -54,6 +54,7 @@ pub complete-is : (cal : Calendar) (kind : Kind) (group : List ℕ) (date : ℕ)
 unfolding listingOf
 complete-is cal kind group date l e = ap (λ (x : Listing). x .complete) e
 
+-- the maturities of the code's listing are the fresh maturities, in 15 places
 pub places-is : (cal : Calendar) (kind : Kind) (group : List ℕ) (date : ℕ) (l : Listing) → l ≡ listingOf cal kind group date → l .maturities ≡ places15 (freshOf cal kind group date)
 unfolding listingOf
 places-is cal kind group date l e = ap (λ (x : Listing). x .maturities) e

@@ -11,7 +11,7 @@ use Rattle.calendar.specs.declared.Calendar.{Calendar}
 use Rattle.calendar.specs.Trading.{coverEnd}
 use Rattle.product.specs.declared.Kind.{Kind}
 use Rattle.product.specs.declared.Kind.the-variants.{Future, Option}
-use Rattle.product.specs.declared.Text.the-variants.{Of2008, Of2005}
+use Rattle.product.specs.declared.ListingText.the-variants.{Of2008, Of2005}
 use Rattle.product.specs.declared.Term.the-variants.{Months12, Months24, Months60, Weeks5}
 use Rattle.product.specs.Fields.{kindNumber}
 use Rattle.expiry.specs.LastDays.{keyOf, lastTradingDay}
@@ -50,8 +50,10 @@ module _ (cal : Calendar) (kind : Kind) (group : List ℕ) (date : ℕ) where
         let a : searched (keyOf kind (coverEnd (cal .cover))) (keyOf kind date) ≡ r = rw (← e, ← d) (sym same ∙ s) in
         sym (front-is ∙ a)
 
+    -- where the search comes to a key before the end that may be the front, that key is the front
     pub front-here : key < end → mayBeFront key ≡ true → key ≡ front (ruleOf cal kind group) cal date
     front-here l t = comes key (search-here _ _ _ _ l t)
 
+    -- where the search comes to the end, the front is the first key beyond the cover
     pub front-none : end ≤ key → end ≡ front (ruleOf cal kind group) cal date
     front-none l = comes end (search-none _ _ _ _ l)

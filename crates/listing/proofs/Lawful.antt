@@ -18,13 +18,17 @@ use Rattle.calendar.specs.Trading.{tradingDay}
 use Rattle.listing.specs.Rules.{Rule, lastDayOf, alive, widest, front, nextOf, taken, freshKeys, complete}
 use Rattle.expiry.proofs.Fridays.{last-is}
 use Rattle.listing.proofs.Walks.{sift, sift-at, sift-rises}
-use Rattle.listing.proofs.Places.{Nested, lists, taken-sift, Within, within, widely, stays}
+use Rattle.listing.proofs.OpenPlaces.{Nested, lists, taken-sift, Within, within, widely, stays}
 
 -- anchors rise with the key, a key before a date's own has its anchor before the date, the sets are nested, and the keys of the widest are counted
 pub record Lawful (r : Rule) : Type 0 where
+  -- the set of each place lies inside the set of the place before it
   pub nested : Nested (widest (r .places)) (r .places)
+  -- the anchor of the next key is not before the anchor of a key
   pub rising : (k : ℕ) → r .anchor k ≤ r .anchor (suc k)
+  -- a key before a date's own has its anchor before the date
   pub own : (k d : ℕ) → k < r .start d → r .anchor k < d
+  -- each key of the first place's set is one that is counted
   pub counts : (k : ℕ) → widest (r .places) k ≡ true → r .counted k ≡ true
 
 -- what does not fall from one key to the next does not fall
@@ -37,10 +41,14 @@ risen f h j k l = let q : j + (k - j) ≡ k = omega arith in rw q at (go (k - j)
 
 -- a search finds nothing, or a number that passes; none that passes is before it
 pub record Found (f : ℕ → Bool) (n d k : ℕ) : Type 0 where
+  -- the number passes the test
   pub passes : f k ≡ true
+  -- the number is not before the start of the search
   pub from : d ≤ k
+  -- the number is before the end of the search
   pub below : k < d + n
 
+-- a search gives `none` or finds a number that passes
 pub first-found : (f : ℕ → Bool) (none n d : ℕ) → (firstFrom f none n d ≡ none) ⊎ Found f n d (firstFrom f none n d)
 unfolding firstFrom
 first-found f none zero d = inl refl
@@ -52,6 +60,7 @@ first-found f none (suc n) d = go (f d) refl (first-found f none n (suc d))
     go false e (inl q) = inl q
     go false e (inr w) = inr (record { passes = w .passes; from = omega (arith, w .from); below = omega (arith, w .below) })
 
+-- a search gives a number no later than any number in its range that passes
 pub first-least : (f : ℕ → Bool) (none n d k : ℕ) → d ≤ k → k < d + n → f k ≡ true → firstFrom f none n d ≤ k
 unfolding firstFrom
 first-least f none zero d k a b t = absurd (omega arith)
@@ -89,6 +98,7 @@ module _ (r : Rule) (w : Lawful r) where
         latest-rises (tradingDay cal) (tradingDay cal′) (r .anchor j) (r .anchor k) more (risen (r .anchor) (w .rising) j k h),
       )
 
+  -- the last trading day of a key is not after its anchor
   pub day-anchor : (cal : Calendar) (k : ℕ) → lastDayOf r cal k ≤ r .anchor k
   day-anchor cal k = omega (arith, last-is cal (r .anchor k), latest-le (tradingDay cal) (r .anchor k))
 
@@ -104,6 +114,7 @@ module _ (r : Rule) (w : Lawful r) where
     unfolding front
     either = first-found test (r .beyond) (r .beyond - r .start date) (r .start date)
 
+    -- the front is at most the first key beyond the cover
     pub front-most : front r cal date ≤ r .beyond
     front-most = go either
       where
@@ -111,6 +122,7 @@ module _ (r : Rule) (w : Lawful r) where
         go (inl q) = omega arith
         go (inr s) = omega (arith, s .below, s .from)
 
+    -- where the date's own key is at most the first key beyond the cover, the front is not before that key
     pub front-from : r .start date ≤ r .beyond → r .start date ≤ front r cal date
     front-from h = go either
       where
@@ -144,6 +156,7 @@ module _ (r : Rule) (w : Lawful r) where
         go true e = absurd (omega (arith, front-least k h a e))
         go false e = leb-false date (lastDayOf r cal k) e
 
+    -- a key of the cover from the front on has its last trading day on the date or later
     pub day-ahead : (k : ℕ) → k < r .beyond → front r cal date ≤ k → date ≤ lastDayOf r cal k
     day-ahead k h l =
         omega (arith, leb-true date (lastDayOf r cal (front r cal date)) (front-passes (omega arith) .1), days-rise cal cal (λ d t. t) (front r cal date) k l)
@@ -169,11 +182,16 @@ module _ (r : Rule) (w : Lawful r) where
 
     -- a key of the fresh listing
     pub record Key (k : ℕ) : Type 0 where
+      -- the key is not before the front
       pub from : front r cal date ≤ k
+      -- the key is in the cover
       pub below : k < r .beyond
+      -- the key is in the set of the first place
       pub wide : widest (r .places) k ≡ true
+      -- the last trading day of the key is not before the date
       pub day : date ≤ lastDayOf r cal k
 
+    -- a key that the listing from the front on holds is a key of the fresh listing
     pub key-of : (k : ℕ) → inListing r (front r cal date) k ≡ true → Key k
     key-of k e =
         let s : Within (r .beyond) (r .places) (front r cal date) k = within (r .beyond) (r .places) (front r cal date) k e in
@@ -184,6 +202,7 @@ module _ (r : Rule) (w : Lawful r) where
           day = day-ahead k (s .below) (s .from);
         }
 
+    -- each entry of the fresh listing's keys is a key of the fresh listing
     pub key-at : (i : ℕ) → i < length (freshKeys r cal date) → Key (getD (freshKeys r cal date) i 0)
     key-at i h =
         rw (fresh-is)

@@ -1,10 +1,10 @@
-pub mod Taking
+pub mod ListLoops
 pub mod NextMonths
 pub mod Front
 pub mod Fresh
 pub mod Walks
-pub mod Counting
-pub mod Places
+pub mod KeyCounts
+pub mod OpenPlaces
 pub mod Lawful
 pub mod Fewer
 pub mod Monthly
@@ -12,5 +12,5 @@ pub mod Weekly
 pub mod OfKinds
 pub mod SteppedBack
 pub mod Text2005
-pub mod Second
-pub mod Fronts
+pub mod SecondMap
+pub mod FrontStays

@@ -12,7 +12,7 @@ use Rattle.questions.proofs.Bools.{clash, lt-or-ge}
 use Rattle.questions.proofs.Search.{every-at}
 use Rattle.days.specs.Gregorian.{firstDay}
 use Rattle.days.specs.Dates.{firstOf, monthOf, yearStart}
-use Rattle.days.proofs.Months.{length-bounds, first-suc, first-le, first-to, first-out, first-last, month-ge, month-is, month-past, month-holds, month-most}
+use Rattle.days.proofs.MonthOfDay.{length-bounds, first-suc, first-le, first-to, first-out, first-last, month-ge, month-is, month-past, month-holds, month-most}
 use Rattle.calendar.specs.declared.Cover.{Cover}
 use Rattle.calendar.specs.Trading.{validCover, coverStart, coverEnd, inCover}
 use Rattle.calendar.proofs.Covered.{years, cover-facts}
@@ -20,7 +20,7 @@ use Rattle.product.specs.Settlement.{italian}
 use Rattle.expiry.specs.LastDays.{thirdFriday, monthAnchor}
 use Rattle.expiry.proofs.Fridays.{third-is}
 use Rattle.listing.specs.Months.{quarters, monthSets, inSet, placesOf}
-use Rattle.listing.proofs.Places.{Nested, nested-wider}
+use Rattle.listing.proofs.OpenPlaces.{Nested, nested-wider}
 
 -- a month of some names is a month of others, if each name is one of them
 abbrev implies : List ℕ → List ℕ → ℕ → Bool
@@ -51,6 +51,7 @@ nested-row p [] sets c = tt
 nested-row p (count ∷ row) [] c = tt
 nested-row p (count ∷ row) (set ∷ sets) c = nested-step p set (placesOf row sets) (c .0) (nested-row set row sets (c .1)) count
 
+-- each of the four sets of months lies inside the one before it
 pub month-chain : Chain (λ m. true) monthSets
 unfolding every oneOf
 month-chain = (
@@ -93,6 +94,7 @@ module _ (group : List ℕ) where
       go true = omega (arith, third-next k h, third-is k)
       go false = omega (arith, third-next k h)
 
+  -- from the end of 2099 on, the anchor of the next month is the same day
   pub anchor-stops : (k : ℕ) → 1200 ≤ k → monthAnchor group (suc k) ≡ monthAnchor group k
   unfolding monthAnchor
   anchor-stops k h = rw (third-stops k h)
@@ -103,6 +105,7 @@ module _ (group : List ℕ) where
       let s = anchor-third k in
       (omega (arith, third-is k, first-to k (omega arith)), omega (arith, third-is k, first-to k (omega arith), first-suc k, length-bounds k))
 
+  -- the anchor of the next month is not before the anchor of a month
   pub anchor-rises : (k : ℕ) → monthAnchor group k ≤ monthAnchor group (suc k)
   anchor-rises k = go (lt-or-ge k 1200)
     where
@@ -142,11 +145,16 @@ month-start y a b =
 module _ (c : Cover) where
   -- the months of the cover
   pub record Months : Type 0 where
+    -- the cover has at most 192 months
     pub most : monthOf (coverEnd c) ≤ monthOf (coverStart c) + 192
+    -- the first month beyond the cover is at most month 1,200
     pub last : monthOf (coverEnd c) ≤ 1200
+    -- the cover's start is the first day of its month
     pub start : coverStart c ≡ firstDay (monthOf (coverStart c))
+    -- the cover's end is the first day of its month
     pub end : coverEnd c ≡ firstDay (monthOf (coverEnd c))
 
+  -- a valid cover has at most 192 months, ends by 2099 and is made of whole months
   pub months : validCover c ≡ true → Months
   unfolding coverStart coverEnd
   months v =

@@ -20,7 +20,7 @@ use Rattle.calendar.proofs.Covered.{cover-facts}
 use Rattle.calendar.proofs.Weeks.{within-six}
 use Rattle.product.specs.declared.Kind.{Kind}
 use Rattle.product.specs.declared.Kind.the-variants.{Future, Option}
-use Rattle.product.specs.declared.Text.the-variants.{Of2008, Of2005}
+use Rattle.product.specs.declared.ListingText.the-variants.{Of2008, Of2005}
 use Rattle.product.specs.declared.Term.the-variants.{Months12, Months24, Months60, Weeks5}
 use Rattle.product.specs.Fields.{isWeekly}
 use Rattle.expiry.specs.LastDays.{thirdFriday, weeklyFriday, monthAnchor, keyOf, anchorOf, lastDay, lastTradingDay}
@@ -28,8 +28,8 @@ use Rattle.expiry.proofs.Fridays.{last-is}
 use Rattle.expiry.proofs.Keys.{key-most}
 use Rattle.listing.specs.Rules.{widest, front, countFrom, keysBefore, freshKeys}
 use Rattle.listing.specs.Months.{names2005, inSet, placesOf, rowOf, setsOf, placesOfKind, countedFor, coverRule, keysOf, ruleOf, weekIntoCover}
-use Rattle.listing.proofs.Places.{nested-first}
-use Rattle.listing.proofs.Counting.{count-most}
+use Rattle.listing.proofs.OpenPlaces.{nested-first}
+use Rattle.listing.proofs.KeyCounts.{count-most}
 use Rattle.listing.proofs.Lawful.{Lawful, risen, front-from, front-most, key-at, keys-rise}
 use Rattle.listing.proofs.Monthly.{Chain, nested-row, month-chain, anchor-next, anchor-rises, anchor-own, months, own-month, month-deep}
 
@@ -77,6 +77,7 @@ unfolding weeklyFriday
 friday-of d e = eqb-true (weekdayOf d) 4 (and-fst (eqb (weekdayOf d) 4) (not (eqb d (thirdFriday (monthOf d)))) e)
 
 module _ (c : Cover) (kind : Kind) (group : List ℕ) where
+  -- the rule of every cover, kind and group is lawful
   pub rule-lawful : Lawful (coverRule c kind group)
   unfolding coverRule
   rule-lawful = record {

@@ -33,5 +33,6 @@ module _ (cal : Calendar) (kind : Kind) (group : List ℕ) where
         let d = rule-deep (cal .cover) kind group valid date e w k a b in
         omega (arith, anchor-less-day k, six-back cal kind group weeks k (d .0) (d .1))
 
+  -- the days stepped back are the anchor less the day; in a valid cover that passes 6, at most 6 from a date on that passes 24
   pub stepped-back : SteppedBack cal kind group
   stepped-back = record { equal = anchor-less-day; made = day-and-back; six = at-most-six }

@@ -18,13 +18,13 @@ use Rattle.days.specs.Dates.{monthOf}
 use Rattle.calendar.specs.declared.Calendar.{Calendar}
 use Rattle.calendar.specs.Trading.{coverEnd}
 use Rattle.product.specs.declared.Kind.the-variants.{Future}
-use Rattle.product.specs.declared.Text.the-variants.{Of2005}
+use Rattle.product.specs.declared.ListingText.the-variants.{Of2005}
 use Rattle.expiry.specs.LastDays.{keyOf, lastTradingDay}
 use Rattle.listing.specs.Rules.{Rule, front, countFrom, taken, freshKeys, complete}
 use Rattle.listing.specs.Months.{quarters, names2005, inSet, placesOf, coverRule, ruleOf, allInCover}
 use Rattle.listing.specs.Text2005.{nextMonths, of2005, front2005, months2005, SameMonths, Listed2005}
 use Rattle.listing.proofs.Walks.{bit}
-use Rattle.listing.proofs.Places.{taken-none, taken-here, taken-next}
+use Rattle.listing.proofs.OpenPlaces.{taken-none, taken-here, taken-next}
 use Rattle.listing.proofs.Lawful.{Lawful, day-anchor}
 use Rattle.listing.proofs.OfKinds.{rule-lawful}
 
@@ -343,6 +343,7 @@ module _ (cal : Calendar) (group : List ℕ) (date : ℕ) where
 pub same : (beyond from : ℕ) → SameMonths beyond from
 same beyond from = record { each = same-months beyond from; as-many = as-many beyond from }
 
+-- the listed months of a future of 2005 are those of the sentence of the request
 pub listed : (cal : Calendar) (group : List ℕ) (date : ℕ) → Listed2005 cal group date
 listed cal group date =
     record {

@@ -11,7 +11,7 @@ use borrow.Author.Tests.{eqb-true, eqb-false, lt-ltb, le-ltb}
 use Rattle.questions.proofs.Bools.{lt-or-ge}
 use Rattle.days.specs.Gregorian.{weekdayOf, firstDay}
 use Rattle.days.specs.Dates.{monthOf}
-use Rattle.days.proofs.Months.{length-bounds, first-suc, first-zero, first-to, month-is, month-past, Holds, month-holds}
+use Rattle.days.proofs.MonthOfDay.{length-bounds, first-suc, first-zero, first-to, month-is, month-past, Holds, month-holds}
 use Rattle.expiry.specs.LastDays.{thirdFriday, weeklyFriday}
 use Rattle.expiry.proofs.Fridays.{third-is}
 use Rattle.product.specs.declared.Kind.{Kind}
@@ -19,7 +19,7 @@ use Rattle.product.specs.Fields.{isWeekly}
 use Rattle.listing.specs.Rules.{countFrom}
 use Rattle.listing.specs.Months.{countedFor}
 use Rattle.listing.proofs.Walks.{bit}
-use Rattle.listing.proofs.Counting.{count-none, count-add, count-end, count-all}
+use Rattle.listing.proofs.KeyCounts.{count-none, count-add, count-end, count-all}
 
 -- the third Friday of a month is a Friday, and lies in it
 third-friday : (m : ℕ) → thirdFriday m % 7 ≡ 6
@@ -105,6 +105,7 @@ fridays-from s x h =
 pub before-passed : (x m t : ℕ) → m ≡ monthOf x → t ≡ thirdFriday m → t < x → (m + 1 ≤ x / 7) × (x / 7 - m - 1 ≡ countFrom weeklyFriday x 0)
 before-passed x m t q r l = let a : passed (monthOf x) x ≡ 1 = rw (← q, ← r, lt-ltb t x l) in (omega (arith, q, fridays-before x), omega (arith, q, fridays-before x))
 
+-- on or before its month's third Friday, a day has before it as many weekly Fridays as whole weeks less its month number
 pub before-ahead : (x m t : ℕ) → m ≡ monthOf x → t ≡ thirdFriday m → x ≤ t → (m ≤ x / 7) × (x / 7 - m ≡ countFrom weeklyFriday x 0)
 before-ahead x m t q r l = let a : passed (monthOf x) x ≡ 0 = rw (← q, ← r, le-ltb t x l) in (omega (arith, q, fridays-before x), omega (arith, q, fridays-before x))
 
@@ -118,14 +119,18 @@ counted-all kind e = fun-ext (λ k. rw e)
 
 -- the code's count of the keys from a first one on
 module _ (kind : Kind) (s x : ℕ) where
+  -- where x is before s no key is counted
   pub counted-none : x < s → 0 ≡ countFrom (countedFor kind) (x - s) s
   counted-none l = let z : x - s ≡ 0 = omega arith in rw z (sym (count-none (countedFor kind) s))
 
+  -- of a weekly kind, the count is that of the weekly Fridays before x less that of those before s
   pub counted-weekly : isWeekly kind ≡ true → s ≤ x → countFrom weeklyFriday x 0 - countFrom weeklyFriday s 0 ≡ countFrom (countedFor kind) (x - s) s
   counted-weekly e l = omega (arith, fridays-from s x l, ap (λ (p : ℕ → Bool). countFrom p (x - s) s) (counted-five kind e))
 
+  -- of a kind that is not weekly, every month from s on and before x is counted
   pub counted-months : isWeekly kind ≡ false → x - s ≡ countFrom (countedFor kind) (x - s) s
   counted-months e = sym (ap (λ (p : ℕ → Bool). countFrom p (x - s) s) (counted-all kind e) ∙ count-all (x - s) s)
 
+-- before a later day there are at least as many weekly Fridays
 pub counted-less : (s x : ℕ) → s ≤ x → countFrom weeklyFriday s 0 ≤ countFrom weeklyFriday x 0
 counted-less s x l = omega (arith, fridays-from s x l)

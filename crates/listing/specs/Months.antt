@@ -1,4 +1,5 @@
--- The sets of months and of Fridays, the rows of counts, and the rule of each kind (01, Listed months; The table; Questions, 16; 002, 1.6.3; 000, 2.6.4; 02, note 1, with 003, and note 3).
+-- The sets of months and of Fridays, the rows of counts, and the rule of each kind
+-- (01, Listed months; The table; Questions, 16; 002, 1.6.3; 000, 2.6.4; 02, note 1, with 003, and note 3).
 -- Assumes nothing.
 use Prim.Native.Nat.{ℕ, _+_, _-_}
 use mathlib.Core.Bool.{Bool, false, not, _||_}
@@ -25,7 +26,8 @@ inSet names m = oneOf names (monthName m)
 abbrev pub quarters : List ℕ
 quarters = 3 ∷ 6 ∷ 9 ∷ 12 ∷ []
 
--- the head of the table of counts: 'every month', 'Mar Jun Sep Dec', 'Jun Dec', 'Dec'
+-- 'every month', 'Mar Jun Sep Dec', 'Jun Dec', 'Dec':
+-- the head of the table of counts
 abbrev pub monthSets : List (ℕ → Bool)
 monthSets =
     inSet (1 ∷ 2 ∷ 3 ∷ 4 ∷ 5 ∷ 6 ∷ 7 ∷ 8 ∷ 9 ∷ 10 ∷ 11 ∷ 12 ∷ [])
@@ -34,11 +36,13 @@ monthSets =
     ∷ inSet (12 ∷ [])
     ∷ []
 
--- 'those seven names' (02, note 1): March, April, May, June, July, September, December
+-- 'those seven names' (02, note 1):
+-- March, April, May, June, July, September, December
 abbrev pub names2005 : List ℕ
 names2005 = 3 ∷ 4 ∷ 5 ∷ 6 ∷ 7 ∷ 9 ∷ 12 ∷ []
 
--- 'the counts stand in four rows of four'; a row for kind 4, 'the next seven months of that set' (02, note 1), and one for kind 5, 'the next four expiry days' (02, note 3)
+-- 'the counts stand in four rows of four';
+-- a row for kind 4, 'the next seven months of that set' (02, note 1), and one for kind 5, 'the next four expiry days' (02, note 3)
 abbrev pub counts : List (List ℕ)
 counts =
     (13 ∷ 0 ∷ 0 ∷ 2 ∷ [])
@@ -64,7 +68,8 @@ placesOf [] sets = []
 placesOf (count ∷ counts) [] = []
 placesOf (count ∷ counts) (set ∷ sets) = replicate count set ++ placesOf counts sets
 
--- the row of counts of a kind: 'the counts stand in four rows of four', and one row each for kinds 4 and 5
+-- 'the counts stand in four rows of four', and one row each for kinds 4 and 5:
+-- the row of counts of a kind
 abbrev pub rowOf : Kind → List ℕ
 rowOf kind = getD counts (kindNumber kind) []
 
@@ -76,7 +81,8 @@ setsOf kind = getD stepSets (kindNumber kind) []
 abbrev pub placesOfKind : Kind → ℕ
 placesOfKind kind = length (placesOf (rowOf kind) (setsOf kind))
 
--- the keys that are counted before the front: every one of the 'cover months'; 'the cover's weekly Fridays .. take the place of cover months' (02, note 3)
+-- every one of the 'cover months'; 'the cover's weekly Fridays .. take the place of cover months' (02, note 3):
+-- the keys that are counted before the front
 unfoldable pub countedFor : Kind → ℕ → Bool
 countedFor kind k = not (isWeekly kind) || weeklyFriday k
 
@@ -113,6 +119,7 @@ allInCover cal kind group date = complete (ruleOf cal kind group) cal date
 unfoldable pub listingOf : Calendar → Kind → List ℕ → ℕ → Listing
 listingOf cal kind group date = record { complete = allInCover cal kind group date; maturities = places15 (freshOf cal kind group date) }
 
--- 24: 'is the date at least seven days after the cover's first day?'; it is asked 'in opening kind 5', of no other kind, and 'in soundness .. the date passes 24' (02, note 3)
+-- 24: 'is the date at least seven days after the cover's first day?';
+-- it is asked 'in opening kind 5', of no other kind, and 'in soundness .. the date passes 24' (02, note 3)
 unfoldable pub weekIntoCover : Kind → Cover → ℕ → Bool
 weekIntoCover kind cover date = not (isWeekly kind) || leb (coverStart cover + 7) date

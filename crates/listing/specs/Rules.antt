@@ -1,4 +1,5 @@
--- Listings by rule, whatever the maturities are (01, Last trading day; Listed months; The table; Questions, 16; 02, notes 1 to 3 and 9). A maturity is named by a key: a month's number, or the day number of a weekly maturity's Friday (02, note 3).
+-- Listings by rule, whatever the maturities are (01, Last trading day; Listed months; The table; Questions, 16; 02, notes 1 to 3 and 9).
+-- A maturity is named by a key: a month's number, or the day number of a weekly maturity's Friday (02, note 3).
 -- Assumes nothing.
 use Prim.Native.Nat.{ℕ, zero, suc, _+_, _-_, _<_}
 use mathlib.Core.Path.{_≡_}
@@ -39,7 +40,11 @@ abbrev pub widest : List (ℕ → Bool) → ℕ → Bool
 widest [] k = true
 widest (set ∷ rest) k = set k
 
--- 'The front month on a date is the first month, from the date's own month on, whose last trading day is not before the date'; the first key beyond the cover where the cover has none. Only keys that the first place may take are looked at: for kinds 0 to 3 every month, for kind 4 'the first month of those seven names' (02, note 1); for kind 5 weekly Fridays, from the date on, since no maturity's day lies after its Friday: 'the four start at the first whose day is not before the date' (02, note 3)
+-- 'The front month on a date is the first month, from the date's own month on, whose last trading day is not before the date';
+-- the first key beyond the cover where the cover has none. Only keys that the first place may take are looked at:
+-- for kinds 0 to 3 every month, for kind 4 'the first month of those seven names' (02, note 1);
+-- for kind 5 weekly Fridays, from the date on, since no maturity's day lies after its Friday:
+-- 'the four start at the first whose day is not before the date' (02, note 3)
 unfoldable pub front : Rule → Calendar → ℕ → ℕ
 front r cal date =
     firstFrom (λ k. widest (r .places) k && alive r cal date k) (r .beyond) (r .beyond - r .start date) (r .start date)
@@ -49,7 +54,8 @@ unfoldable pub countFrom : (ℕ → Bool) → ℕ → ℕ → ℕ
 countFrom counted zero k = 0
 countFrom counted (suc n) k = cond (counted k) 1 0 + countFrom counted n (suc k)
 
--- 'the number of cover months before the front month' (01, The table); 'the cover's weekly Fridays before the front one take the place of cover months' (02, note 3)
+-- 'the number of cover months before the front month' (01, The table);
+-- 'the cover's weekly Fridays before the front one take the place of cover months' (02, note 3)
 unfoldable pub keysBefore : Rule → Calendar → ℕ → ℕ
 keysBefore r cal date = countFrom (r .counted) (front r cal date - r .first) (r .first)
 
@@ -66,7 +72,8 @@ pub record NextAfter (set : ℕ → Bool) (k n : ℕ) : Type 0 where
   pub none : (i : ℕ) → i < n → set (k + i) ≡ false
   pub there : set (k + n) ≡ true
 
--- 'Step one takes the front month and those after it; each later step takes the next months of its set that follow the last month taken. Listing stops .. as soon as a month lies beyond the cover'
+-- 'Step one takes the front month and those after it; each later step takes the next months of its set that follow the last month taken.
+-- Listing stops .. as soon as a month lies beyond the cover'
 unfoldable pub taken : ℕ → List (ℕ → Bool) → ℕ → List ℕ
 taken beyond [] k = []
 taken beyond (set ∷ rest) k =
@@ -78,7 +85,8 @@ taken beyond (set ∷ rest) k =
 unfoldable pub freshKeys : Rule → Calendar → ℕ → List ℕ
 freshKeys r cal date = taken (r .beyond) (r .places) (front r cal date)
 
--- 16: 'Are all months of the fresh listing in the cover?', which reads 'with Fridays' for weekly maturities (02, note 3). Then every place was filled
+-- 16: 'Are all months of the fresh listing in the cover?', which reads 'with Fridays' for weekly maturities (02, note 3).
+-- Then every place was filled
 unfoldable pub complete : Rule → Calendar → ℕ → Bool
 complete r cal date = eqb (length (freshKeys r cal date)) (length (r .places))
 
@@ -86,7 +94,8 @@ complete r cal date = eqb (length (freshKeys r cal date)) (length (r .places))
 abbrev pub lastOf : Rule → Calendar → ℕ → LastDay
 lastOf r cal k = steppedTo (r .anchor k) (lastDayOf r cal k)
 
--- a maturity: 'month, last trading day, listing number', the month or Friday as its key, and the days stepped back: 'The table keeps it for each maturity' (02, note 2)
+-- 'month, last trading day, listing number'; of the days stepped back 'The table keeps it for each maturity' (02, note 2):
+-- a maturity, with the month or Friday as its key
 abbrev pub maturity : Rule → Calendar → (ℕ → ℕ) → ℕ → Maturity
 maturity r cal number k = record { key = k; day = lastOf r cal k .day; back = lastOf r cal k .back; number = number k }
 

@@ -11,7 +11,7 @@ use Rattle.days.specs.Dates.{monthOf}
 use Rattle.calendar.specs.declared.Calendar.{Calendar}
 use Rattle.calendar.specs.Trading.{coverEnd}
 use Rattle.product.specs.declared.Kind.the-variants.{Future}
-use Rattle.product.specs.declared.Text.the-variants.{Of2005}
+use Rattle.product.specs.declared.ListingText.the-variants.{Of2005}
 use Rattle.expiry.specs.LastDays.{lastTradingDay}
 use Rattle.listing.specs.Rules.{front, taken, freshKeys}
 use Rattle.listing.specs.Months.{quarters, names2005, inSet, ruleOf, allInCover}
@@ -28,7 +28,8 @@ of2005 beyond front =
     ++ (nextMonths beyond 1 (5 ∷ []) front
     ++ nextMonths beyond 1 (7 ∷ []) front))
 
--- 'the front, the first month of those seven names whose last trading day is not before the date'; the first month beyond the cover where the cover has none
+-- 'the front, the first month of those seven names whose last trading day is not before the date';
+-- the first month beyond the cover where the cover has none
 unfoldable pub front2005 : Calendar → List ℕ → ℕ → ℕ
 front2005 cal group date =
     firstFrom (λ m. inSet names2005 m && leb date (lastTradingDay cal (Future Of2005) group m)) (monthOf (coverEnd (cal .cover)))
@@ -38,7 +39,8 @@ front2005 cal group date =
 abbrev pub months2005 : Calendar → List ℕ → ℕ → List ℕ
 months2005 cal group date = of2005 (monthOf (coverEnd (cal .cover))) (front2005 cal group date)
 
--- 'Show that this is the same as the next seven months of that set': for every front and every end of the cover
+-- 'Show that this is the same as the next seven months of that set':
+-- for every front and every end of the cover
 pub record SameMonths (beyond front : ℕ) : Type 0 where
   pub each : (m : ℕ) → oneOf (of2005 beyond front) m ≡ oneOf (nextMonths beyond 7 names2005 front) m
   -- and as many of them, so none stands twice

@@ -13,7 +13,8 @@ ghost use Rattle.listing.specs.Rules.{front, countFrom, nextOf, NextAfte
 ghost use Rattle.expiry.specs.LastDays.{weeklyFriday, keyOf, lastTradingDay};
 ghost use Rattle.listing.specs.Months.{monthSets, names2005, inSet, setAt, placesOfKind, countedFor, ruleOf, listingOf, weekIntoCover};
 
-// A listed maturity: its key, which is its month or the day number of its Friday, its last trading day, and how many days that day lies before the anchor. A listing that is not yet numbered has number 0.
+// A listed maturity: its key, which is its month or the day number of its Friday, its last trading day,
+// and how many days that day lies before the anchor. A listing that is not yet numbered has number 0.
 #[repr(C)]
 pub struct Maturity {
     pub key: u16,
@@ -178,7 +179,8 @@ pub fn front_key(cal: Calendar, kind: Kind, group: [u8; 4], date: u16) -> u16
     front_key_in(cover, &cal.closed, kind, group, date)
 }
 
-// The number of weekly Fridays before a day: a Friday for every seven days, less the third Fridays, one for each month that is over and the month's own once it is passed.
+// The number of weekly Fridays before a day: a Friday for every seven days,
+// less the third Fridays, one for each month that is over and the month's own once it is passed.
 fn weekly_before(day: u16) -> u16
     ensures { λ r. ⌜ r ≡ countFrom weeklyFriday day 0 ⌝ }
 {

@@ -10,7 +10,7 @@ use borrow.Author.Tests.{ne-eqb, leb-true, leb-false}
 use Rattle.questions.specs.Questions.{Answer}
 use Rattle.questions.proofs.Asks.{no-asks, first-yes, first-no, accepted, refused}
 use Rattle.product.specs.Fields.{kindNumber, kindOf, kindRight, kindAsks, kindCall, kindAnswer, isFuture, firstDigit, fieldsRight, productRight}
-use Rattle.product.specs.declared.Text.the-variants.{Of2008, Of2005}
+use Rattle.product.specs.declared.ListingText.the-variants.{Of2008, Of2005}
 use Rattle.product.specs.declared.Term.the-variants.{Months12, Months24, Months60, Weeks5}
 use Rattle.product.specs.declared.Kind.{Kind}
 use Rattle.product.specs.declared.Kind.the-variants.{Future, Option}
@@ -18,6 +18,7 @@ use Rattle.product.specs.declared.Product.{Product}
 use Rattle.product.specs.declared.KindAnswer.{KindAnswer}
 use Rattle.product.specs.declared.KindAnswer.the-variants.{Is, NotAKind}
 
+-- the number of every kind is one of 0 to 5
 pub kind-right : (kind : Kind) → kindRight (kindNumber kind) ≡ true
 kind-right (Future Of2008) = refl
 kind-right (Future Of2005) = refl
@@ -26,6 +27,7 @@ kind-right (Option Months24) = refl
 kind-right (Option Months60) = refl
 kind-right (Option Weeks5) = refl
 
+-- the kind of a kind's number is that kind
 pub kind-back : (kind : Kind) → kindOf (kindNumber kind) ≡ kind
 unfolding kindOf
 kind-back (Future Of2008) = refl
@@ -35,6 +37,7 @@ kind-back (Option Months24) = refl
 kind-back (Option Months60) = refl
 kind-back (Option Weeks5) = refl
 
+-- the number of the kind of a number from 0 to 5 is that number
 pub number-back : (number : ℕ) → kindRight number ≡ true → kindNumber (kindOf number) ≡ number
 unfolding kindOf
 number-back zero right = refl
@@ -62,13 +65,16 @@ pub kind-found : (number : ℕ) → kindRight number ≡ true → kindCall numbe
 unfolding kindCall
 kind-found number right = accepted (kindAsks number) (Future Of2008) (kindOf number) (first-yes 7 [] right ∙ no-asks)
 
+-- a number above 5 is no kind and is refused with 7
 pub kind-missing : (number : ℕ) → kindRight number ≡ false → kindCall number ≡ kindAnswer NotAKind
 unfolding kindCall
 kind-missing number wrong = refused (kindAsks number) (Future Of2008) (kindOf number) 6 (first-no 7 [] wrong)
 
+-- the call on a kind's number answers that kind
 pub kind-of-number : (kind : Kind) → kindCall (kindNumber kind) ≡ kindAnswer (Is kind)
 kind-of-number kind = kind-found (kindNumber kind) (kind-right kind) ∙ rw (kind-back kind)
 
+-- a number for which the call answers a kind is that kind's number
 pub number-of-kind : (number : ℕ) (kind : Kind) → kindCall number ≡ kindAnswer (Is kind) → kindNumber kind ≡ number
 number-of-kind number kind e = go (kindRight number) refl
   where
@@ -98,6 +104,7 @@ product-read number p e = rw e
 pub future-digit : (kind : ℕ) → (eqb kind 0 || eqb kind 4) ≡ true → 48 ≡ firstDigit kind
 future-digit kind e = rw e
 
+-- the group's first digit is 1 for every kind other than 0 and 4
 pub option-digit : (kind : ℕ) → (eqb kind 0 || eqb kind 4) ≡ false → 49 ≡ firstDigit kind
 option-digit kind e = rw e
 

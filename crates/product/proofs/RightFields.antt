@@ -20,13 +20,16 @@ module _ (id group market : List ℕ) (kind size tick : ℕ) (currency : List �
     to-size : (to-kind && sizeRight size) ≡ true
     to-size = and-fst (to-kind && sizeRight size) (tickRight tick) to-tick
 
+    -- where the product fields are right, the kind is right
     pub kind-of-fields : kindRight kind ≡ true
     kind-of-fields =
         and-snd (idRight id && groupRight group kind && marketRight market) (kindRight kind) (and-fst to-kind (sizeRight size) to-size)
 
+    -- where the product fields are right, the size is right
     pub size-of-fields : sizeRight size ≡ true
     size-of-fields = and-snd to-kind (sizeRight size) to-size
 
+    -- where the product fields are right, they are right with any other right size
     pub fields-with-size : (other : ℕ) → sizeRight other ≡ true → fieldsRight id group market kind other tick currency ≡ true
     unfolding fieldsRight
     fields-with-size other s =

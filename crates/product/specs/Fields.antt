@@ -3,12 +3,12 @@
 use Prim.Native.Nat.{ℕ}
 use mathlib.Core.Bool.{Bool, true, false, _&&_, _||_, cond}
 use mathlib.Core.List.{List, [], _∷_}
-use lib.ListN.{length, getD}
+use lib.ListN.{length, getD, replicate}
 use lib.Dec.{eqb, leb, ltb}
 use Rattle.questions.specs.Questions.{Ask, ask, Answer, answer}
 use Rattle.questions.specs.Search.{every, oneOf}
-use Rattle.product.specs.declared.Text.{Text}
-use Rattle.product.specs.declared.Text.the-variants.{Of2008, Of2005}
+use Rattle.product.specs.declared.ListingText.{ListingText}
+use Rattle.product.specs.declared.ListingText.the-variants.{Of2008, Of2005}
 use Rattle.product.specs.declared.Term.{Term}
 use Rattle.product.specs.declared.Term.the-variants.{Months12, Months24, Months60, Weeks5}
 use Rattle.product.specs.declared.Kind.{Kind}
@@ -18,7 +18,7 @@ use Rattle.product.specs.declared.KindAnswer.the-variants.{Is, NotAKind}
 use Rattle.product.specs.declared.Product.{Product}
 
 -- '0 future', of the text of 2008; 'kind 4, a future of 2005' (02, note 1)
-abbrev pub textNumber : Text → ℕ
+abbrev pub textNumber : ListingText → ℕ
 textNumber Of2008 = 0
 textNumber Of2005 = 4
 
@@ -29,12 +29,15 @@ termNumber Months24 = 2
 termNumber Months60 = 3
 termNumber Weeks5 = 5
 
--- 'A product's kind is either a future or an option with one of three terms', and since note 3 of document 02 a fourth: the number of its text or of its term
+-- 'A product's kind is either a future or an option with one of three terms', and since note 3 of document 02 a fourth:
+-- the number of its text or of its term
 abbrev pub kindNumber : Kind → ℕ
 kindNumber (Future text) = textNumber text
 kindNumber (Option term) = termNumber term
 
--- the kind with a number: '0 future', '1 option, 12 months', '2 option, 24 months', '3 option, 60 months'; 'kind 4, a future of 2005' (02, note 1); weekly tables 'under kind 5' (02, note 3); for any other number, which 7 refuses, the kind of number 0
+-- '0 future', '1 option, 12 months', '2 option, 24 months', '3 option, 60 months'; 'kind 4, a future of 2005' (02, note 1);
+-- weekly tables 'under kind 5' (02, note 3):
+-- the kind with a number; for any other number, which 7 refuses, the kind of number 0
 unfoldable pub kindOf : ℕ → Kind
 kindOf number =
     cond (eqb number 1) (Option Months12)
@@ -65,7 +68,8 @@ abbrev pub isFuture : Kind → Bool
 isFuture (Future text) = true
 isFuture (Option term) = false
 
--- 'Weekly tables .. under kind 5' (02, note 3): its maturities are weekly; those of every other kind are months
+-- 'Weekly tables .. under kind 5' (02, note 3):
+-- its maturities are weekly; those of every other kind are months
 abbrev pub isWeekly : Kind → Bool
 isWeekly (Future text) = false
 isWeekly (Option Months12) = false
@@ -91,14 +95,16 @@ idByte true byte = idCharacter byte
 idByte false byte = eqb byte 32
 
 -- '.. of A–Z and 0–9, then spaces', for a given count of characters
-unfoldable pub idOf : List ℕ → ℕ → Bool
-idOf id count = every 4 (λ i. idByte (ltb i count) (getD id i 0))
+unfoldable pub idOfLength : List ℕ → ℕ → Bool
+idOfLength id count = every 4 (λ i. idByte (ltb i count) (getD id i 0))
 
 -- 'product id, 1 to 4 of A–Z and 0–9, then spaces'
 unfoldable pub idRight : List ℕ → Bool
-idRight id = idOf id 1 || idOf id 2 || idOf id 3 || idOf id 4
+idRight id = idOfLength id 1 || idOfLength id 2 || idOfLength id 3 || idOfLength id 4
 
--- 'the first digit 0 for futures and 1 for options', in ASCII, by the kind's number; 'the .. group digit of kind 4 [is that] of a future' (02, note 1), 'kind 5 and the option groups' (02, note 3)
+-- 'the first digit 0 for futures and 1 for options';
+-- 'the .. group digit of kind 4 [is that] of a future' (02, note 1), 'kind 5 and the option groups' (02, note 3):
+-- in ASCII, by the kind's number
 abbrev pub firstDigit : ℕ → ℕ
 firstDigit kind = cond (eqb kind 0 || eqb kind 4) 48 49
 
@@ -115,7 +121,8 @@ groupRight group kind =
 unfoldable pub marketRight : List ℕ → Bool
 marketRight market = every 4 (λ i. letter (getD market i 0))
 
--- 'a table's size may fall as low as one ten-thousandth', and reaches 65,535.9999 shares (02, note 11); in ten-thousandths of a share
+-- 'a table's size may fall as low as one ten-thousandth', and reaches 65,535.9999 shares (02, note 11);
+-- in ten-thousandths of a share
 abbrev pub sizeRight : ℕ → Bool
 sizeRight size = leb 1 size && leb size 655359999
 
@@ -160,7 +167,9 @@ GBX = 71 ∷ 66 ∷ 88 ∷ []
 unfoldable pub currencyRight : List ℕ → Bool
 currencyRight currency = oneOfCodes (EUR ∷ CHF ∷ USD ∷ GBP ∷ GBX ∷ []) currency
 
--- 7 'Is every record .. as stated?', of the fields in the record's order: id, group, cash market, kind, contract size, tick, currency; the size in ten-thousandths and as a table may have it: of a file's there is `fileSizeRight` besides (02, note 11)
+-- 7 'Is every record .. as stated?',
+-- of the fields in the record's order: id, group, cash market, kind, contract size, tick, currency;
+-- the size in ten-thousandths and as a table may have it: of a file's there is `fileSizeRight` besides (02, note 11)
 unfoldable pub fieldsRight : List ℕ → List ℕ → List ℕ → ℕ → ℕ → ℕ → List ℕ → Bool
 fieldsRight id group market kind size tick currency =
     idRight id
@@ -171,7 +180,21 @@ fieldsRight id group market kind size tick currency =
     && tickRight tick
     && currencyRight currency
 
--- 'product fields .. satisfy question .. 7', of a product, whose size may be below one share (02, note 11)
+-- 'product fields .. satisfy question .. 7',
+-- of a product, whose size may be below one share (02, note 11)
 unfoldable pub productRight : Product → Bool
 productRight p =
     fieldsRight (p .id) (p .group) (p .market) (kindNumber (p .kind)) (p .size) (p .tick) (p .currency)
+
+-- a product of zeros; kind 0 is a future
+unfoldable pub zeroProduct : Product
+zeroProduct =
+    record {
+      id = replicate 4 0;
+      group = replicate 4 0;
+      market = replicate 4 0;
+      kind = Future Of2008;
+      size = 0;
+      tick = 0;
+      currency = replicate 3 0;
+    }

@@ -27,11 +27,13 @@ IE = 73 ∷ 69 ∷ []
 abbrev pub IT : List ℕ
 IT = 73 ∷ 84 ∷ []
 
--- 'two letters A–Z and two digits': a country code, and a number in two digits, in ASCII
+-- 'two letters A–Z and two digits':
+-- a country code, and a number in two digits, in ASCII
 abbrev pub groupCode : List ℕ → ℕ → List ℕ
 groupCode country number = country ++ ((48 + number / 10) ∷ (48 + number % 10) ∷ [])
 
--- 'the group's digits after its country code', as one number; 100 where a byte is no digit
+-- 'the group's digits after its country code',
+-- as one number; 100 where a byte is no digit
 unfoldable pub groupNumber : ℕ → ℕ → ℕ
 groupNumber tens ones = cond (digit tens && digit ones) (10 * (tens - 48) + (ones - 48)) 100
 
@@ -54,7 +56,8 @@ fourDays group =
 unfoldable pub optionDays : List ℕ → ℕ
 optionDays group = cond (twoDays group) 2 (cond (fourDays group) 4 3)
 
--- 'Futures: n = 1 (002, 1.6.6)', of either text; options by their group
+-- 'Futures: n = 1 (002, 1.6.6)', of either text;
+-- options by their group
 unfoldable pub settlementDays : Kind → List ℕ → ℕ
 settlementDays (Future text) group = 1
 settlementDays (Option term) group = optionDays group

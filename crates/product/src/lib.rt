@@ -2,7 +2,7 @@
 ghost use mathlib.Core.Path.{_≡_};
 ghost use mathlib.Core.List.{[], _∷_};
 ghost use Prim.Native.Nat.{_+_, _*_, _<_};
-ghost use Rattle.product.specs.Fields.{kindNumber, kindCall, kindAnswer, isFuture, isWeekly, letter, digit, idCharacter, idByte, idOf, idRight, firstDigit, groupRight, marketRight, kindRight, sizeRight, fileSizeRight, tickRight, isCode, currencyRight, fieldsRight, productRight};
+ghost use Rattle.product.specs.Fields.{kindNumber, kindCall, kindAnswer, isFuture, isWeekly, letter, digit, idCharacter, idByte, idOfLength, idRight, firstDigit, groupRight, marketRight, kindRight, sizeRight, fileSizeRight, tickRight, isCode, currencyRight, fieldsRight, productRight, zeroProduct};
 ghost use Rattle.product.specs.Settlement.{italian, groupNumber, optionDays, settlementDays};
 
 // The country codes that days to settlement tell apart: two bytes as one number.
@@ -15,7 +15,7 @@ const GB: u16 = 0x4742;
 const IE: u16 = 0x4945;
 
 // The text by which a future is listed.
-pub enum Text {
+pub enum ListingText {
     Of2008,
     Of2005,
 }
@@ -30,7 +30,7 @@ pub enum Term {
 
 // A product's kind.
 pub enum Kind {
-    Future(Text),
+    Future(ListingText),
     Option(Term),
 }
 
@@ -51,14 +51,29 @@ pub struct Product {
     pub currency: [u8; 3],
 }
 
+// A product of zeros; kind 0 is a future.
+pub fn zero_product() -> Product
+    ensures { λ r. ⌜ r ≡ zeroProduct ⌝ }
+{
+    Product {
+        id: [0, 0, 0, 0],
+        group: [0, 0, 0, 0],
+        market: [0, 0, 0, 0],
+        kind: Kind::Future(ListingText::Of2008),
+        size: 0,
+        tick: 0,
+        currency: [0, 0, 0],
+    }
+}
+
 // A kind's number in a record.
 pub fn kind_number(kind: Kind) -> u8
     ensures { λ r. ⌜ r ≡ kindNumber kind ⌝ }
 {
     match kind {
         Kind::Future(text) => match text {
-            Text::Of2008 => 0,
-            Text::Of2005 => 4,
+            ListingText::Of2008 => 0,
+            ListingText::Of2005 => 4,
         },
         Kind::Option(term) => match term {
             Term::Months12 => 1,
@@ -74,13 +89,23 @@ pub fn kind_of(number: u8) -> KindAnswer
     ensures { λ r. ⌜ kindAnswer r ≡ kindCall number ⌝ }
 {
     match number {
-        0 => KindAnswer::Is(Kind::Future(Text::Of2008)),
+        0 => KindAnswer::Is(Kind::Future(ListingText::Of2008)),
         1 => KindAnswer::Is(Kind::Option(Term::Months12)),
         2 => KindAnswer::Is(Kind::Option(Term::Months24)),
         3 => KindAnswer::Is(Kind::Option(Term::Months60)),
-        4 => KindAnswer::Is(Kind::Future(Text::Of2005)),
+        4 => KindAnswer::Is(Kind::Future(ListingText::Of2005)),
         5 => KindAnswer::Is(Kind::Option(Term::Weeks5)),
         _ => KindAnswer::NotAKind,
+    }
+}
+
+// The kind that was looked up; the kind of number 0 where there is none.
+pub fn kind_or_future(answer: KindAnswer) -> Kind
+    ensures { λ r. ⌜ r ≡ kindAnswer answer .value ⌝ }
+{
+    match answer {
+        KindAnswer::Is(kind) => kind,
+        KindAnswer::NotAKind => Kind::Future(ListingText::Of2008),
     }
 }
 
@@ -142,7 +167,7 @@ fn id_byte(within: bool, byte: u8) -> bool
 
 // An id of a given count of characters, and then spaces.
 fn id_of(id: [u8; 4], count: usize) -> bool
-    ensures { λ r. ⌜ r ≡ idOf id count ⌝ }
+    ensures { λ r. ⌜ r ≡ idOfLength id count ⌝ }
 {
     for i in 0..4 {
         if !id_byte(i < count, id[i]) {

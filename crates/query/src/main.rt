@@ -3,23 +3,23 @@ mod input;
 mod output;
 
 use delivery_items::LongLine;
-use delivery_notices::Taken;
-use delivery_sessions::Progress;
+use delivery_notices::NoticesTaken;
+use delivery_sessions::QueryProgress;
+use file_calendar::FileCalendar;
 use streams::Sent;
-use years::FileCalendar;
 ghost use mathlib.Core.Path.{_≡_};
 ghost use mathlib.Core.Bool.{true, false};
 ghost use mathlib.Core.List.{[]};
 ghost use Prim.Native.Nat.{_≤_};
 ghost use lib.ListN.{length};
-ghost use Rattle.years.specs.Calendars.{calendarAnswer};
-ghost use Rattle.master.specs.Load.{judgeCall};
-ghost use Rattle.sessions.specs.Parts.{counted};
+ghost use Rattle.file_calendar.specs.Calendars.{calendarAnswer};
+ghost use Rattle.file_load.specs.Load.{judgeCall};
+ghost use Rattle.session_parts.specs.TermsParts.{counted};
 ghost use Rattle.delivery_items.specs.Items.{emptyLong};
 ghost use Rattle.delivery_lines.specs.NoticeLines.{unmarked};
 ghost use Rattle.delivery_queries.specs.Queries.{standingIn};
-ghost use Rattle.delivery_sessions.specs.Parts.{restText};
-ghost use Rattle.delivery_sessions.specs.Runs.{Handed, Came, Ran, RanOn};
+ghost use Rattle.delivery_sessions.specs.QueryParts.{queryRest};
+ghost use Rattle.delivery_sessions.specs.QueryRuns.{QueryHanded, Came, QueryRan, RanOn};
 
 // What is kept from one part of the input to the next: the number of the line that is begun, its bytes so far, and what has been written.
 pub struct Carried {
@@ -29,17 +29,17 @@ pub struct Carried {
 }
 
 // Whether the input was read to its end and the output took all answers, and what has been written.
-pub struct Ended {
+pub struct QueryEnded {
     pub whole: bool,
     pub sent: Sent,
 }
 
 // A run that ends before its input or its output does.
-fn cut_short(k: Carried) -> Ended
+fn cut_short(k: Carried) -> QueryEnded
     ensures { λ r. ⌜ r .whole ≡ false ⌝ }
 {
     let sent = k.sent;
-    Ended { whole: false, sent }
+    QueryEnded { whole: false, sent }
 }
 
 // Writes the answers to all lines that end in a part of the input. A write that fails ends the run.
@@ -47,7 +47,7 @@ fn write_part(
     k: Carried,
     file: &[u8],
     judged: FileCalendar,
-    t: Taken,
+    t: NoticesTaken,
     calls: &[u32],
     ids: &[u8],
     refusals: &mut [u8],
@@ -56,12 +56,12 @@ fn write_part(
     out: &mut [u8],
 ) -> Carried
     requires { ⌜ (512 ≤ length (now out)) × (length (now refusals) ≡ room) ⌝ }
-    ensures { λ r. ⌜ (r .sent .open ≡ true → Handed (standingIn judged (now (file .entry)) t (now (calls .entry)) (now (ids .entry)) room) (k .number) (k .line) (now (part .entry)) (k .sent .bytes) (r .number) (r .line) [] (r .sent .bytes)) ⌝ }
+    ensures { λ r. ⌜ (r .sent .open ≡ true → QueryHanded (standingIn judged (now (file .entry)) t (now (calls .entry)) (now (ids .entry)) room) (k .number) (k .line) (now (part .entry)) (k .sent .bytes) (r .number) (r .line) [] (r .sent .bytes)) ⌝ }
 {
     let number = k.number;
     let line = k.line;
     let mut sent = k.sent;
-    let mut s = Progress {
+    let mut s = QueryProgress {
         number,
         line,
         at: 0,
@@ -100,7 +100,7 @@ fn write_part(
 fn write_first(
     file: &[u8],
     judged: FileCalendar,
-    t: Taken,
+    t: NoticesTaken,
     calls: &[u32],
     ids: &[u8],
     refusals: &mut [u8],
@@ -109,9 +109,9 @@ fn write_first(
     out: &mut [u8],
 ) -> Carried
     requires { ⌜ (512 ≤ length (now out)) × (length (now refusals) ≡ room) ⌝ }
-    ensures { λ r. ⌜ (r .sent .open ≡ true → Handed (standingIn judged (now (file .entry)) t (now (calls .entry)) (now (ids .entry)) room) 1 emptyLong (unmarked (now (part .entry))) 0 (r .number) (r .line) [] (r .sent .bytes)) ⌝ }
+    ensures { λ r. ⌜ (r .sent .open ≡ true → QueryHanded (standingIn judged (now (file .entry)) t (now (calls .entry)) (now (ids .entry)) room) 1 emptyLong (unmarked (now (part .entry))) 0 (r .number) (r .line) [] (r .sent .bytes)) ⌝ }
 {
-    let line = delivery_items::empty_line();
+    let line = delivery_items::empty_long_line();
     let sent = streams::nothing_sent();
     let k = Carried {
         number: 1,
@@ -137,16 +137,16 @@ fn write_first(
 fn write_last(
     file: &[u8],
     judged: FileCalendar,
-    t: Taken,
+    t: NoticesTaken,
     calls: &[u32],
     ids: &[u8],
     refusals: &mut [u8],
     room: usize,
     k: Carried,
     out: &mut [u8],
-) -> Ended
+) -> QueryEnded
     requires { ⌜ (512 ≤ length (now out)) × (length (now refusals) ≡ room) ⌝ }
-    ensures { λ r. ⌜ (r .whole ≡ true → r .sent .bytes ≡ counted (k .sent .bytes) (length (restText (standingIn judged (now (file .entry)) t (now (calls .entry)) (now (ids .entry)) room) (k .number) (k .line) []))) ⌝ }
+    ensures { λ r. ⌜ (r .whole ≡ true → r .sent .bytes ≡ counted (k .sent .bytes) (length (queryRest (standingIn judged (now (file .entry)) t (now (calls .entry)) (now (ids .entry)) room) (k .number) (k .line) []))) ⌝ }
 {
     let number = k.number;
     let line = k.line;
@@ -161,13 +161,13 @@ fn write_last(
         line,
         out,
     );
-    let from = Progress {
+    let from = QueryProgress {
         number,
         line,
         at: 0,
         length: 0,
     };
-    let to = Progress {
+    let to = QueryProgress {
         number,
         line,
         at: 0,
@@ -187,23 +187,24 @@ fn write_last(
         out,
     );
     let whole = streams::is_open(sent);
-    Ended { whole, sent }
+    QueryEnded { whole, sent }
 }
 
-// Reads the input part by part. What is answered is written before the next read. The loop has to be shown to end, so after 2^64 - 1 reads the input counts as ended.
+// Reads the input part by part. What is answered is written before the next read.
+// The loop has to be shown to end, so after 2^64 - 1 reads the input counts as ended.
 fn write_rest(
     file: &[u8],
     judged: FileCalendar,
-    t: Taken,
+    t: NoticesTaken,
     calls: &[u32],
     ids: &[u8],
     refusals: &mut [u8],
     room: usize,
     first: Carried,
     out: &mut [u8],
-) -> Ended
+) -> QueryEnded
     requires { ⌜ (512 ≤ length (now out)) × (length (now refusals) ≡ room) × Came (standingIn judged (now file) t (now calls) (now ids) room) (first .number) (first .line) (first .sent .bytes) ⌝ }
-    ensures { λ r. ⌜ (r .whole ≡ true → Ran (standingIn judged (now (file .entry)) t (now (calls .entry)) (now (ids .entry)) room) (r .sent .bytes)) ⌝ }
+    ensures { λ r. ⌜ (r .whole ≡ true → QueryRan (standingIn judged (now (file .entry)) t (now (calls .entry)) (now (ids .entry)) room) (r .sent .bytes)) ⌝ }
 {
     let mut part = io::large_buffer();
     let mut k = first;
@@ -241,12 +242,12 @@ fn write_rest(
 fn answer_input(
     file: &[u8],
     judged: FileCalendar,
-    t: Taken,
+    t: NoticesTaken,
     calls: &[u32],
     ids: &[u8],
     refusals: &mut [u8],
-) -> Ended
-    ensures { λ r. ⌜ (r .whole ≡ true → Ran (standingIn judged (now (file .entry)) t (now (calls .entry)) (now (ids .entry)) (length (now (refusals .entry)))) (r .sent .bytes)) ⌝ }
+) -> QueryEnded
+    ensures { λ r. ⌜ (r .whole ≡ true → QueryRan (standingIn judged (now (file .entry)) t (now (calls .entry)) (now (ids .entry)) (length (now (refusals .entry)))) (r .sent .bytes)) ⌝ }
 {
     let room = refusals.len();
     let mut part = io::large_buffer();
@@ -281,31 +282,31 @@ fn answer_notices(
     calls: &mut [u32],
     ids: &mut [u8],
     refusals: &mut [u8],
-) -> Ended
+) -> QueryEnded
     requires { ⌜ (calendarAnswer judged ≡ judgeCall (now file)) × (judged .refusal ≡ 0) × (32770 ≤ length (now calls)) × (26216 ≤ length (now ids)) × (65538 ≤ length (now refusals)) ⌝ }
     ensures { λ r. ⌜ (r .whole ≡ true → RanOn (now (file .entry)) (now (text .entry)) (r .sent .bytes)) ⌝ }
 {
     let t = delivery_notices::read_notices(text, calls, ids);
     if t.bad != 0 {
-        output::tell(file, text, delivery_refusals::bad_line(t.bad));
+        output::tell(file, text, delivery_refusals::bad_notice_line(t.bad));
         return nothing_answered();
     }
     answer_input(file, judged, t, calls, ids, refusals)
 }
 
 // A run that tells a line on standard error, and answers nothing.
-fn nothing_answered() -> Ended
+fn nothing_answered() -> QueryEnded
     ensures { λ r. ⌜ r .whole ≡ false ⌝ }
 {
     let sent = streams::nothing_sent();
-    Ended { whole: false, sent }
+    QueryEnded { whole: false, sent }
 }
 
 // The file is judged first, and once; then the notices are read.
 fn judged(file: &[u8], text: &mut [u8], calls: &mut [u32], ids: &mut [u8], refusals: &mut [u8])
     requires { ⌜ (32770 ≤ length (now calls)) × (26216 ≤ length (now ids)) × (65538 ≤ length (now refusals)) ⌝ }
 {
-    let judged = master::judge(file);
+    let judged = file_load::judge(file);
     if judged.refusal != 0 {
         output::tell(file, text, delivery_refusals::master_line(judged.refusal));
         return;

@@ -1,34 +1,36 @@
 // What is written to standard output, and told on standard error.
-use delivery_notices::Taken;
-use delivery_sessions::Progress;
-use lines::Line;
+use delivery_notices::NoticesTaken;
+use delivery_sessions::QueryProgress;
+use file_calendar::FileCalendar;
+use session_lines::Line;
 use streams::Sent;
-use years::FileCalendar;
 ghost use mathlib.Core.Path.{_≡_};
 ghost use mathlib.Core.Bool.{true};
 ghost use Prim.Native.Nat.{_≤_};
 ghost use lib.ListN.{length, take};
-ghost use Rattle.lines.specs.Lines.{emptyLine};
-ghost use Rattle.contents.specs.Contents.{LineWith};
-ghost use Rattle.sessions.specs.Parts.{counted};
+ghost use Rattle.session_lines.specs.CommandLines.{emptyLine};
+ghost use Rattle.file_text_print.specs.Contents.{LineWith};
+ghost use Rattle.session_parts.specs.TermsParts.{counted};
 ghost use Rattle.delivery_queries.specs.Queries.{standingIn, queryTold};
-ghost use Rattle.delivery_sessions.specs.Runs.{ComesNext};
+ghost use Rattle.delivery_sessions.specs.QueryRuns.{QueryComesNext};
 
-// Writes the bytes at the start of a buffer, which have to be what comes next of the answers from one place in the input to another; so many refusals have room where what is known of a product is worked out. Where the output does not take them, one line on standard error says why.
+// Writes the bytes at the start of a buffer, which have to be what comes next of the answers from one place in the input to another;
+// so many refusals have room where what is known of a product is worked out.
+// Where the output does not take them, one line on standard error says why.
 pub(crate) fn write_out(
     sent: Sent,
     file: &[u8],
     judged: FileCalendar,
-    t: Taken,
+    t: NoticesTaken,
     calls: &[u32],
     ids: &[u8],
     room: usize,
     part: &[u8],
-    from: Progress,
-    to: Progress,
+    from: QueryProgress,
+    to: QueryProgress,
     out: &[u8],
 ) -> Sent
-    requires { ⌜ (to .length ≤ length (now out)) × ComesNext (standingIn judged (now file) t (now calls) (now ids) room) (now part) from to (take (to .length) (now out)) ⌝ }
+    requires { ⌜ (to .length ≤ length (now out)) × QueryComesNext (standingIn judged (now file) t (now calls) (now ids) room) (now part) from to (take (to .length) (now out)) ⌝ }
     ensures { λ r. ⌜ (r .open ≡ true → r .bytes ≡ counted (sent .bytes) (to .length)) ⌝ }
 {
     let n = to.length;

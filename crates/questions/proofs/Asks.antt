@@ -8,14 +8,17 @@ use native.Mathlib.Omega.{arith}
 use lib.Dec.{eqb·suc-zero}
 use Rattle.questions.specs.Questions.{Ask, ask, firstNo, answer}
 
+-- a call without questions gives refusal 0
 pub no-asks : firstNo [] ≡ 0
 unfolding firstNo
 no-asks = refl
 
+-- a first question answered yes is passed over: the refusal is the one of the rest
 pub first-yes : (number : ℕ) {b : Bool} (rest : List Ask) → b ≡ true → firstNo (ask number b ∷ rest) ≡ firstNo rest
 unfolding firstNo
 first-yes number rest e = rw e
 
+-- a first question answered no gives its number as the refusal
 pub first-no : (number : ℕ) {b : Bool} (rest : List Ask) → b ≡ false → firstNo (ask number b ∷ rest) ≡ number
 unfolding firstNo
 first-no number rest e = rw e

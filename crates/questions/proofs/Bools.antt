@@ -9,29 +9,37 @@ use lib.Bits.{bitOr, or-add-and, and-le-l, and-le-r}
 use lib.Dec.{eqb, ltb}
 use borrow.Author.Tests.{eqb-true, eq-eqb, ltb-true, ltb-false, not-true, not-false}
 
+-- no answer is both yes and no: from the two anything follows
 pub clash {ℓ} : {A : Type ℓ} {b : Bool} → b ≡ true → b ≡ false → A
 clash t f = absurd (true≢false (sym t ∙ f))
 
+-- where two answers joined by 'and' are yes, each of them is yes
 pub both : (a b : Bool) → (a && b) ≡ true → (a ≡ true) × (b ≡ true)
 both true b e = (refl, e)
 both false b e = clash e refl
 
+-- where two answers joined by 'and' are yes, the first is yes
 pub and-fst : (a b : Bool) → (a && b) ≡ true → a ≡ true
 and-fst a b e = both a b e .0
 
+-- where two answers joined by 'and' are yes, the second is yes
 pub and-snd : (a b : Bool) → (a && b) ≡ true → b ≡ true
 and-snd a b e = both a b e .1
 
+-- where each of two answers is yes, the two joined by 'and' are yes
 pub and-both : {a b : Bool} → a ≡ true → b ≡ true → (a && b) ≡ true
 and-both p q = rw (p, q)
 
+-- where the first of two answers is yes, the two joined by 'or' are yes
 pub or-left : {a : Bool} (b : Bool) → a ≡ true → (a || b) ≡ true
 or-left b p = rw p
 
+-- where the second of two answers is yes, the two joined by 'or' are yes
 pub or-right : (a : Bool) {b : Bool} → b ≡ true → (a || b) ≡ true
 or-right true p = refl
 or-right false p = p
 
+-- where two answers joined by 'or' are yes, the first or the second is yes
 pub or-either : (a b : Bool) → (a || b) ≡ true → (a ≡ true) ⊎ (b ≡ true)
 or-either true b e = inl refl
 or-either false b e = inr e
@@ -51,9 +59,11 @@ same-test false false f g = refl
 pub said-no : {r a : Bool} → r ≡ a → not r ≡ true → a ≡ false
 said-no {r = r} e t = sym e ∙ not-true r t
 
+-- an answer whose negation is no is yes
 pub said-yes : {r a : Bool} → r ≡ a → not r ≡ false → a ≡ true
 said-yes {r = r} e t = sym e ∙ not-false r t
 
+-- of two numbers, the first is below the second, or the second is at most the first
 pub lt-or-ge : (m n : ℕ) → (m < n) ⊎ (n ≤ m)
 lt-or-ge m n = go (ltb m n) refl
   where

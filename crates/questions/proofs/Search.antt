@@ -13,14 +13,17 @@ use Rattle.questions.specs.Search.{every, some, latest, firstFrom}
 use Rattle.questions.proofs.Bools.{clash, both, and-both, or-left, or-right, or-either, is-false, lt-or-ge}
 
 module _ (f : ℕ → Bool) where
+  -- each of no numbers passes
   pub every-none : every 0 f ≡ true
   unfolding every
   every-none = refl
 
+  -- where each number below n passes and n passes too, each number below n + 1 passes
   pub every-more : (n : ℕ) → every n f ≡ true → f n ≡ true → every (n + 1) f ≡ true
   unfolding every
   every-more n a b = rw (add-one, a, b)
 
+  -- where each number below n passes, any given number below n passes
   pub every-at : (n k : ℕ) → every n f ≡ true → k < n → f k ≡ true
   unfolding every
   every-at zero k e h = absurd (omega arith)
@@ -34,11 +37,13 @@ module _ (f : ℕ → Bool) where
   pub every-not : (n k : ℕ) → f k ≡ false → k < n → every n f ≡ false
   every-not n k e h = is-false (every n f) (λ t. clash (every-at n k t h) e)
 
+  -- where every number below n is shown to pass, the test of all of them says so
   pub every-all : (n : ℕ) → ((k : ℕ) → k < n → f k ≡ true) → every n f ≡ true
   unfolding every
   every-all zero h = refl
   every-all (suc n) h = and-both (every-all n (λ k l. h k (omega arith))) (h n (le-refl (suc n)))
 
+  -- where a number below n passes, the test for one that passes says so
   pub some-at : (n k : ℕ) → f k ≡ true → k < n → some n f ≡ true
   unfolding some
   some-at zero k e h = absurd (omega arith)
@@ -50,10 +55,14 @@ module _ (f : ℕ → Bool) where
 
   -- a number that passes
   pub record Passing (n : ℕ) : Type 0 where
+    -- the number
     pub at : ℕ
+    -- the number is below n
     pub below : at < n
+    -- the number passes the test
     pub passes : f at ≡ true
 
+  -- where one of the numbers below n passes, such a number is given
   pub some-one : (n : ℕ) → some n f ≡ true → Passing n
   unfolding some
   some-one zero e = clash e refl
@@ -63,11 +72,13 @@ module _ (f : ℕ → Bool) where
       go (inl q) ih = let p = ih q in record { at = p .at; below = omega arith; passes = p .passes }
       go (inr q) ih = record { at = n; below = le-refl (suc n); passes = q }
 
+  -- the latest up to a number that passes is that number
   pub latest-here : (d : ℕ) → f d ≡ true → latest f d ≡ d
   unfolding latest
   latest-here zero e = refl
   latest-here (suc d) e = rw e
 
+  -- the latest up to 0 is 0
   pub latest-zero : (d : ℕ) → d ≤ 0 → latest f d ≡ 0
   unfolding latest
   latest-zero zero h = refl
@@ -77,12 +88,14 @@ module _ (f : ℕ → Bool) where
   unfolding latest
   below d e = rw e
 
+  -- the latest up to a number above 0 that does not pass is the latest up to the number before it
   pub latest-back : (d : ℕ) → 0 < d → f d ≡ false → latest f (d - 1) ≡ latest f d
   latest-back zero l e = absurd (omega arith)
   latest-back (suc d) l e =
       let q : suc d - 1 ≡ d = omega arith in
       ap (latest f) q ∙ sym (below d e)
 
+  -- the latest up to a number is at most that number
   pub latest-le : (d : ℕ) → latest f d ≤ d
   unfolding latest
   latest-le zero = le-refl 0
@@ -112,15 +125,18 @@ module _ (f : ℕ → Bool) where
       go false q ih = ap f (below d q) ∙ ih (omega (arith, below d q))
 
   module _ (none : ℕ) where
+    -- among no numbers the first that passes is `none`
     pub first-none : (d : ℕ) → firstFrom f none 0 d ≡ none
     unfolding firstFrom
     first-none d = refl
 
+    -- among one number or more, the first that passes is the first number where that one passes
     pub first-here : (n d : ℕ) → 0 < n → f d ≡ true → firstFrom f none n d ≡ d
     unfolding firstFrom
     first-here zero d h e = absurd (omega arith)
     first-here (suc n) d h e = rw e
 
+    -- where the first number does not pass, the search goes on with the next number and one number fewer
     pub first-next : (n d : ℕ) → 0 < n → f d ≡ false → firstFrom f none n d ≡ firstFrom f none (n - 1) (d + 1)
     unfolding firstFrom
     first-next zero d h e = absurd (omega arith)
@@ -130,14 +146,17 @@ module _ (f : ℕ → Bool) where
 
 -- a search of the numbers from d on, below e
 module _ (f : ℕ → Bool) (none e : ℕ) where
+  -- a search from the end or later finds `none`
   pub search-none : (d : ℕ) → e ≤ d → firstFrom f none (e - d) d ≡ none
   search-none d h =
       let z : e - d ≡ 0 = omega arith in
       ap (λ (n : ℕ). firstFrom f none n d) z ∙ first-none f none d
 
+  -- a search from a number before the end that passes finds that number
   pub search-here : (d : ℕ) → d < e → f d ≡ true → firstFrom f none (e - d) d ≡ d
   search-here d h t = first-here f none (e - d) d (omega arith) t
 
+  -- a search from a number before the end that does not pass finds what the search from the next number finds
   pub search-next : (d : ℕ) → d < e → f d ≡ false → firstFrom f none (e - (d + 1)) (d + 1) ≡ firstFrom f none (e - d) d
   search-next d h t =
       let s : e - (d + 1) ≡ e - d - 1 = omega arith in
@@ -161,10 +180,14 @@ first-same f g none n d e = ap (λ (t : ℕ → Bool). firstFrom t none n d) (fu
 
 -- a number that does not pass
 pub record Failing (f : ℕ → Bool) (n : ℕ) : Type 0 where
+  -- the number
   pub at : ℕ
+  -- the number is below n
   pub below : at < n
+  -- the number does not pass the test
   pub fails : f at ≡ false
 
+-- where not each number below n passes, a number that does not pass is given
 pub every-one : (f : ℕ → Bool) (n : ℕ) → every n f ≡ false → Failing f n
 unfolding every
 every-one f zero e = clash refl e

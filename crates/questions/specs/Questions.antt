@@ -9,7 +9,8 @@ use lib.Dec.{eqb}
 pub data Ask : Type 0 where
   ask : ℕ → Bool → Ask
 
--- 'A call asks its questions in the order listed for it and returns the number of the first answered no'; 0 where there is none
+-- 'A call asks its questions in the order listed for it and returns the number of the first answered no';
+-- 0 where there is none
 unfoldable pub firstNo : List Ask → ℕ
 firstNo [] = 0
 firstNo (ask number holds ∷ rest) = cond holds (firstNo rest) number

@@ -1,5 +1,5 @@
 // Writing to standard output, and telling on standard error.
-use lines::Line;
+use session_lines::Line;
 use streams::Sent;
 ghost use Prim.Native.Nat.{_≤_};
 ghost use lib.ListN.{length};

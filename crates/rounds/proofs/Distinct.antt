@@ -21,12 +21,15 @@ times (y ∷ ys) x = cond (eqb y x) 1 0 + times ys x
 
 -- 'table numbers 0 to 199, each at most once'
 pub record Distinct (xs : List ℕ) : Type 0 where
+  -- every number occurs at most once
   pub once : (x : ℕ) → times xs x ≤ 1
+  -- no number of 200 or more occurs
   pub small : (x : ℕ) → 200 ≤ x → times xs x ≡ 0
 
 times-one : (y x : ℕ) (c : Bool) → eqb y x ≡ c → times (y ∷ []) x ≡ cond c 1 0
 times-one y x c e = rw e (add-zero (cond c 1 0))
 
+-- a number occurs in two joined lists as often as in both together
 pub times-append : (xs ys : List ℕ) (x : ℕ) → times (xs ++ ys) x ≡ times xs x + times ys x
 times-append [] ys x = sym (zero-add (times ys x))
 times-append (z ∷ xs) ys x = ap (λ (n : ℕ). cond (eqb z x) 1 0 + n) (times-append xs ys x) ∙ sym (add-assoc (cond (eqb z x) 1 0) (times xs x) (times ys x))
@@ -56,6 +59,7 @@ there (y ∷ xs) x e = go (eqb x y) refl e (there xs x)
     go true q e ih = rw (eq-eqb y x (sym (eqb-true x y q))) (omega arith)
     go false q e ih = omega (arith, ih e, no-fewer (eqb y x) (times xs x))
 
+-- a list stays distinct with a number of at most 199 added that it did not have
 pub joined-distinct : (xs : List ℕ) (y : ℕ) → Distinct xs → oneOf xs y ≡ false → y ≤ 199 → Distinct (xs ++ (y ∷ []))
 joined-distinct xs y d a h = record { once = λ x. one x (eqb y x) refl; small = λ x l. none x l (eqb y x) refl }
   where

@@ -1,7 +1,7 @@
-mod Places
+mod QueuePlaces
 mod Distinct
 pub mod Queues
-mod Calls
+mod QueueQuestions
 pub mod Rights
 pub mod Waiting
-mod Cases
+mod WorkedQueues

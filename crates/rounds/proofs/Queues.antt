@@ -1,6 +1,6 @@
 -- What a right queue holds: numbers 0 to 199, each at most once.
 -- Assumes nothing.
-use Prim.Native.Nat.{ℕ, zero, suc, _-_, _≤_, _<_}
+use Prim.Native.Nat.{ℕ, zero, suc, _≤_, _<_}
 use mathlib.Core.Path.{_≡_, refl}
 use mathlib.Core.Bool.{true, not}
 use mathlib.Core.List.{List}
@@ -27,6 +27,7 @@ module _ (l : List ℕ) where
       (leb-true _ _ a)
       (λ j h q. clash (eq-eqb (getD l j 0) (getD l n 0) q) (not-true (eqb (getD l j 0) (getD l n 0)) (every-at (λ j. not (eqb (getD l j 0) (getD l n 0))) n j b h)))
 
+-- a right queue has every table at most once
 pub distinct-queue : (q : Queue) → queueRight q ≡ true → Distinct (queued q)
 unfolding queueRight
 distinct-queue q e = distinct-places (q .tables) (q .count) (both (leb (q .count) 200) (every (q .count) (queuePlaceRight (q .tables))) e .1)
@@ -36,6 +37,7 @@ pub right-count : (q : Queue) → queueRight q ≡ true → q .count ≤ 200
 unfolding queueRight
 right-count q r = leb-true (q .count) 200 (both (leb (q .count) 200) (every (q .count) (queuePlaceRight (q .tables))) r .0)
 
+-- every table number of a right queue is at most 199
 pub right-number : (q : Queue) → queueRight q ≡ true → (i : ℕ) → i < q .count → getD (q .tables) i 0 ≤ 199
 unfolding queueRight
 right-number q r i h =

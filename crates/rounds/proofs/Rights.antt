@@ -85,6 +85,7 @@ module _ (xs : List ℕ) (d : Distinct xs) where
   unfolding queueRight
   right-queue = and-both (le-leb (length xs) 200 (at-most-200 xs d)) (every-all (queuePlaceRight tables) (length xs) (λ i h. place i h))
 
+-- the empty queue is right
 pub empty-right : queueRight (queueOf []) ≡ true
 empty-right = right-queue [] (record { once = λ x. omega arith; small = λ x h. refl })
 
@@ -98,6 +99,7 @@ module _ (q : Queue) (r : queueRight q ≡ true) where
       go true e = rw e (right-queue xs (d (eqb-true _ _ e)))
       go false e = rw e r
 
+  -- a right queue is right after a round
   pub handle-right : (b : ℕ) → queueRight (handleCall q b .queue) ≡ true
   unfolding handleCall
   handle-right b = go (eqb (firstNo (handleAsks q b)) 0) refl
@@ -106,6 +108,7 @@ module _ (q : Queue) (r : queueRight q ≡ true) where
       go true e = rw e (right-queue (drop b (queued q) ++ take b (queued q)) (handled-distinct b (queued q) (distinct-queue q r)))
       go false e = rw e r
 
+  -- a right queue is right after a table leaves
   pub leave-right : (y : ℕ) → queueRight (leaveCall q y .queue) ≡ true
   unfolding leaveCall
   leave-right y = changed-right (leaveAsks q y) (without y (queued q)) (λ e. left-distinct y (queued q) (distinct-queue q r))
@@ -123,6 +126,7 @@ joining q table e =
     let (c, e3) = none-no 30 (not (oneOf (queued q) table)) _ e2 in
     record { distinct = distinct-queue q a; new = not-true (oneOf (queued q) table) c; most = leb-true table 199 b }
 
+-- a right queue is right after a table joins
 pub join-right : (q : Queue) → queueRight q ≡ true → (y : ℕ) → queueRight (joinCall q y .queue) ≡ true
 unfolding joinCall
 join-right q r y =

@@ -226,6 +226,7 @@ run-right (handle b ∷ es) q r = run-right es (handleCall q b .queue) (handle-r
 run-right (join y ∷ es) q r = run-right es (joinCall q y .queue) (join-right q r y)
 run-right (leave y ∷ es) q r = run-right es (leaveCall q y .queue) (leave-right q r y)
 
+-- how long a table waits, that a right queue stays right, and that every accepted joining finds a place
 pub waiting : (b : ℕ) (q : Queue) (es : List Event) → Waiting b q es
 waiting b q es =
     record {

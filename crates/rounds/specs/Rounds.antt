@@ -44,7 +44,8 @@ roundRight b = leb 1 b && leb b 200
 abbrev pub tableNumberRight : ℕ → Bool
 tableNumberRight table = leb table 199
 
--- a call of the round: 'A queue that breaks this gets 10, first', then 30
+-- 'A queue that breaks this gets 10, first', then 30:
+-- a call of the round
 abbrev pub handleAsks : Queue → ℕ → List Ask
 handleAsks q b = ask 10 (queueRight q) ∷ ask 30 (roundRight b) ∷ []
 

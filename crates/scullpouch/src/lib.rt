@@ -1,61 +1,61 @@
 // The calls for programs in other languages, by C's calling convention: structs by value, and lent bytes as a pointer and a length.
 // Nothing is kept between calls. A refused call gives back the table, the queue or the state as it came.
+use c_delivery::FlatDelivered;
+use c_delivery::Notices;
+use c_delivery::ProductReply;
+use c_delivery::TextLine;
+use c_delivery::TextReply;
+use c_differences::FlatReceipt;
+use c_differences::FoundLines;
+use c_types::DateReply;
+use c_types::FlatMeasured;
+use c_types::FlatOutcome;
+use c_types::FlatProduct;
+use c_types::FlatRecord;
+use c_types::FlatTable;
+use c_types::Id;
+use c_types::VerdictReply;
 use calendar::Calendar;
 use calendar::Cover;
-use flat::DateReply;
-use flat::FlatMeasured;
-use flat::FlatOutcome;
-use flat::FlatProduct;
-use flat::FlatRecord;
-use flat::FlatTable;
-use flat::Id;
-use flat::VerdictReply;
-use flat_delivery::FlatDelivered;
-use flat_delivery::Notices;
-use flat_delivery::ProductReply;
-use flat_delivery::TextLine;
-use flat_delivery::TextReply;
-use flat_differences::FlatReceipt;
-use flat_differences::FoundLines;
-use generated::Made;
-use intake::Finished;
-use intake::Intake;
-use intake::Taken;
-use master::Loaded;
-use prices::CashReply;
+use calendar_synthetic::Made;
+use file_calendar::FileCalendar;
+use file_intake::Finished;
+use file_intake::Intake;
+use file_intake::Taken;
+use file_load::Loaded;
+use file_write::WrittenFile;
 use rounds::Changed;
 use rounds::Handled;
 use rounds::Queue;
-use values::DayReply;
-use values::LastDayReply;
-use writing::WrittenFile;
-use years::FileCalendar;
+use table_prices::CashReply;
+use table_values::DayReply;
+use table_values::LastDayReply;
 ghost use mathlib.Core.Path.{_≡_};
 ghost use mathlib.Core.Bool.{cond};
 ghost use mathlib.Core.List.{[]};
 ghost use lib.ListN.{length};
 ghost use Rattle.days.specs.Dates.{dayCall, dateCall};
-ghost use Rattle.years.specs.Calendars.{calendarAnswer};
-ghost use Rattle.master.specs.Load.{loadAnswer, loadCall, judgeCall};
+ghost use Rattle.file_calendar.specs.Calendars.{calendarAnswer};
+ghost use Rattle.file_load.specs.Load.{loadAnswer, loadCall, judgeCall};
 ghost use Rattle.table.specs.Table.{openCall, openIn, rollCall, closeCall, reopenCall};
-ghost use Rattle.values.specs.Values.{dayReply, lastDayReply, lastDayCall, dueCall};
-ghost use Rattle.prices.specs.Prices.{cashReply, tickCall, cashCall};
-ghost use Rattle.writing.specs.Writing.{writeCall, writeAnswer, bufferAfter};
-ghost use Rattle.intake.specs.Intake.{announceCall, takeCall, finishCall, finishedAnswer};
+ghost use Rattle.table_values.specs.Values.{dayReply, lastDayReply, lastDayCall, dueCall};
+ghost use Rattle.table_prices.specs.TablePrices.{cashReply, tickCall, cashCall};
+ghost use Rattle.file_write.specs.Writing.{writeCall, writeAnswer, bufferAfter};
+ghost use Rattle.file_intake.specs.Intake.{announceCall, takeCall, finishCall, finishedAnswer};
 ghost use Rattle.rounds.specs.Rounds.{queueOf, handleCall, joinCall, leaveCall};
-ghost use Rattle.generated.specs.Generated.{madeAnswer, madeCall};
-ghost use Rattle.measures.specs.Measures.{measureCall};
-ghost use Rattle.vendor.specs.Vendor.{vendorCall};
-ghost use Rattle.lines.specs.Lines.{emptyLine, fed};
-ghost use Rattle.delivery_products.specs.Products.{placeCall};
-ghost use Rattle.delivery_notices.specs.Lists.{noticesTo};
-ghost use Rattle.delivery_rows.specs.Delivery.{headingText};
+ghost use Rattle.calendar_synthetic.specs.Generated.{madeAnswer, madeCall};
+ghost use Rattle.table_measures.specs.Measures.{measureCall};
+ghost use Rattle.table_vendor.specs.Vendor.{vendorCall};
+ghost use Rattle.session_lines.specs.CommandLines.{emptyLine, fed};
+ghost use Rattle.delivery_products.specs.ProductsByPlace.{placeCall};
+ghost use Rattle.delivery_notices.specs.NoticeLists.{noticesTo};
+ghost use Rattle.delivery_rows.specs.Delivery.{deliveryHeading};
 ghost use Rattle.delivery_refusals.specs.Refusals.{refusalLine, unknownLine};
 ghost use Rattle.delivery_receipts.specs.Receiving.{idIn, receivedTo, firstUnknown};
 ghost use Rattle.delivery_reports.specs.Reports.{unknownText, differencesHeading};
-ghost use Rattle.flat_differences.specs.Found.{ReceivedIn, DifferencesIn};
-ghost use Rattle.flat_delivery.specs.Delivered.{productReply, NoticesIn, DeliveredIn, RowsWritten, textLine};
-ghost use Rattle.flat.specs.Flat.{unflatTable, flatOutcome, outcomeOn, measuredOn, dateReply, verdictReply, recordFlat};
+ghost use Rattle.c_differences.specs.Found.{ReceivedIn, DifferencesIn};
+ghost use Rattle.c_delivery.specs.Delivered.{productReply, NoticesIn, DeliveredIn, RowsWritten, textLine};
+ghost use Rattle.c_types.specs.Flat.{unflatTable, flatOutcome, outcomeOn, measuredOn, dateReply, verdictReply, recordFlat};
 
 // The number of this interface: it changes when a struct, a function or the meaning of an answer does.
 #[no_mangle]
@@ -70,7 +70,7 @@ pub extern "C" fn scullpouch_interface() -> u32
 pub extern "C" fn scullpouch_day(year: u16, month: u16, day: u16) -> DayReply
     ensures { λ r. ⌜ dayReply r ≡ dayCall year month day ⌝ }
 {
-    flat::reply_of_day(days::day_of_date(year, month, day))
+    c_types::reply_of_day(days::day_of_date(year, month, day))
 }
 
 // The date of a day number.
@@ -78,7 +78,7 @@ pub extern "C" fn scullpouch_day(year: u16, month: u16, day: u16) -> DayReply
 pub extern "C" fn scullpouch_date(day: u16) -> DateReply
     ensures { λ r. ⌜ dateReply r ≡ dateCall day ⌝ }
 {
-    flat::reply_of_date(days::date_of_day(day))
+    c_types::reply_of_date(days::date_of_day(day))
 }
 
 // Judges a master file: questions 1 to 8.
@@ -86,7 +86,7 @@ pub extern "C" fn scullpouch_date(day: u16) -> DateReply
 pub extern "C" fn scullpouch_load(file: &[u8]) -> Loaded
     ensures { λ r. ⌜ loadAnswer r ≡ loadCall (now (file .entry)) ⌝ }
 {
-    master::load(file)
+    file_load::load(file)
 }
 
 // Opens a table. Refused, the table is all zeros.
@@ -96,7 +96,7 @@ pub extern "C" fn scullpouch_open(file: &[u8], id: Id, date: u16) -> FlatOutcome
 {
     let bytes = id.bytes;
     let table = table::zero_table();
-    flat::flat_outcome(table.open(file, bytes, date))
+    c_types::flat_outcome(table.open(file, bytes, date))
 }
 
 // Judges a master file for the opens that follow: questions 1 to 8, and its calendar.
@@ -104,7 +104,7 @@ pub extern "C" fn scullpouch_open(file: &[u8], id: Id, date: u16) -> FlatOutcome
 pub extern "C" fn scullpouch_judge_file(file: &[u8]) -> FileCalendar
     ensures { λ r. ⌜ calendarAnswer r ≡ judgeCall (now (file .entry)) ⌝ }
 {
-    master::judge(file)
+    file_load::judge(file)
 }
 
 // Opens a table by what was said of a file. Said of this file, it is the open above.
@@ -118,7 +118,7 @@ pub extern "C" fn scullpouch_open_in(
     ensures { λ r. ⌜ r ≡ flatOutcome (openIn (calendarAnswer judged) (now (file .entry)) (id .bytes) date) ⌝ }
 {
     let bytes = id.bytes;
-    flat::flat_outcome(table::open_in(file, judged, bytes, date))
+    c_types::flat_outcome(table::open_in(file, judged, bytes, date))
 }
 
 // Rolls a table to a date.
@@ -126,8 +126,8 @@ pub extern "C" fn scullpouch_open_in(
 pub extern "C" fn scullpouch_roll(t: FlatTable, date: u16) -> FlatOutcome
     ensures { λ r. ⌜ r ≡ outcomeOn t (rollCall (unflatTable t) date) ⌝ }
 {
-    let table = flat::unflat_table(t);
-    flat::outcome_on(t, table.roll(date))
+    let table = c_types::unflat_table(t);
+    c_types::outcome_on(t, table.roll(date))
 }
 
 // Closes a day.
@@ -135,8 +135,8 @@ pub extern "C" fn scullpouch_roll(t: FlatTable, date: u16) -> FlatOutcome
 pub extern "C" fn scullpouch_close(t: FlatTable, day: u16) -> FlatOutcome
     ensures { λ r. ⌜ r ≡ outcomeOn t (closeCall (unflatTable t) day) ⌝ }
 {
-    let table = flat::unflat_table(t);
-    flat::outcome_on(t, table.close(day))
+    let table = c_types::unflat_table(t);
+    c_types::outcome_on(t, table.close(day))
 }
 
 // Opens a closed day again.
@@ -144,8 +144,8 @@ pub extern "C" fn scullpouch_close(t: FlatTable, day: u16) -> FlatOutcome
 pub extern "C" fn scullpouch_reopen(t: FlatTable, day: u16) -> FlatOutcome
     ensures { λ r. ⌜ r ≡ outcomeOn t (reopenCall (unflatTable t) day) ⌝ }
 {
-    let table = flat::unflat_table(t);
-    flat::outcome_on(t, table.reopen(day))
+    let table = c_types::unflat_table(t);
+    c_types::outcome_on(t, table.reopen(day))
 }
 
 // A capital measure on a future, p for q: from the settlement price before it the one after it.
@@ -153,8 +153,8 @@ pub extern "C" fn scullpouch_reopen(t: FlatTable, day: u16) -> FlatOutcome
 pub extern "C" fn scullpouch_measure(t: FlatTable, p: u16, q: u16, price: u32) -> FlatMeasured
     ensures { λ r. ⌜ r ≡ measuredOn t (measureCall (unflatTable t) p q price) ⌝ }
 {
-    let table = flat::unflat_table(t);
-    flat::measured_on(t, measures::measure(table, p, q, price))
+    let table = c_types::unflat_table(t);
+    c_types::measured_on(t, table_measures::measure(table, p, q, price))
 }
 
 // The last trading day of a listed maturity, by its key.
@@ -162,7 +162,7 @@ pub extern "C" fn scullpouch_measure(t: FlatTable, p: u16, q: u16, price: u32) -
 pub extern "C" fn scullpouch_last_trading_day(t: FlatTable, key: u16) -> LastDayReply
     ensures { λ r. ⌜ lastDayReply r ≡ lastDayCall (unflatTable t) key ⌝ }
 {
-    values::last_trading_day(flat::unflat_table(t), key)
+    table_values::last_trading_day(c_types::unflat_table(t), key)
 }
 
 // The due day of a day of the cover.
@@ -170,7 +170,7 @@ pub extern "C" fn scullpouch_last_trading_day(t: FlatTable, key: u16) -> LastDay
 pub extern "C" fn scullpouch_due(t: FlatTable, day: u16) -> DayReply
     ensures { λ r. ⌜ dayReply r ≡ dueCall (unflatTable t) day ⌝ }
 {
-    values::due(flat::unflat_table(t), day)
+    table_values::due(c_types::unflat_table(t), day)
 }
 
 // 0 where a price passes, else the refusal.
@@ -178,7 +178,7 @@ pub extern "C" fn scullpouch_due(t: FlatTable, day: u16) -> DayReply
 pub extern "C" fn scullpouch_tick(t: FlatTable, price: u32) -> u8
     ensures { λ r. ⌜ r ≡ tickCall (unflatTable t) price ⌝ }
 {
-    prices::tick(flat::unflat_table(t), price)
+    table_prices::tick(c_types::unflat_table(t), price)
 }
 
 // The cash of a future.
@@ -191,7 +191,7 @@ pub extern "C" fn scullpouch_cash(
 ) -> CashReply
     ensures { λ r. ⌜ cashReply r ≡ cashCall (unflatTable t) contracts agreed «final_price» ⌝ }
 {
-    prices::cash(flat::unflat_table(t), contracts, agreed, final_price)
+    table_prices::cash(c_types::unflat_table(t), contracts, agreed, final_price)
 }
 
 // Writes a master file into a lent buffer. Refused, nothing is written.
@@ -203,7 +203,7 @@ pub extern "C" fn scullpouch_write(
 ) -> WrittenFile
     ensures { λ r. ⌜ (writeAnswer r ≡ writeCall calendar (now (records .entry)) (length (now (buffer .entry)))) × (now (buffer .exit) ≡ bufferAfter calendar (now (records .entry)) (now (buffer .entry))) ⌝ }
 {
-    writing::write(calendar, records, buffer)
+    file_write::write(calendar, records, buffer)
 }
 
 // The record of a product.
@@ -211,7 +211,7 @@ pub extern "C" fn scullpouch_write(
 pub extern "C" fn scullpouch_record(p: FlatProduct) -> FlatRecord
     ensures { λ r. ⌜ r .bytes ≡ recordFlat p ⌝ }
 {
-    flat::flat_record(p)
+    c_types::flat_record(p)
 }
 
 // Begins a load by blocks, of so many blocks.
@@ -219,7 +219,7 @@ pub extern "C" fn scullpouch_record(p: FlatProduct) -> FlatRecord
 pub extern "C" fn scullpouch_announce(blocks: u16) -> Taken
     ensures { λ r. ⌜ r ≡ announceCall blocks ⌝ }
 {
-    intake::announce(blocks)
+    file_intake::announce(blocks)
 }
 
 // Takes the next block.
@@ -243,7 +243,7 @@ pub extern "C" fn scullpouch_finish(state: Intake) -> Finished
 pub extern "C" fn scullpouch_judge(t: FlatTable, list: &[u16]) -> VerdictReply
     ensures { λ r. ⌜ verdictReply r ≡ vendorCall (unflatTable t) (now (list .entry)) ⌝ }
 {
-    flat::reply_of_verdict(vendor::judge(flat::unflat_table(t), list))
+    c_types::reply_of_verdict(table_vendor::judge(c_types::unflat_table(t), list))
 }
 
 // A queue with no table.
@@ -283,7 +283,7 @@ pub extern "C" fn scullpouch_leave(queue: Queue, table: u16) -> Changed
 pub extern "C" fn scullpouch_make(seed: u32, cover: Cover) -> Made
     ensures { λ r. ⌜ madeAnswer r ≡ madeCall seed cover ⌝ }
 {
-    generated::make(seed, cover)
+    calendar_synthetic::make(seed, cover)
 }
 
 // The product at a place of a master file: questions 1 to 8, and 9 of the place.
@@ -291,7 +291,7 @@ pub extern "C" fn scullpouch_make(seed: u32, cover: Cover) -> Made
 pub extern "C" fn scullpouch_product_at(file: &[u8], place: usize) -> ProductReply
     ensures { λ r. ⌜ r ≡ productReply (placeCall (now (file .entry)) place) ⌝ }
 {
-    flat_delivery::product_at(file, place)
+    c_delivery::product_at(file, place)
 }
 
 // Reads a text of notices into two lent lists.
@@ -299,7 +299,7 @@ pub extern "C" fn scullpouch_product_at(file: &[u8], place: usize) -> ProductRep
 pub extern "C" fn scullpouch_read_notices(text: &[u8], calls: &mut [u32], ids: &mut [u8]) -> Notices
     ensures { λ r. ⌜ NoticesIn (now (text .entry)) (now (calls .entry)) (now (calls .exit)) (now (ids .entry)) (now (ids .exit)) r ⌝ }
 {
-    flat_delivery::read_notices(text, calls, ids)
+    c_delivery::read_notices(text, calls, ids)
 }
 
 // The table of a product after the notices, by what was said of the file, and the number of each notice's refusal.
@@ -315,7 +315,7 @@ pub extern "C" fn scullpouch_deliver(
 ) -> FlatDelivered
     ensures { λ r. ⌜ DeliveredIn (openIn (calendarAnswer judged) (now (file .entry))) (id .bytes) notices (noticesTo (now (calls .entry)) (now (ids .entry)) (notices .count)) (now (refusals .entry)) (now (refusals .exit)) r ⌝ }
 {
-    flat_delivery::deliver(file, judged, notices, calls, ids, id, refusals)
+    c_delivery::deliver(file, judged, notices, calls, ids, id, refusals)
 }
 
 // The rows of a table.
@@ -323,15 +323,15 @@ pub extern "C" fn scullpouch_deliver(
 pub extern "C" fn scullpouch_rows(t: FlatTable, buffer: &mut [u8]) -> TextReply
     ensures { λ r. ⌜ RowsWritten (unflatTable t) (now (buffer .entry)) (now (buffer .exit)) r ⌝ }
 {
-    flat_delivery::rows(t, buffer)
+    c_delivery::rows(t, buffer)
 }
 
 // The heading of the rows.
 #[no_mangle]
 pub extern "C" fn scullpouch_rows_heading() -> TextLine
-    ensures { λ r. ⌜ r ≡ textLine (fed emptyLine headingText) ⌝ }
+    ensures { λ r. ⌜ r ≡ textLine (fed emptyLine deliveryHeading) ⌝ }
 {
-    flat_delivery::rows_heading()
+    c_delivery::rows_heading()
 }
 
 // Line i of a product's refused calls: 0 is that of the opening, and i that of notice i - 1.
@@ -346,7 +346,7 @@ pub extern "C" fn scullpouch_refused_call(
 ) -> TextLine
     ensures { λ r. ⌜ r ≡ textLine (fed emptyLine (refusalLine (id .bytes) (notices .opened) refusal (now (calls .entry)) (now (refusals .entry)) i)) ⌝ }
 {
-    flat_delivery::refused_call(id, notices, refusal, calls, refusals, i)
+    c_delivery::refused_call(id, notices, refusal, calls, refusals, i)
 }
 
 // Line i of the measures of ids that the file has not.
@@ -359,7 +359,7 @@ pub extern "C" fn scullpouch_unknown_measure(
 ) -> TextLine
     ensures { λ r. ⌜ r ≡ textLine (fed emptyLine (unknownLine (now (file .entry)) (now (calls .entry)) (now (ids .entry)) i)) ⌝ }
 {
-    flat_delivery::unknown_measure(file, calls, ids, i)
+    c_delivery::unknown_measure(file, calls, ids, i)
 }
 
 // Takes the next line of a text of rows into six lent lists.
@@ -377,7 +377,7 @@ pub extern "C" fn scullpouch_receive(
 ) -> FlatReceipt
     ensures { λ r. ⌜ ReceivedIn (now (file .entry)) state (now (text .entry)) (record { ids = now (ids .entry); keys = now (keys .entry); days = now (days .entry); fulls = now (fulls .entry); numbers = now (numbers .entry); backs = now (backs .entry) }) (record { ids = now (ids .exit); keys = now (keys .exit); days = now (days .exit); fulls = now (fulls .exit); numbers = now (numbers .exit); backs = now (backs .exit) }) r ⌝ }
 {
-    flat_differences::receive(file, state, text, ids, keys, days, fulls, numbers, backs)
+    c_differences::receive(file, state, text, ids, keys, days, fulls, numbers, backs)
 }
 
 // The lines of one product's differences, from a key on.
@@ -398,7 +398,7 @@ pub extern "C" fn scullpouch_differences(
 ) -> FoundLines
     ensures { λ r. ⌜ DifferencesIn product delivered (receivedTo (record { ids = now (ids .entry); keys = now (keys .entry); days = now (days .entry); fulls = now (fulls .entry); numbers = now (numbers .entry); backs = now (backs .entry) }) rows) rows from (now (places .entry)) (now (places .exit)) (now (buffer .entry)) (now (buffer .exit)) r ⌝ }
 {
-    flat_differences::differences(
+    c_differences::differences(
         product,
         delivered,
         rows,
@@ -419,7 +419,7 @@ pub extern "C" fn scullpouch_differences(
 pub extern "C" fn scullpouch_differences_heading() -> TextLine
     ensures { λ r. ⌜ r ≡ textLine (fed emptyLine differencesHeading) ⌝ }
 {
-    flat_differences::differences_heading()
+    c_differences::differences_heading()
 }
 
 // The line of row i where it is the first with its id, and the file has no such id.
@@ -427,5 +427,5 @@ pub extern "C" fn scullpouch_differences_heading() -> TextLine
 pub extern "C" fn scullpouch_unknown_product(file: &[u8], ids: &[u8], i: u32) -> TextLine
     ensures { λ r. ⌜ r ≡ textLine (fed emptyLine (cond (firstUnknown (now (file .entry)) (now (ids .entry)) i) (unknownText (idIn (now (ids .entry)) i)) [])) ⌝ }
 {
-    flat_differences::unknown_product(file, ids, i)
+    c_differences::unknown_product(file, ids, i)
 }

@@ -1,10 +1,12 @@
-// One read and one write. Each is made again where a signal interrupted it. The loops have to be shown to end, so after 2^64 - 1 interruptions the call counts as failed.
+// One read and one write. Each is made again where a signal interrupted it.
+// The loops have to be shown to end, so after 2^64 - 1 interruptions the call counts as failed.
 use libc::EINTR;
 ghost use mathlib.Core.Path.{_≡_};
 ghost use lib.ListN.{length};
 ghost use Rattle.streams.specs.Transfers.{failed, transferOf, Within};
 
-// What a read or a write moved: so many bytes at the start of the buffer, or none as it failed. None without a failure is the end of an input, and of a write that nothing was taken.
+// What a read or a write moved: so many bytes at the start of the buffer, or none as it failed.
+// None without a failure is the end of an input, and of a write that nothing was taken.
 pub struct Transfer {
     pub failed: bool,
     pub length: usize,

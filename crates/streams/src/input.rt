@@ -48,7 +48,8 @@ pub fn read_input(what: &[u8], buffer: &mut [u8]) -> Transfer
     read
 }
 
-// The bytes of a file at the start of a buffer: up to its end, or as many as the buffer holds. None where it cannot be opened or read, of which nothing is told.
+// The bytes of a file at the start of a buffer: up to its end, or as many as the buffer holds.
+// None where it cannot be opened or read, of which nothing is told.
 pub fn read_file(name: &[u8], buffer: &mut [u8]) -> Transfer
     ensures { λ r. ⌜ Within r (now (buffer .exit)) ⌝ }
 {

@@ -6,8 +6,10 @@ ghost use mathlib.Core.Path.{_≡_};
 ghost use mathlib.Core.Bool.{true, false};
 ghost use Prim.Native.Nat.{_+_, _%_, _^_, _≤_, _<_};
 ghost use lib.ListN.{length};
+ghost use Rattle.streams.specs.Transfers.{Grew};
 
-// Whether standard output has taken all that was written to it, and how many bytes that is, modulo 2^64. Its fields are private: only this file makes one, so a count that grew says that a write was made which the output took.
+// Whether standard output has taken all that was written to it, and how many bytes that is, modulo 2^64.
+// Its fields are private: only this file makes one, so a count that grew says that a write was made which the output took.
 pub struct Sent {
     open: bool,
     bytes: u64,
@@ -48,6 +50,28 @@ pub fn tell(text: &[u8]) {
     }
 }
 
+// How many bytes were told with `tell_next`, modulo 2^64.
+// Its field is private: only this file makes one, so a count that grew says that so many bytes were told.
+pub struct Told {
+    bytes: u64,
+}
+
+// Before the first line is told.
+pub fn nothing_told() -> Told
+    ensures { λ r. ⌜ r .bytes ≡ 0 ⌝ }
+{
+    Told { bytes: 0 }
+}
+
+// Writes the next bytes to standard error, and counts them, whether it takes them or not.
+pub fn tell_next(told: Told, text: &[u8]) -> Told
+    ensures { λ r. ⌜ Grew (told .bytes) (length (now (text .entry))) (r .bytes) ⌝ }
+{
+    tell(text);
+    let bytes = std::num::wrapping_add_u64(told.bytes, text.len() as u64);
+    Told { bytes }
+}
+
 // Tells why a write took nothing: with the system's reason where it failed.
 fn tell_write(what: &[u8], failed: bool) {
     if failed {
@@ -85,7 +109,8 @@ fn send_some(sent: Sent, what: &[u8], bytes: &[u8]) -> Step
     }
 }
 
-// Writes all of bytes to standard output, unless it did not take all that came before. Where it does not take them, one line on standard error says so: what, and the reason.
+// Writes all of bytes to standard output, unless it did not take all that came before.
+// Where it does not take them, one line on standard error says so: what, and the reason.
 pub fn write_next(sent: Sent, what: &[u8], bytes: &[u8]) -> Sent
     ensures { λ r. ⌜ (r .open ≡ true → (sent .open ≡ true) × (r .bytes ≡ (sent .bytes + length (now (bytes .entry))) % 2 ^ 64)) ⌝ }
 {

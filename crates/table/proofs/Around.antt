@@ -16,7 +16,7 @@ use Rattle.calendar.specs.declared.Calendar.{Calendar}
 use Rattle.calendar.specs.declared.Cover.{Cover}
 use Rattle.calendar.specs.Trading.{calendarWith, closedOn, coverStart, coverEnd, tradingDay, someTrades, everyWeek, closeDay}
 use Rattle.calendar.proofs.Closing.{close-cover, trading-other}
-use Rattle.calendar.proofs.Second.{withSecond}
+use Rattle.calendar.proofs.SecondMap.{withSecond}
 use Rattle.table.specs.Table.{stepsBack, stepsOn, tradesAround}
 
 module _ (cal : Calendar) (day : ℕ) where
@@ -55,24 +55,29 @@ module _ (cal : Calendar) (day : ℕ) where
 -- ---- the search for the nearest trading day
 
 module _ (f : ℕ → Bool) where
+  -- a search at a step before the seventh ends where the test passes, and goes on to the next step elsewhere
   pub first-next : (n : ℕ) → n < 7 → firstFrom f 7 (7 - n) n ≡ cond (f n) n (firstFrom f 7 (7 - (n + 1)) (n + 1))
   unfolding firstFrom
   first-next n h =
       let e : 7 - n ≡ suc (7 - (n + 1)) = omega arith in
       rw (e, add-one n) refl
 
+  -- a search ends at the step where the test passes
   pub first-at : (n r : ℕ) → n < 7 → firstFrom f 7 (7 - n) n ≡ r → f n ≡ true → n ≡ r
   first-at n r h e t = sym (first-next n h ∙ rw t refl) ∙ e
 
+  -- a search goes on to the next step where the test does not pass
   pub first-on : (n r : ℕ) → n < 7 → firstFrom f 7 (7 - n) n ≡ r → f n ≡ false → firstFrom f 7 (7 - (n + 1)) (n + 1) ≡ r
   first-on n r h e t = sym (first-next n h ∙ rw t refl) ∙ e
 
+  -- a search that comes to the seventh step gives 7
   pub first-end : (n r : ℕ) → 7 ≤ n → firstFrom f 7 (7 - n) n ≡ r → 7 ≡ r
   unfolding firstFrom
   first-end n r h e =
       let z : 7 - n ≡ 0 = omega arith in
       rw z at e
 
+  -- a search whose test passes at no further step gives 7
   pub first-none : (m k r : ℕ) → ((j : ℕ) → k ≤ j → f j ≡ false) → firstFrom f 7 m k ≡ r → 7 ≡ r
   unfolding firstFrom
   first-none zero k r none e = e
@@ -111,14 +116,17 @@ module _ (f : ℕ → Bool) where
 abbrev pub backTest : Calendar → ℕ → ℕ → Bool
 backTest cal day n = leb n day && tradingDay cal (day - n)
 
+-- the test of the search after a day: so many days after it is a trading day
 abbrev pub onTest : Calendar → ℕ → ℕ → Bool
 onTest cal day n = tradingDay cal (day + n)
 
 -- a search on its way
 pub record Searching (f : ℕ → Bool) (n r : ℕ) : Type 0 where
+  -- the search from this step on gives this result
   pub is : firstFrom f 7 (7 - n) n ≡ r
 
 module _ (cal : Calendar) (day : ℕ) where
+  -- the search before a day starts at one day and gives the steps back
   pub back-starts : Searching (backTest cal day) 1 (stepsBack cal day)
   unfolding stepsBack
   back-starts = record { is = refl }
@@ -131,6 +139,7 @@ module _ (cal : Calendar) (day : ℕ) where
   unfolding stepsBack
   back-most = first-most (backTest cal day) 6 1 (omega arith)
 
+  -- from day 36525 on the search after a day gives 7
   pub on-late : 36525 ≤ day → 7 ≡ stepsOn cal day
   unfolding stepsOn
   on-late h = rw (le-leb 36525 day h) refl
@@ -139,6 +148,7 @@ module _ (cal : Calendar) (day : ℕ) where
   unfolding stepsOn
   on-is h = rw (lt-leb 36525 day h) refl
 
+  -- the search after a day below 36525 starts at one day and gives the steps on
   pub on-starts : day < 36525 → Searching (onTest cal day) 1 (stepsOn cal day)
   on-starts h = record { is = on-is h }
 
@@ -150,6 +160,7 @@ module _ (cal : Calendar) (day : ℕ) where
       go true = omega arith
       go false = first-most (onTest cal day) 6 1 (omega arith)
 
+  -- the steps back and the steps on are together at most 14
   pub both-most : (back on : ℕ) → back ≡ stepsBack cal day → on ≡ stepsOn cal day → back + on ≤ 14
   both-most back on b o = omega (arith, back-most, on-most)
 
@@ -178,6 +189,7 @@ module _ (cal : Calendar) (day : ℕ) where
       go true = omega arith
       go false = first-least (onTest cal day) 6 1 (omega arith)
 
+  -- a day closed between two trading days at most seven days apart leaves every seven days a trading day
   pub around-of : tradesAround cal day ≡ true → everyWeek cal ≡ true → everyWeek (closeDay cal day) ≡ true
   unfolding tradesAround
   around-of a w =
@@ -197,11 +209,14 @@ pub around-in : (cal : Calendar) (day : ℕ) (b : Bool) → b ≡ tradesAround (
 around-in cal day b e t w = sym (around-of cal day (sym (trades-second cal [] day) ∙ sym e ∙ t) w)
 
 module _ (f : ℕ → Bool) (n r : ℕ) (h : n < 7) (s : Searching f n r) where
+  -- the result is the step where the test passes
   pub search-at : f n ≡ true → n ≡ r
   search-at t = first-at f n r h (s .is) t
 
+  -- a search whose test does not pass at a step continues at the next step with the same result
   pub search-on : f n ≡ false → Searching f (n + 1) r
   search-on t = record { is = first-on f n r h (s .is) t }
 
+-- a search that has come to the seventh step has the result 7
 pub search-end : (f : ℕ → Bool) (n r : ℕ) → 7 ≤ n → Searching f n r → 7 ≡ r
 search-end f n r h s = first-end f n r h (s .is)

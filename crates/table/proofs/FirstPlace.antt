@@ -1,7 +1,7 @@
 -- The first place of a table that holds the fresh listing holds the front.
 -- Assumes nothing.
 use mathlib.Core.Path.{_≡_, refl, _∙_, ap}
-use mathlib.Core.Bool.{Bool, true, _||_}
+use mathlib.Core.Bool.{true, _||_}
 use mathlib.Core.List.{List, [], _∷_, map}
 use Prim.Native.Nat.{ℕ, _-_, _≤_}
 use native.Mathlib.Omega.{arith}
@@ -18,7 +18,7 @@ use Rattle.listing.specs.Months.{placesOfKind, countedFor, coverRule, ruleOf, f
 use Rattle.listing.proofs.Fresh.{places-least}
 use Rattle.listing.proofs.Lawful.{fresh-first}
 use Rattle.listing.proofs.OfKinds.{rule-lawful}
-use Rattle.places.specs.Numbering.{sameMaturity, placeRight}
+use Rattle.table_numbering.specs.Numbering.{sameMaturity, placeRight}
 use Rattle.table.specs.declared.Table.{Table}
 use Rattle.table.specs.Table.{listsFresh}
 

@@ -11,17 +11,17 @@ use Rattle.questions.specs.Questions.{Ask, firstNo, Answer}
 use Rattle.calendar.specs.declared.Calendar.{Calendar}
 use Rattle.listing.specs.Months.{placesOfKind, allInCover}
 use Rattle.listing.proofs.Fresh.{fresh-listed}
-use Rattle.years.specs.Calendars.{calendarOf}
-use Rattle.master.specs.Load.{loadAsks, judgeCall, productOf}
-use Rattle.master.specs.Halves.{productByHalves}
-use Rattle.master.proofs.Halving.{halves-product}
-use Rattle.opening.specs.declared.Opening.{Opening}
-use Rattle.opening.specs.Opening.{openAsks, asksIn, openingIn}
-use Rattle.opening.proofs.Opened.{OpenedFrom, opened-from, OpenedIn, opened-in, verdict-no, verdict-yes}
+use Rattle.file_calendar.specs.Calendars.{calendarOf}
+use Rattle.file_load.specs.Load.{loadAsks, judgeCall, productOf}
+use Rattle.file_load.specs.Halves.{productByHalves}
+use Rattle.file_load.proofs.Halving.{halves-product}
+use Rattle.table_opening.specs.declared.Opening.{Opening}
+use Rattle.table_opening.specs.Opening.{openAsks, asksIn, openingIn}
+use Rattle.table_opening.proofs.Opened.{OpenedFrom, opened-from, OpenedIn, opened-in, verdict-no, verdict-yes}
 use Rattle.table.specs.declared.Table.{Table}
 use Rattle.table.specs.declared.Outcome.{Outcome}
 use Rattle.table.specs.Table.{refusedWith, answered, zeroTable, openedWith, openedTable, openCall, openIn}
-use Rattle.table.proofs.Calls.{answered-no, answered-yes}
+use Rattle.table.proofs.TableQuestions.{answered-no, answered-yes}
 
 -- an accepted call has no question answered no
 pub refusal-is : (t : Table) (asks : List Ask) (o : Outcome) → answered t asks o .refusal ≡ 0 → firstNo asks ≡ 0
@@ -37,6 +37,7 @@ module _ (verdict : Answer Calendar) (f id : List ℕ) (date : ℕ) where
   in-whole q = opened-in verdict f id date q .whole
 
   module _ (o : Opening) (is : o ≡ openingIn verdict f id date) where
+    -- a refused opening gives the zero table with its refusal
     pub in-refused : (o .refusal ≡ 0 → ⊥) → refusedWith zeroTable (o .refusal) ≡ openIn verdict f id date
     unfolding openIn openingIn
     in-refused h = go (firstNo (asksIn verdict f id date)) refl
@@ -47,6 +48,7 @@ module _ (verdict : Answer Calendar) (f id : List ℕ) (date : ℕ) where
             let r : o .refusal ≡ suc n = ap (λ (x : Opening). x .refusal) is ∙ rw (q, eqb·suc-zero n) in
             rw r (sym (answered-no zeroTable (asksIn verdict f id date) _ n q))
 
+    -- an accepted opening gives the table opened with its product, its calendar and as many fresh maturities as the kind has places
     pub in-accepted : o .refusal ≡ 0 → openedWith (o .product) (o .calendar) date (take (placesOfKind (o .product .kind)) (o .fresh)) ≡ openIn verdict f id date
     unfolding openIn openingIn
     in-accepted h = go (firstNo (asksIn verdict f id date)) refl
@@ -81,6 +83,7 @@ pub accepted-in : (verdict : Answer Calendar) (f id : List ℕ) (date : ℕ) →
 unfolding openIn
 accepted-in verdict f id date e = opened-in verdict f id date (refusal-is zeroTable (asksIn verdict f id date) _ e)
 
+-- the table of an accepted open by a verdict is the opened table of the product found by halves, the calendar and the date
 pub opened-table-in : (verdict : Answer Calendar) (f id : List ℕ) (date : ℕ) → openIn verdict f id date .refusal ≡ 0 → openIn verdict f id date .table ≡ openedTable (productByHalves f id) (verdict .value) date
 unfolding openIn openedTable
 opened-table-in verdict f id date e = ap (λ (x : Outcome). x .table) (answered-yes zeroTable (asksIn verdict f id date) _ (refusal-is zeroTable (asksIn verdict f id date) _ e))

@@ -15,17 +15,15 @@ use Rattle.questions.specs.Search.{firstFrom}
 use Rattle.questions.proofs.Bools.{both, or-left, or-right, lt-or-ge}
 use Rattle.questions.proofs.Search.{every-at, search-none}
 use Rattle.calendar.specs.declared.Calendar.{Calendar}
-use Rattle.product.specs.declared.Kind.{Kind}
 use Rattle.listing.specs.declared.Maturity.{Maturity}
 use Rattle.listing.specs.Rules.{Rule, front, nextOf, taken, freshKeys, complete, maturity, unused, places15}
 use Rattle.listing.specs.Months.{placesOfKind, coverRule, ruleOf, freshOf, allInCover}
 use Rattle.listing.proofs.Fresh.{places-most}
-use Rattle.places.specs.Numbering.{isListed, numberOf, missing, withNumber, unnumbered, renumbered, placeRight}
-use Rattle.places.proofs.Unique.{same-maturity}
+use Rattle.table_numbering.specs.Numbering.{isListed, numberOf, missing, withNumber, unnumbered, renumbered, placeRight}
+use Rattle.table_numbering.proofs.Unique.{same-maturity}
 use Rattle.table.specs.declared.Table.{Table}
-use Rattle.table.specs.declared.Outcome.{Outcome}
 use Rattle.table.specs.Table.{listedIn, listsFresh, sound, moved, refusedWith, keptIn}
-use Rattle.table.proofs.Calls.{Sound, sound-parts}
+use Rattle.table.proofs.TableQuestions.{sound-parts}
 use Rattle.table.proofs.FirstPlace.{first-front}
 
 -- a list of keys rises from k on
@@ -80,11 +78,13 @@ known-all [] k r = refl
 known-all (m ∷ ms) k r =
     (or-left (isListed ms (m .key)) (eq-eqb (m .key) (m .key) refl), rw (eq-eqb (m .key) (m .key) refl), known-more m ms ms (suc (m .key)) (omega arith) (r .1) (known-all ms (suc (m .key)) (r .1)))
 
+-- known maturities, without their numbers and then renumbered, have their numbers again
 pub known-numbers : (old ms : List Maturity) (given : ℕ) → Known old ms → renumbered old given (map blank ms) ≡ ms
 unfolding renumbered
 known-numbers old [] given h = refl
 known-numbers old (m ∷ ms) given h = rw (h .0, h .1) (ap (λ (l : List Maturity). m ∷ l) (known-numbers old ms given (h .2)))
 
+-- no known maturity, without its number, is missing in the old listing
 pub none-missing : (old ms : List Maturity) → Known old ms → missing (map blank ms) old ≡ []
 unfolding missing
 none-missing old [] h = refl
@@ -95,6 +95,7 @@ unfolding isListed
 blank-listed [] x = refl
 blank-listed (m ∷ ms) x = ap (λ (b : Bool). eqb (m .key) x || b) (blank-listed ms x)
 
+-- no known maturity is missing in the old listing without its numbers
 pub none-left : (old ms : List Maturity) → Known old ms → missing ms (map blank old) ≡ []
 unfolding missing
 none-left old [] h = refl
@@ -121,6 +122,7 @@ module _ (t : Table) (s : sound t ≡ true) (len : length (t .maturities) ≡ 15
   abbrev fresh : List Maturity
   fresh = freshOf (t .calendar) (t .product .kind) (t .product .group) (t .date)
 
+  -- the fresh listing of a sound table has as many maturities as its kind has places
   pub fresh-long : length fresh ≡ n
   unfolding complete coverRule
   fresh-long = length-map (freshKeys (ruleOf (t .calendar) (t .product .kind) (t .product .group)) (t .calendar) (t .date)) _ ∙ eqb-true _ _ (sound-parts t s .whole)
@@ -134,11 +136,16 @@ module _ (t : Table) (s : sound t ≡ true) (len : length (t .maturities) ≡ 15
 
   -- the place's parts
   pub record Place (i : ℕ) : Type 0 where
+    -- the place holds the key of the fresh listing's place
     pub key : getD (t .maturities) i unused .key ≡ getD (places15 fresh) i unused .key
+    -- the place holds the last day of the fresh listing's place
     pub day : getD (t .maturities) i unused .day ≡ getD (places15 fresh) i unused .day
+    -- the place holds the days stepped back of the fresh listing's place
     pub back : getD (t .maturities) i unused .back ≡ getD (places15 fresh) i unused .back
+    -- an unused place has number 0
     pub zero-number : n ≤ i → getD (t .maturities) i unused .number ≡ 0
 
+  -- each of the fifteen places of a sound table holds the key, day and days stepped back of the fresh listing
   pub place : (i : ℕ) → i < 15 → Place i
   place i h =
       let m = getD (t .maturities) i unused in
@@ -148,6 +155,7 @@ module _ (t : Table) (s : sound t ≡ true) (len : length (t .maturities) ≡ 15
       let (d, g) = both (eqb (m .day) (f .day)) (eqb (m .back) (f .back)) e in
       record { key = eqb-true _ _ c; day = eqb-true _ _ d; back = eqb-true _ _ g; zero-number = λ l. eqb-true _ _ (rw (le-ltb i n l) at b) }
 
+  -- the used places of the fresh listing hold its maturities
   pub in-places : (i : ℕ) → i < n → getD (places15 fresh) i unused ≡ getD fresh i unused
   unfolding places15
   in-places i h = List·getD-append fresh (replicate (15 - length fresh) unused) unused i (omega (arith, fresh-long))
@@ -180,6 +188,7 @@ module _ (t : Table) (s : sound t ≡ true) (len : length (t .maturities) ≡ 15
       (List·getD-map blank (listedIn t) i unused ∙ ap blank q ∙
       same-maturity (blank (getD (t .maturities) i unused)) (getD fresh i unused) (p .key ∙ ap (λ (m : Maturity). m .key) (in-places i l)) (p .day ∙ ap (λ (m : Maturity). m .day) (in-places i l)) (p .back ∙ ap (λ (m : Maturity). m .back) (in-places i l)) (sym (fresh-number i))))
 
+  -- the fresh listing of a sound table is what the table lists, without the numbers
   pub listed-fresh : freshOf (t .calendar) (t .product .kind) (t .product .group) (t .date) ≡ unnumbered (listedIn t)
   listed-fresh = blank-is
 
@@ -207,6 +216,7 @@ module _ (t : Table) (s : sound t ≡ true) (len : length (t .maturities) ≡ 15
   abbrev rule : Rule
   rule = ruleOf (t .calendar) (t .product .kind) (t .product .group)
 
+  -- each maturity that a sound table lists is found in its listing with its number
   pub known : Known (listedIn t) (listedIn t)
   unfolding freshKeys
   known =
@@ -217,6 +227,7 @@ module _ (t : Table) (s : sound t ≡ true) (len : length (t .maturities) ≡ 15
   unfolding freshKeys
   same-keys date e = ap (taken (rule .beyond) (rule .places)) (sym e)
 
+  -- a roll to a date whose front is the key in the first place is accepted and keeps the listing
   pub stays : (date : ℕ) → eqb (getD (t .maturities) 0 unused .key) (front rule (t .calendar) date) ≡ true → cond (allInCover (t .calendar) (t .product .kind) (t .product .group) date) (moved t (t .calendar) date) (refusedWith t 16) ≡ keptIn t (t .calendar) date
   unfolding moved complete
   stays date e =

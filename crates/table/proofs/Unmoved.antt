@@ -22,31 +22,36 @@ use Rattle.listing.proofs.Fresh.{places-least, places-most}
 use Rattle.listing.proofs.Lawful.{fresh-first}
 use Rattle.listing.proofs.OfKinds.{rule-lawful}
 use Rattle.table.specs.declared.Table.{Table}
-use Rattle.table.specs.declared.Outcome.{Outcome}
 use Rattle.table.specs.Table.{listedIn, sound, movedTo, moved, refusedWith, keptIn, noneEndsOn}
-use Rattle.table.proofs.Calls.{Sound, sound-parts}
+use Rattle.table.proofs.TableQuestions.{sound-parts}
 use Rattle.table.proofs.Staying.{fresh-long, place, in-places, blank-is, places-are, known, none-missing, none-left, known-numbers}
 use lib.ListN.{length-map}
 
 -- none of the places before one ends on a day
 pub record NoneEnds (ms : List Maturity) (d i : ℕ) : Type 0 where
+  -- none of the first places has the day as its last day
   pub none : every i (λ i. not (eqb (getD ms i unused .day) d)) ≡ true
 
 module _ (ms : List Maturity) (d : ℕ) where
+  -- before the first place none ends on the day
   pub none-begins : NoneEnds ms d 0
   none-begins = record { none = every-none (λ i. not (eqb (getD ms i unused .day) d)) }
 
+  -- a place that does not end on the day is added to those that do not
   pub none-more : (i : ℕ) → NoneEnds ms d i → (getD ms i unused .day ≡ d → ⊥) → NoneEnds ms d (i + 1)
   none-more i v n = record { none = every-more (λ i. not (eqb (getD ms i unused .day) d)) i (v .none) (rw (ne-eqb (getD ms i unused .day) d n) refl) }
 
+  -- where a place ends on the day, it is not so that none ends on it
   pub none-found : (i : ℕ) → i < 15 → getD ms i unused .day ≡ d → false ≡ noneEndsOn ms d
   unfolding noneEndsOn
   none-found i h e = sym (every-not (λ i. not (eqb (getD ms i unused .day) d)) 15 i (rw (eq-eqb (getD ms i unused .day) d e) refl) h)
 
+  -- where none of fifteen places ends on the day, none ends on it
   pub none-all : (i : ℕ) → i ≡ 15 → NoneEnds ms d i → true ≡ noneEndsOn ms d
   unfolding noneEndsOn
   none-all i e v = sym (rw e at (v .none))
 
+  -- where none ends on the day, each place has another last day
   pub none-of : noneEndsOn ms d ≡ true → (i : ℕ) → i < 15 → getD ms i unused .day ≡ d → ⊥
   unfolding noneEndsOn
   none-of e i h = eqb-false (getD ms i unused .day) d (not-true (eqb (getD ms i unused .day) d) (every-at (λ i. not (eqb (getD ms i unused .day) d)) 15 i e h))
@@ -139,6 +144,7 @@ module _ (t : Table) (s : sound t ≡ true) (len : length (t .maturities) ≡ 15
       rw (e, keys-same, fresh-same, sound-parts t s .whole)
       (rw (blank-is t s len, none-missing (listedIn t) (listedIn t) (known t s len), none-left (listedIn t) (listedIn t) (known t s len), known-numbers (listedIn t) (listedIn t) (t .given) (known t s len), places-are t s len, add-zero (t .given)))
 
+  -- a calendar that changes only last days on a later day on which no listed maturity ends is accepted and keeps the listing
   pub unmoved : cond (allInCover cal (t .product .kind) (t .product .group) (t .date)) (moved t cal (t .date)) (refusedWith t 16) ≡ keptIn t cal (t .date)
   unfolding moved
   unmoved = as-kept (ruleOf cal (t .product .kind) (t .product .group)) (ap (λ (c : Cover). coverRule c (t .product .kind) (t .product .group)) cover)

@@ -10,23 +10,24 @@ use Rattle.questions.specs.Search.{every, firstFrom}
 use Rattle.calendar.specs.declared.Calendar.{Calendar}
 use Rattle.calendar.specs.Trading.{zeroCalendar, validCover, inCover, tradingDay, clean, everyWeek, closeDay, reopenDay, closedWeekday}
 use Rattle.product.specs.declared.Product.{Product}
-use Rattle.product.specs.Fields.{productRight}
+use Rattle.product.specs.Fields.{productRight, zeroProduct}
 use Rattle.listing.specs.declared.Maturity.{Maturity}
 use Rattle.listing.specs.Rules.{keysBefore, frontStays, unused, places15}
 use Rattle.listing.specs.Months.{placesOfKind, ruleOf, freshOf, allInCover, weekIntoCover}
-use Rattle.years.specs.Calendars.{calendarOf}
-use Rattle.master.specs.Load.{productOf}
-use Rattle.master.specs.Halves.{productByHalves}
-use Rattle.opening.specs.Opening.{zeroProduct, openAsks, asksIn}
+use Rattle.file_calendar.specs.Calendars.{calendarOf}
+use Rattle.file_load.specs.Load.{productOf}
+use Rattle.file_load.specs.Halves.{productByHalves}
+use Rattle.table_opening.specs.Opening.{openAsks, asksIn}
 use Rattle.table.specs.declared.Table.{Table}
 use Rattle.table.specs.declared.Outcome.{Outcome}
-use Rattle.places.specs.Numbering.{missing, renumbered, numberedFresh, placeRight, numbersRight}
+use Rattle.table_numbering.specs.Numbering.{missing, renumbered, numberedFresh, placeRight, numbersRight}
 
 -- the maturities in the places that are used
 abbrev pub listedIn : Table → List Maturity
 listedIn t = take (placesOfKind (t .product .kind)) (t .maturities)
 
--- 'its months and days are the fresh listing .., and unused places are zero', of all fifteen places; so are the days stepped back (02, note 2)
+-- 'its months and days are the fresh listing .., and unused places are zero',
+-- of all fifteen places; so are the days stepped back (02, note 2)
 unfoldable pub listsFresh : Table → Bool
 listsFresh t =
     every 15
@@ -40,7 +41,8 @@ listingSound t =
     && (listsFresh t
     -- 'its numbers are distinct, from 1 to the count given'
     && (numbersRight (t .maturities) (placesOfKind (t .product .kind)) (t .given)
-    -- 'given − listed is at least 0 and at most the number of cover months before the front month'; 'the cover's weekly Fridays before the front one take the place of cover months' (02, note 3)
+    -- 'given − listed is at least 0 and at most the number of cover months before the front month';
+    -- 'the cover's weekly Fridays before the front one take the place of cover months' (02, note 3)
     && (leb (placesOfKind (t .product .kind)) (t .given)
     && leb (t .given - placesOfKind (t .product .kind)) (keysBefore (ruleOf (t .calendar) (t .product .kind) (t .product .group)) (t .calendar) (t .date)))))
 
@@ -57,11 +59,14 @@ sound t =
     -- 'and the date passes 24' (02, note 3)
     && (weekIntoCover (t .product .kind) (t .calendar .cover) (t .date) && listingSound t)))))
 
--- of 10, what is said of the calendar: 'satisfy questions 5, 6 .., with 1 to 16 years from 2000 to 2099'
+-- 'satisfy questions 5, 6 .., with 1 to 16 years from 2000 to 2099':
+-- of 10, what is said of the calendar
 abbrev pub calendarSound : Calendar → Bool
 calendarSound cal = validCover (cal .cover) && (clean cal && everyWeek cal)
 
--- what an accepted roll, close or reopening gives back, for a fresh listing: 'Both then hold the fresh listing; a month that was there keeps its number, and months that enter take the next numbers by rising month. A month left if the old table had it and the new has not'
+-- 'Both then hold the fresh listing; a month that was there keeps its number, and months that enter take the next numbers by rising month.
+-- A month left if the old table had it and the new has not':
+-- what an accepted roll, close or reopening gives back, for a fresh listing
 abbrev pub movedTo : Table → Calendar → ℕ → List Maturity → Outcome
 movedTo t cal date fresh =
     record {

@@ -1,17 +1,17 @@
 // The table of listed maturities of one product, and the calls on it.
 use calendar::Calendar;
 use calendar::Cover;
+use file_calendar::FileCalendar;
 use listing::Maturity;
 use product::Product;
-use years::FileCalendar;
 ghost use mathlib.Core.Path.{_≡_};
 ghost use mathlib.Core.Bool.{true, _&&_, cond};
 ghost use Prim.Native.Nat.{_≤_};
 ghost use lib.ListN.{length, getD, take};
-ghost use Rattle.places.specs.Numbering.{isListed};
+ghost use Rattle.table_numbering.specs.Numbering.{isListed};
 ghost use lib.Dec.{eqb};
 ghost use Rattle.calendar.specs.Trading.{calendarWith, everyWeek, closeDay};
-ghost use Rattle.years.specs.Calendars.{calendarAnswer};
+ghost use Rattle.file_calendar.specs.Calendars.{calendarAnswer};
 ghost use Rattle.listing.specs.Rules.{front, unused};
 ghost use Rattle.listing.specs.Months.{placesOfKind, ruleOf, allInCover};
 ghost use Rattle.table.specs.Table.{listedIn, listsFresh, listingSound, sound, calendarSound, movedTo, moved, keptIn, refusedWith, zeroTable, openedWith, openCall, openIn, rollCall, closeCall, reopenCall, stepsBack, stepsOn, tradesAround, noneEndsOn};
@@ -46,7 +46,7 @@ fn is_fresh(t: Table) -> bool
         return false;
     }
     let fresh = l.maturities;
-    places::are_places_right(maturities, fresh, kind)
+    table_numbering::are_places_right(maturities, fresh, kind)
 }
 
 // What question 10 says of the maturities.
@@ -59,7 +59,7 @@ fn is_listing_sound(t: Table) -> bool
     let p = t.product;
     let kind = p.kind;
     let maturities = t.maturities;
-    if !places::are_numbers_right(maturities, kind, t.given) {
+    if !table_numbering::are_numbers_right(maturities, kind, t.given) {
         return false;
     }
     let n = listing::places_of_kind(kind);
@@ -80,10 +80,10 @@ pub fn is_sound(t: Table) -> bool
     if !calendar::is_valid_cover(t.calendar.cover) {
         return false;
     }
-    if !calendar_questions::is_clean(t.calendar) {
+    if !calendar_checks::is_clean(t.calendar) {
         return false;
     }
-    if !calendar_questions::every_week_trades(t.calendar) {
+    if !calendar_checks::every_week_trades(t.calendar) {
         return false;
     }
     if !calendar::in_cover(t.calendar.cover, t.date) {
@@ -104,10 +104,10 @@ pub fn is_calendar_sound(cal: Calendar) -> bool
     if !calendar::is_valid_cover(cal.cover) {
         return false;
     }
-    if !calendar_questions::is_clean(cal) {
+    if !calendar_checks::is_clean(cal) {
         return false;
     }
-    calendar_questions::every_week_trades(cal)
+    calendar_checks::every_week_trades(cal)
 }
 
 // Whether a key is listed in the places that are used.
@@ -117,7 +117,7 @@ pub fn is_listed(t: Table, key: u16) -> bool
     let p = t.product;
     let kind = p.kind;
     let maturities = t.maturities;
-    places::is_listed(maturities, kind, key)
+    table_numbering::is_listed(maturities, kind, key)
 }
 
 // The same table with the number of a question and counts 0 and 0.
@@ -136,7 +136,7 @@ pub fn refused(t: Table, number: u8) -> Outcome
 pub fn zero_table() -> Table
     ensures { λ r. ⌜ r ≡ zeroTable ⌝ }
 {
-    let product = opening::zero_product();
+    let product = product::zero_product();
     let calendar = calendar::zero_calendar();
     let maturities = listing::unused_places();
     Table {
@@ -154,7 +154,7 @@ fn opened_with(product: Product, calendar: Calendar, date: u16, fresh: [Maturity
 {
     let kind = product.kind;
     let n = listing::places_of_kind(kind);
-    let maturities = places::number_opened(fresh, kind);
+    let maturities = table_numbering::number_opened(fresh, kind);
     let table = Table {
         product,
         calendar,
@@ -178,9 +178,9 @@ fn moved_to(t: Table, cal: Calendar, date: u16, fresh: [Maturity; 15]) -> Outcom
     let p = t.product;
     let kind = p.kind;
     let old = t.maturities;
-    let entered = places::count_missing(fresh, old, kind);
-    let left = places::count_missing(old, fresh, kind);
-    let maturities = places::renumber(old, fresh, kind, t.given);
+    let entered = table_numbering::count_missing(fresh, old, kind);
+    let left = table_numbering::count_missing(old, fresh, kind);
+    let maturities = table_numbering::renumber(old, fresh, kind, t.given);
     let moved = Table {
         product: p,
         calendar: cal,
@@ -196,7 +196,8 @@ fn moved_to(t: Table, cal: Calendar, date: u16, fresh: [Maturity; 15]) -> Outcom
     }
 }
 
-// 'Both then hold the fresh listing', of the calendar and date that a call leaves, where it is complete (16).
+// 'Both then hold the fresh listing',
+// of the calendar and date that a call leaves, where it is complete (16).
 fn relisted(t: Table, cal: Calendar, date: u16) -> Outcome
     requires { ⌜ t .given ≤ 60000 ⌝ }
     ensures { λ r. ⌜ r ≡ cond (allInCover cal (t .product .kind) (t .product .group) date) (moved t cal date) (refusedWith t 16) ⌝ }
@@ -295,7 +296,8 @@ fn steps_on(cover: Cover, closed: &[u8], day: u16) -> u16
     7
 }
 
-// A quick look at the days around a day, by the cover and the lent maps: yes where the trading days on its two sides lie at most seven days apart, so that every seven days with the day in them hold one of the two.
+// A quick look at the days around a day, by the cover and the lent maps:
+// yes where the trading days on its two sides lie at most seven days apart, so that every seven days with the day in them hold one of the two.
 pub fn trades_around(cover: Cover, closed: &[u8], day: u16) -> bool
     ensures { λ r. ⌜ r ≡ tradesAround (calendarWith cover (now (closed .entry))) day ⌝ }
 {
@@ -312,14 +314,14 @@ fn keeps_weeks(cal: Calendar, day: u16) -> bool
     if trades_around(cover, &cal.closed, day) {
         return true;
     }
-    calendar_questions::trades_with_closed(cal, day)
+    calendar_checks::trades_with_closed(cal, day)
 }
 
 // The table of the product with an id, on a date. The file's verdict by `judge` is at hand, so questions 1 to 8 are not asked again.
 pub fn open_in(file: &[u8], judged: FileCalendar, id: [u8; 4], date: u16) -> Outcome
     ensures { λ r. ⌜ r ≡ openIn (calendarAnswer judged) (now (file .entry)) id date ⌝ }
 {
-    let o = opening::opening_in(file, judged, id, date);
+    let o = table_opening::opening_in(file, judged, id, date);
     let refusal = o.refusal;
     if refusal != 0 {
         return refused(zero_table(), refusal);
@@ -335,7 +337,7 @@ impl Table {
     pub fn open(self, file: &[u8], id: [u8; 4], date: u16) -> Outcome
         ensures { λ r. ⌜ r ≡ openCall (now (file .entry)) id date ⌝ }
     {
-        let judged = master::judge(file);
+        let judged = file_load::judge(file);
         open_in(file, judged, id, date)
     }
 

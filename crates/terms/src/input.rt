@@ -9,7 +9,8 @@ pub(crate) fn read_part(part: &mut [u8]) -> usize
     read.length
 }
 
-// The bytes of master.bin at the start of file, and how many there are. A file that cannot be read counts as empty. One that fills the buffer has more than 65,536 bytes, which question 1 refuses.
+// The bytes of master.bin at the start of file, and how many there are. A file that cannot be read counts as empty.
+// One that fills the buffer has more than 65,536 bytes, which question 1 refuses.
 pub(crate) fn read_master(file: &mut [u8]) -> usize
     ensures { λ r. ⌜ Counts r (now (file .exit)) ⌝ }
 {

@@ -2,20 +2,20 @@
 mod input;
 mod output;
 
-use command::Kept;
-use lines::Line;
+use file_calendar::FileCalendar;
 use output::SentText;
-use sessions::Progress;
-use years::FileCalendar;
+use session_command::Kept;
+use session_lines::Line;
+use session_parts::TermsProgress;
 ghost use mathlib.Core.Path.{_≡_};
 ghost use mathlib.Core.Bool.{true};
 ghost use mathlib.Core.List.{[]};
 ghost use Prim.Native.Nat.{_≤_};
 ghost use lib.ListN.{length};
-ghost use Rattle.years.specs.Calendars.{calendarAnswer};
+ghost use Rattle.file_calendar.specs.Calendars.{calendarAnswer};
 ghost use Rattle.table.specs.Table.{openCall, openIn};
-ghost use Rattle.command.specs.Sessions.{restText};
-ghost use Rattle.sessions.specs.Parts.{counted, Handed, Ran};
+ghost use Rattle.session_command.specs.Sessions.{restText};
+ghost use Rattle.session_parts.specs.TermsParts.{counted, Handed, Ran};
 
 // What is kept from one part of the input to the next: the table, the line so far, and what has been sent of the text.
 pub struct Carried {
@@ -32,14 +32,14 @@ fn write_part(file: &[u8], judged: FileCalendar, k: Carried, part: &[u8], out: &
     let kept = k.kept;
     let line = k.line;
     let mut text = k.text;
-    let mut s = Progress {
+    let mut s = TermsProgress {
         kept,
         line,
         at: 0,
         length: 0,
     };
     while s.at < part.len() {
-        let p = sessions::answer_part(file, judged, s.kept, s.line, part, s.at, out);
+        let p = session_parts::answer_part(file, judged, s.kept, s.line, part, s.at, out);
         text = output::write_out(text, file, judged, part, s, p, out);
         s = p;
         if !output::is_open(text) {
@@ -62,14 +62,14 @@ fn write_last(file: &[u8], judged: FileCalendar, k: Carried, out: &mut [u8]) -> 
 {
     let kept = k.kept;
     let line = k.line;
-    let n = sessions::answer_last(file, judged, kept, line, out);
-    let from = Progress {
+    let n = session_parts::answer_last(file, judged, kept, line, out);
+    let from = TermsProgress {
         kept,
         line,
         at: 0,
         length: 0,
     };
-    let to = Progress {
+    let to = TermsProgress {
         kept,
         line,
         at: 0,
@@ -78,15 +78,16 @@ fn write_last(file: &[u8], judged: FileCalendar, k: Carried, out: &mut [u8]) -> 
     output::write_out(k.text, file, judged, file, from, to, out)
 }
 
-// Judges the file once, and reads the input part by part. What is answered is written before the next read. A read that fails ends the input. The loop has to be shown to end, so after 2^64 - 1 reads the input counts as ended.
+// Judges the file once, and reads the input part by part. What is answered is written before the next read. A read that fails ends the input.
+// The loop has to be shown to end, so after 2^64 - 1 reads the input counts as ended.
 fn run(file: &[u8]) -> SentText
     ensures { λ r. ⌜ (r .sent .open ≡ true → Ran (openCall (now (file .entry))) (r .sent .bytes)) ⌝ }
 {
-    let judged = master::judge(file);
+    let judged = file_load::judge(file);
     let mut part = io::large_buffer();
     let mut out = io::large_buffer();
-    let kept = command::nothing_kept();
-    let line = lines::empty_line();
+    let kept = session_command::nothing_kept();
+    let line = session_lines::empty_line();
     let text = output::no_text();
     let mut k = Carried { kept, line, text };
     let mut turns: u64 = 18446744073709551615;

@@ -1,16 +1,17 @@
 // Writing the session's text to standard output.
-use sessions::Progress;
+use file_calendar::FileCalendar;
+use session_parts::TermsProgress;
 use streams::Sent;
-use years::FileCalendar;
 ghost use mathlib.Core.Path.{_≡_};
 ghost use mathlib.Core.Bool.{true};
 ghost use Prim.Native.Nat.{_≤_};
 ghost use lib.ListN.{length, take};
-ghost use Rattle.years.specs.Calendars.{calendarAnswer};
+ghost use Rattle.file_calendar.specs.Calendars.{calendarAnswer};
 ghost use Rattle.table.specs.Table.{openIn};
-ghost use Rattle.sessions.specs.Parts.{counted, ComesNext};
+ghost use Rattle.session_parts.specs.TermsParts.{counted, ComesNext};
 
-// What standard output has taken of the session's text. Its field is private: only this file makes one, so its count grew by what write_out was shown to come next.
+// What standard output has taken of the session's text.
+// Its field is private: only this file makes one, so its count grew by what write_out was shown to come next.
 pub struct SentText {
     sent: Sent,
 }
@@ -36,8 +37,8 @@ pub(crate) fn write_out(
     file: &[u8],
     judged: FileCalendar,
     part: &[u8],
-    from: Progress,
-    to: Progress,
+    from: TermsProgress,
+    to: TermsProgress,
     out: &[u8],
 ) -> SentText
     requires { ⌜ (to .length ≤ length (now out)) × ComesNext (openIn (calendarAnswer judged) (now file)) (now part) from to (take (to .length) (now out)) ⌝ }

@@ -1,3 +1,4 @@
+-- How far two prices are apart: the larger less the smaller. Each `return` computes the definition's case from its test.
 use Rattle.amounts.specs.Prices.{distance}
 use native.Mathlib.Omega.{arith}
 use borrow.Author.Tests.{lt-ltb, le-ltb}

@@ -1,3 +1,5 @@
+-- Cash: sign, amount and rest; zeros for numbers that are not admitted. `in-bounds`: admitted numbers are so small that each product fits 64 bits
+-- (`change-most`, `parts-most`, `whole-most`). `cash-is`: shares and ten-thousandths taken apart give the parts of the whole product.
 use native.Mathlib.Omega.{arith}
 use borrow.Author.Needs.{needs}
 use Rattle.questions.proofs.Bools.{said-no, said-yes}
@@ -6,19 +8,15 @@ use Rattle.amounts.proofs.CashParts.{Bounds, bounds, change-most, whole
 use Rattle.amounts.proofs.cash.Statement.{statement}
 use Rattle.amounts.proofs.cash.Tie as tie
 
-cash-admitted-requires : tie.Need-cash-admitted-requires
-cash-admitted-requires c κs = tt
-
+-- ---- numbers that are not admitted
 returns : tie.Need-returns
 unfolding cashOf
 returns c = rw (said-no (c .before .cash-admitted .ensures) (c .if1 .taken))
 
-apart-requires : tie.Need-apart-requires
-apart-requires c κs = tt
-
 cast-change : tie.Need-cast-change
 cast-change c = search needs
 
+-- ---- the products fit
 in-bounds : (c : tie.After-apart) → Bounds (c .before .before .before .args .contracts) (c .before .before .before .args .size) (c .before .before .before .args .agreed) (c .before .before .before .args .final-price)
 in-bounds c = bounds _ _ _ _ (said-yes (c .before .before .cash-admitted .ensures) (c .before .if1 .left))
 
@@ -43,6 +41,7 @@ add-t14 c = rw (c .apart .ensures) (omega (arith, whole-most _ _ _ _ (in-bounds 
 cast-t16 : tie.Need-cast-t16
 cast-t16 c = search needs
 
+-- ---- the parts
 returns-2 : tie.Need-returns-2
 unfolding cashOf
 returns-2 c = rw (c .apart .ensures, said-yes (c .before .before .cash-admitted .ensures) (c .before .if1 .left)) (cash-is _ _ _ _ (in-bounds c))
@@ -51,9 +50,9 @@ pub cash-spec : {M : Type 1} → statement M
 cash-spec =
     tie.close
     (tie.spec
-    cash-admitted-requires
+    (λ c κs. tt)
     returns
-    apart-requires
+    (λ c κs. tt)
     cast-change
     mul-change
     cast-whole

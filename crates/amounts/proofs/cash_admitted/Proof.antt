@@ -1,20 +1,9 @@
+-- The numbers that cash is defined for: the answers of the four calls, joined in the definition's order.
 use mathlib.Core.Path.{ap₂}
 use mathlib.Core.Bool.{_&&_}
 use Rattle.amounts.specs.Prices.{cashAdmitted}
 use Rattle.amounts.proofs.cash_admitted.Statement.{statement}
 use Rattle.amounts.proofs.cash_admitted.Tie as tie
-
-price-right-requires : tie.Need-price-right-requires
-price-right-requires c κs = tt
-
-final-right-requires : tie.Need-final-right-requires
-final-right-requires c κs = tt
-
-contracts-right-requires : tie.Need-contracts-right-requires
-contracts-right-requires c κs = tt
-
-size-right-requires : tie.Need-size-right-requires
-size-right-requires c κs = tt
 
 returns : tie.Need-returns
 unfolding cashAdmitted
@@ -24,8 +13,8 @@ pub cash-admitted-spec : {M : Type 1} → statement M
 cash-admitted-spec =
     tie.close
     (tie.spec
-    price-right-requires
-    final-right-requires
-    contracts-right-requires
-    size-right-requires
+    (λ c κs. tt)
+    (λ c κs. tt)
+    (λ c κs. tt)
+    (λ c κs. tt)
     returns)

@@ -1,3 +1,4 @@
+-- Question 20: no for a tick of 0, which the definition rules out; of another tick the remainder decides.
 use Prim.Native.Nat.{_<_}
 use native.Mathlib.Omega.{arith}
 use borrow.Author.Tests.{lt-ltb}

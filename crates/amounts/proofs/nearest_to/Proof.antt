@@ -1,3 +1,5 @@
+-- The whole number nearest to a / b, halves upward; 0 where b is 0 (`nearest-none`). A rest below one half of b is left out (`nearest-down`), any
+-- other adds 1 (`nearest-up`); the larger number is at most a (`next-most`), so the sum fits.
 use mathlib.Core.Path.{sym}
 use native.Mathlib.Nat.{mod-lt}
 use native.Mathlib.Omega.{arith}

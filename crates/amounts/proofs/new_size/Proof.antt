@@ -1,3 +1,4 @@
+-- The size after a measure of p for q: `nearest_to` of size times p over q, as the definition has it. The product of 32 and 16 bits fits 64.
 use Prim.Native.Nat.{_≤_}
 use native.Mathlib.Nat.{mul-le-mul}
 use native.Mathlib.Omega.{arith}
@@ -11,12 +12,9 @@ mul-nearest-to c =
     let p : c .args .p ≤ 65535 = omega arith in
     omega (arith, mul-le-mul s p)
 
-nearest-to-requires : tie.Need-nearest-to-requires
-nearest-to-requires c κs = tt
-
 returns : tie.Need-returns
 unfolding newSize
 returns c = c .nearest-to .ensures
 
 pub new-size-spec : {M : Type 1} → statement M
-new-size-spec = tie.close (tie.spec mul-nearest-to nearest-to-requires returns)
+new-size-spec = tie.close (tie.spec mul-nearest-to (λ c κs. tt) returns)

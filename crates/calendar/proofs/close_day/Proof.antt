@@ -1,21 +1,16 @@
+-- The calendar with one day closed. A day outside the cover changes nothing (`close-out`), nor does a slot past the 736 bytes (`close-past`);
+-- else `close-store`: the byte with the day's bit added is the map with its bit set.
 use lib.ListN.{length-map, length}
 use Rattle.calendar.proofs.Closing.{close-out, close-past, close-store}
 use Rattle.questions.proofs.Bools.{said-no, said-yes}
-use Prim.Native.Nat.{_-_}
 use native.Mathlib.Omega.{arith}
 use mathlib.Core.Path.{_≡_}
 use borrow.Author.Needs.{needs}
 use Rattle.calendar.proofs.close_day.Statement.{statement}
 use Rattle.calendar.proofs.close_day.Tie as tie
 
-in-cover-requires : tie.Need-in-cover-requires
-in-cover-requires c κs = tt
-
 returns : tie.Need-returns
 returns c = close-out _ _ (said-no (c .before .in-cover .ensures) (c .if1 .taken))
-
-slot-of-requires : tie.Need-slot-of-requires
-slot-of-requires c κs = tt
 
 returns-2 : tie.Need-returns-2
 returns-2 c =
@@ -45,9 +40,9 @@ pub close-day-spec : {M : Type 1} → statement M
 close-day-spec =
     tie.close
     (tie.spec
-    in-cover-requires
+    (λ c κs. tt)
     returns
-    slot-of-requires
+    (λ c κs. tt)
     returns-2
     sub-bit
     cast-bit

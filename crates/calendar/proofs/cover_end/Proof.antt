@@ -1,6 +1,7 @@
+-- The day after the cover's last, at most 36,525. A cover that reaches 2100 ends on 36,525 (`year-start-past`); of another the sum of first year and
+-- years is below 2100, and `year_start` gives its 1 January.
 use Rattle.days.proofs.Years.{year-start-past}
 use Rattle.calendar.specs.Trading.{coverEnd}
-use Prim.Native.Nat.{_-_}
 use native.Mathlib.Omega.{arith}
 use mathlib.Core.Path.{sym}
 use borrow.Author.Needs.{needs}
@@ -21,13 +22,10 @@ returns-2 c = (sym (year-start-past _ (omega arith)), omega arith)
 add-year-start : tie.Need-add-year-start
 add-year-start c = search needs
 
-year-start-requires : tie.Need-year-start-requires
-year-start-requires c κs = tt
-
 returns-3 : tie.Need-returns-3
 unfolding coverEnd
 returns-3 c = c .year-start .ensures
 
 pub cover-end-spec : {M : Type 1} → statement M
 cover-end-spec =
-    tie.close (tie.spec returns sub-if2 returns-2 add-year-start year-start-requires returns-3)
+    tie.close (tie.spec returns sub-if2 returns-2 add-year-start (λ c κs. tt) returns-3)

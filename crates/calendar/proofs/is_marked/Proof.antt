@@ -1,21 +1,16 @@
+-- Whether a map has a day of the cover. The first `return` cites that the day is outside the cover, the second that the map ends before the day's
+-- byte, whose bits count as 0 (`bit-past`); the last reads the bit at the day's slot.
 use Rattle.calendar.proofs.Bits.{bit-past}
 use Rattle.questions.proofs.Bools.{said-no, said-yes}
 use Rattle.calendar.specs.Bits.{bitAt}
-use Prim.Native.Nat.{_-_}
 use native.Mathlib.Omega.{arith}
 use mathlib.Core.Path.{sym}
 use borrow.Author.Needs.{needs}
 use Rattle.calendar.proofs.is_marked.Statement.{statement}
 use Rattle.calendar.proofs.is_marked.Tie as tie
 
-has-year-of-requires : tie.Need-has-year-of-requires
-has-year-of-requires c κs = tt
-
 returns : tie.Need-returns
 returns c = simp (said-no (c .before .has-year-of .ensures) (c .if1 .taken))
-
-slot-of-requires : tie.Need-slot-of-requires
-slot-of-requires c κs = tt
 
 returns-2 : tie.Need-returns-2
 returns-2 c =
@@ -44,9 +39,9 @@ pub is-marked-spec : {M : Type 1} → statement M
 is-marked-spec =
     tie.close
     (tie.spec
-    has-year-of-requires
+    (λ c κs. tt)
     returns
-    slot-of-requires
+    (λ c κs. tt)
     returns-2
     shared-slice-read-byte
     sub-result

@@ -1,32 +1,26 @@
+-- Whether a day is a Monday to Friday in the cover that is not closed. The first two `return`s cite the test that fails; where the map ends before
+-- the day's byte, the bit counts as 0 (`bit-past`); the last reads the bit at the day's slot.
 use Rattle.calendar.proofs.Bits.{bit-past}
 use Rattle.questions.proofs.Bools.{said-no, said-yes}
 use Rattle.calendar.specs.Bits.{bitAt}
 use Rattle.calendar.specs.Trading.{closedOn, slotOf, tradingDay}
 use borrow.Author.Tests.{lt-ltb, le-ltb}
-use Prim.Native.Nat.{_-_}
 use native.Mathlib.Omega.{arith}
 use mathlib.Core.Path.{sym}
 use borrow.Author.Needs.{needs}
 use Rattle.calendar.proofs.is_trading_day_in.Statement.{statement}
 use Rattle.calendar.proofs.is_trading_day_in.Tie as tie
 
-has-year-of-requires : tie.Need-has-year-of-requires
-has-year-of-requires c κs = tt
-
+-- ---- a day outside the cover, or of a weekend
 returns : tie.Need-returns
 unfolding tradingDay
 returns c = simp (said-no (c .before .has-year-of .ensures) (c .if1 .taken))
-
-weekday-requires : tie.Need-weekday-requires
-weekday-requires c κs = tt
 
 returns-2 : tie.Need-returns-2
 unfolding tradingDay
 returns-2 c = simp (said-yes (c .before .before .before .has-year-of .ensures) (c .before .before .if1 .left), le-ltb _ _ (rw (c .before .weekday .ensures) at (c .if2 .taken)))
 
-slot-of-requires : tie.Need-slot-of-requires
-slot-of-requires c κs = tt
-
+-- ---- a slot past the map's end
 returns-3 : tie.Need-returns-3
 unfolding tradingDay closedOn
 returns-3 c =
@@ -39,6 +33,7 @@ returns-3 c =
       bit-past (start .args .closed .now) (slotOf (start .args .cover) (start .args .day)) (omega (arith, c .before .slot-of .ensures)),
     )
 
+-- ---- the bit in the map
 shared-slice-read-byte : tie.Need-shared-slice-read-byte
 shared-slice-read-byte c = search needs
 
@@ -62,11 +57,11 @@ pub is-trading-day-in-spec : {M : Type 1} → statement M
 is-trading-day-in-spec =
     tie.close
     (tie.spec
-    has-year-of-requires
+    (λ c κs. tt)
     returns
-    weekday-requires
+    (λ c κs. tt)
     returns-2
-    slot-of-requires
+    (λ c κs. tt)
     returns-3
     shared-slice-read-byte
     sub-result

@@ -1,6 +1,8 @@
+-- 1 to 16 years from 2000 to 2099. Each `return` of no cites the bounds that hold before it; a first year after 2100 makes the definition's sum too
+-- large, so the test before the sum leaves the answer as it is and keeps the sum small.
 use Rattle.calendar.specs.Trading.{validCover}
 use borrow.Author.Tests.{le-leb, lt-leb}
-use Prim.Native.Nat.{_+_, _-_, _<_}
+use Prim.Native.Nat.{_+_, _<_}
 use native.Mathlib.Omega.{arith}
 use borrow.Author.Needs.{needs}
 use Rattle.calendar.proofs.is_valid_cover.Statement.{statement}

@@ -1,5 +1,7 @@
+-- The first exchange day after a day; 36,525 where the cover has none. The loop keeps: d is at most the cover's end, and the search from d on gives
+-- what the definition's search from the day after gives. A turn steps by `search-here` or `search-next`; each turn brings d nearer to the end.
 use Rattle.questions.proofs.Search.{search-none, search-here, search-next}
-use Rattle.calendar.proofs.Next.{next-start}
+use Rattle.calendar.proofs.NextExchangeDay.{next-start}
 use Rattle.questions.specs.Search.{firstFrom}
 use Rattle.calendar.specs.Trading.{calendarOfMaps, exchangeDay, nextExchangeDay}
 use Prim.Native.Nat.{_+_, _-_, _≤_}
@@ -17,6 +19,7 @@ abbrev μ-loop : tie.MeasureT-loop
 cover-end-requires : tie.Need-cover-end-requires Inv-loop μ-loop
 cover-end-requires c κs = tt
 
+-- ---- before the loop: a day from the cover's end on has none after it
 returns : tie.Need-returns Inv-loop μ-loop
 returns c =
     let q = c .before .cover-end .ensures .0 in
@@ -32,6 +35,7 @@ loop-holds c = (omega arith, next-start _ _ _ (c .before .cover-end .ensures .0)
 is-exchange-day-in-requires : tie.Need-is-exchange-day-in-requires Inv-loop μ-loop
 is-exchange-day-in-requires c κs = tt
 
+-- ---- the loop: a day found, or the next one
 returns-2 : tie.Need-returns-2 Inv-loop μ-loop
 returns-2 c = sym (search-here _ _ _ _ (c .before .before .loop-test .taken) (sym (c .before .is-exchange-day-in .ensures) ∙ c .if2 .taken)) ∙ c .before .before .before .loop .inv .1
 
@@ -44,6 +48,7 @@ loop-less c = omega arith
 loop-again : tie.Need-loop-again Inv-loop μ-loop
 loop-again c = (omega arith, search-next _ _ _ _ (c .before .before .loop-test .taken) (sym (c .before .is-exchange-day-in .ensures) ∙ c .if2 .left) ∙ c .before .before .before .loop .inv .1)
 
+-- ---- after the loop: none is left
 returns-3 : tie.Need-returns-3 Inv-loop μ-loop
 returns-3 c = sym (search-none _ _ _ _ (c .loop-test .left)) ∙ c .before .loop .inv .1
 

@@ -1,4 +1,6 @@
-use Rattle.calendar.proofs.Next.{nth-more}
+-- The n-th exchange day after a day; 36,525 where the cover has none. The loop keeps: i is at most n, and d is the i-th exchange day after the day.
+-- A turn steps by `nth-more`, and at the end i is n.
+use Rattle.calendar.proofs.NextExchangeDay.{nth-more}
 use Rattle.calendar.specs.Trading.{calendarOfMaps, nthDay, nthExchangeDay}
 use Prim.Native.Nat.{ℕ, _-_, _≤_}
 use native.Mathlib.Omega.{arith}

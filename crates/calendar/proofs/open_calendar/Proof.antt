@@ -1,3 +1,4 @@
+-- A cover with nothing in its maps. By computing.
 use mathlib.Core.Path.{refl}
 use Rattle.calendar.specs.Trading.{openCalendar}
 use Rattle.calendar.proofs.open_calendar.Statement.{statement}

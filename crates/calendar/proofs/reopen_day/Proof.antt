@@ -1,22 +1,18 @@
+-- The calendar with one day open again in both maps. A day outside the cover changes nothing (`reopen-out`), nor does a slot past the 736 bytes of
+-- either map (`reopen-past`); else `reopen-store`: the bytes without the day's bit are the maps with that bit cleared.
 use lib.ListN.{length-map}
 use Rattle.calendar.proofs.Reopening.{reopen-out, reopen-past, reopen-store}
 use lib.ListN.{length}
 use Rattle.questions.proofs.Bools.{said-no, said-yes}
-use Prim.Native.Nat.{_-_}
 use native.Mathlib.Omega.{arith}
 use mathlib.Core.Path.{_≡_}
 use borrow.Author.Needs.{needs}
 use Rattle.calendar.proofs.reopen_day.Statement.{statement}
 use Rattle.calendar.proofs.reopen_day.Tie as tie
 
-in-cover-requires : tie.Need-in-cover-requires
-in-cover-requires c κs = tt
-
+-- ---- where nothing changes
 returns : tie.Need-returns
 returns c = reopen-out _ _ (said-no (c .before .in-cover .ensures) (c .if1 .taken))
-
-slot-of-requires : tie.Need-slot-of-requires
-slot-of-requires c κs = tt
 
 returns-2 : tie.Need-returns-2
 returns-2 c =
@@ -25,6 +21,7 @@ returns-2 c =
     let m : length (start .args .cal .exchange) ≡ 736 = simp length-map at (start .good .0 .1 .1 .1 .1 .0 .1 .0 .1) in
     reopen-past _ _ (omega (arith, c .before .slot-of .ensures)) (omega (arith, c .before .slot-of .ensures))
 
+-- ---- the bit, and the two bytes written
 sub-bit : tie.Need-sub-bit
 sub-bit c = search needs
 
@@ -52,6 +49,7 @@ sub-next-2 c = search needs
 element-write-next-2 : tie.Need-element-write-next-2
 element-write-next-2 c = search needs
 
+-- ---- both maps
 returns-3 : tie.Need-returns-3
 returns-3 c = reopen-store _ _ _ (c .before .before .before .slot-of .ensures) (said-yes (c .before .before .before .before .before .in-cover .ensures) (c .before .before .before .before .if1 .left))
 
@@ -59,9 +57,9 @@ pub reopen-day-spec : {M : Type 1} → statement M
 reopen-day-spec =
     tie.close
     (tie.spec
-    in-cover-requires
+    (λ c κs. tt)
     returns
-    slot-of-requires
+    (λ c κs. tt)
     returns-2
     sub-bit
     cast-bit

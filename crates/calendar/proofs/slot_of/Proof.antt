@@ -1,23 +1,15 @@
+-- The place of a day's bit in the maps: 368 for each year since the cover's first, and the day's number in its year, as the definition sums them.
+-- The sizes are found by search.
 use Rattle.calendar.specs.Trading.{slotOf}
-use Prim.Native.Nat.{_-_}
 use borrow.Author.Needs.{needs}
 use Rattle.calendar.proofs.slot_of.Statement.{statement}
 use Rattle.calendar.proofs.slot_of.Tie as tie
-
-year-of-requires : tie.Need-year-of-requires
-year-of-requires c κs = tt
-
-years-after-requires : tie.Need-years-after-requires
-years-after-requires c κs = tt
 
 cast-result : tie.Need-cast-result
 cast-result c = search needs
 
 mul-result : tie.Need-mul-result
 mul-result c = search needs
-
-day-in-year-requires : tie.Need-day-in-year-requires
-day-in-year-requires c κs = tt
 
 cast-result-2 : tie.Need-cast-result-2
 cast-result-2 c = search needs
@@ -33,11 +25,11 @@ pub slot-of-spec : {M : Type 1} → statement M
 slot-of-spec =
     tie.close
     (tie.spec
-    year-of-requires
-    years-after-requires
+    (λ c κs. tt)
+    (λ c κs. tt)
     cast-result
     mul-result
-    day-in-year-requires
+    (λ c κs. tt)
     cast-result-2
     add-result
     returns)

@@ -1,39 +1,54 @@
--- The file is written where there is one: it is no longer than its buffer.
+-- The last line is taken in, and what is said of the whole list is its file, or why there is none.
 use borrow.Author.Needs.{needs}
+use native.Mathlib.Omega.{arith}
 use mathlib.Core.Path.{sym}
-use lib.Seq.{length-take-le}
+use Rattle.file_text_read.proofs.ListLines.{composed-fits}
+use Rattle.file_text_told.proofs.Whole.{of-input, line-short}
 use Rattle.compose.proofs.answer.Statement.{statement}
 use Rattle.compose.proofs.answer.Tie as tie
 
-tell-requires : tie.Need-tell-requires
-tell-requires c κs = search needs
+slice-aggregate-compose : tie.Need-slice-aggregate-compose
+slice-aggregate-compose c = search needs
+
+slice-aggregate-hand-out : tie.Need-slice-aggregate-hand-out
+slice-aggregate-hand-out c = search needs
+
+hand-out-requires : tie.Need-hand-out-requires
+hand-out-requires c κs =
+    let at-said = c .before in
+    let at-compose = at-said .before .before in
+    let at-take = at-compose .before .before .before .before .before in
+    let at-buffer = at-take .before .before .before .before in
+    let pre = at-buffer .before .before .pre in
+    let room = sym (at-buffer .large-buffer .ensures) in
+    let p = at-compose .compose .ensures in
+    let last = at-take .take-last .ensures in
+    let made = at-said .said .ensures in
+    let fits = composed-fits _ _ _ (p .0) in (
+      pre .0,
+      pre .1,
+      omega (arith, fits),
+      omega (arith, fits, room),
+      line-short _ _ _ _ _ _ (pre .2) last _ _ _ room (p .0) (p .1) _ made,
+      of-input _ _ _ _ _ _ (pre .2) last _ _ _ room (p .0) (p .1) _ made,
+    )
+
+same-length : tie.Need-same-length
+same-length c = search needs
 
 returns : tie.Need-returns
 returns c = search needs
-
-nothing-sent-requires : tie.Need-nothing-sent-requires
-nothing-sent-requires c κs = tt
-
-slice-aggregate-write-next : tie.Need-slice-aggregate-write-next
-slice-aggregate-write-next c = search needs
-
-slice-aggregate-write-next-2 : tie.Need-slice-aggregate-write-next-2
-slice-aggregate-write-next-2 c = sym (length-take-le _ _ (search needs))
-
-write-next-requires : tie.Need-write-next-requires
-write-next-requires c κs = tt
-
-returns-2 : tie.Need-returns-2
-returns-2 c = search needs
 
 pub answer-spec : {M : Type 1} → statement M
 answer-spec =
     tie.close
     (tie.spec
-    tell-requires
-    returns
-    nothing-sent-requires
-    slice-aggregate-write-next
-    slice-aggregate-write-next-2
-    write-next-requires
-    returns-2)
+    (λ c κs. tt)
+    (λ c κs. tt)
+    slice-aggregate-compose
+    (λ c κs. tt)
+    (λ c κs. tt)
+    slice-aggregate-hand-out
+    hand-out-requires
+    same-length
+    returns)

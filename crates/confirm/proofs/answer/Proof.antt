@@ -1,12 +1,9 @@
 -- The list has room, so the line holds the text of the input.
 use native.Mathlib.Omega.{arith}
-use Rattle.vendor_inputs.proofs.Lengths.{line-room, line-fits, line-is}
+use Rattle.confirm_inputs.proofs.VerdictLength.{line-room, line-fits, line-is}
 use borrow.Author.Needs.{needs}
 use Rattle.confirm.proofs.answer.Statement.{statement}
 use Rattle.confirm.proofs.answer.Tie as tie
-
-confirm-line-requires : tie.Need-confirm-line-requires
-confirm-line-requires c κs = tt
 
 slice-aggregate-write-out : tie.Need-slice-aggregate-write-out
 slice-aggregate-write-out c = search needs
@@ -28,7 +25,7 @@ pub answer-spec : {M : Type 1} → statement M
 answer-spec =
     tie.close
     (tie.spec
-    confirm-line-requires
+    (λ c κs. tt)
     slice-aggregate-write-out
     write-out-requires
     same-length

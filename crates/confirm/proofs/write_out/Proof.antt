@@ -3,22 +3,16 @@ use mathlib.Core.Path.{sym, ap}
 use native.Mathlib.Omega.{arith}
 use lib.ListN.{length}
 use lib.Seq.{length-take-le}
-use Rattle.vendor_inputs.proofs.Lengths.{confirm-short}
+use Rattle.confirm_inputs.proofs.VerdictLength.{confirm-short}
 use borrow.Author.Needs.{needs}
 use Rattle.confirm.proofs.write_out.Statement.{statement}
 use Rattle.confirm.proofs.write_out.Tie as tie
-
-nothing-sent-requires : tie.Need-nothing-sent-requires
-nothing-sent-requires c κs = tt
 
 slice-aggregate-write-next : tie.Need-slice-aggregate-write-next
 slice-aggregate-write-next c = search needs
 
 slice-aggregate-write-next-2 : tie.Need-slice-aggregate-write-next-2
 slice-aggregate-write-next-2 c = sym (length-take-le _ _ (c .before .before .before .before .before .before .pre .0))
-
-write-next-requires : tie.Need-write-next-requires
-write-next-requires c κs = tt
 
 returns : tie.Need-returns
 returns c =
@@ -32,8 +26,8 @@ pub write-out-spec : {M : Type 1} → statement M
 write-out-spec =
     tie.close
     (tie.spec
-    nothing-sent-requires
+    (λ c κs. tt)
     slice-aggregate-write-next
     slice-aggregate-write-next-2
-    write-next-requires
+    (λ c κs. tt)
     returns)

@@ -1,3 +1,5 @@
+-- The date of a day, or the refusal 23 from 36,525 on. Of another day the year comes by division, and `date-by-rule` says that the month and the
+-- day of the month, found from the day's number in the year and the first of March, are the definition's; `in-year` bounds the sums.
 use Rattle.days.proofs.Years.{in-year, in-year-below, days-from-march, date-by-rule}
 use Rattle.days.proofs.Dates.{date-accepted, date-refused}
 use Prim.Native.Nat.{ℕ, _-_}
@@ -6,31 +8,20 @@ use mathlib.Core.Path.{_∙_, sym, ap}
 use borrow.Author.Needs.{needs}
 use Rattle.days.proofs.date_of_day.Statement.{statement}
 use Rattle.days.proofs.date_of_day.Tie as tie
-use Rattle.days.proofs.day_in_year.Reads as day-in-year-reads
-use Rattle.days.proofs.march_in.Reads as march-in-reads
-use Rattle.days.proofs.month_in_year.Reads as month-in-year-reads
-use Rattle.days.proofs.start_in_year.Reads as start-in-year-reads
-use Rattle.days.proofs.year_of.Reads as year-of-reads
 
+-- ---- the refusal: the day is after 2099
 returns : tie.Need-returns
 returns c = sym (date-refused _ (c .if1 .taken))
 
-year-of-requires : tie.Need-year-of-requires
-year-of-requires c κs = tt
-
+-- ---- the year, the day in it, and its month
 sub-i : tie.Need-sub-i
 sub-i c = omega (arith, in-year _ (c .before .if1 .left))
-
-day-in-year-requires : tie.Need-day-in-year-requires
-day-in-year-requires c κs = tt
-
-march-in-requires : tie.Need-march-in-requires
-march-in-requires c κs = tt
 
 month-in-year-requires : tie.Need-month-in-year-requires
 month-in-year-requires c κs =
     days-from-march _ _ _ _ (c .before .before .before .if1 .left) (ap (λ (y : ℕ). y - 2000) (c .before .before .year-of .ensures)) (c .march-in .ensures .0) (c .before .day-in-year .ensures)
 
+-- ---- the fields of the date
 add-t7 : tie.Need-add-t7
 add-t7 c = search needs
 
@@ -46,6 +37,7 @@ sub-t10 c = omega (arith, c .before .month-in-year .ensures)
 add-t11 : tie.Need-add-t11
 add-t11 c = omega (arith, in-year-below _ (c .before .before .before .before .before .if1 .left))
 
+-- ---- the date
 returns-2 : tie.Need-returns-2
 returns-2 c =
     let d = date-by-rule _ _ _ _ (c .before .before .before .before .before .if1 .left) (ap (λ (y : ℕ). y - 2000) (c .before .before .before .before .year-of .ensures)) (c .before .before .march-in .ensures .0) (c .before .before .before .day-in-year .ensures) _ (c .before .month-in-year .ensures) in
@@ -56,10 +48,10 @@ date-of-day-spec =
     tie.close
     (tie.spec
     returns
-    year-of-requires
+    (λ c κs. tt)
     sub-i
-    day-in-year-requires
-    march-in-requires
+    (λ c κs. tt)
+    (λ c κs. tt)
     month-in-year-requires
     add-t7
     add-t8

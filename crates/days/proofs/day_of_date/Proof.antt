@@ -1,14 +1,13 @@
+-- The day of a date, or the refusal 23 where `is_date` says no. A date's year, month and day are within bounds (`ok`), so its month is one of the
+-- 1,200 and the table's entry is the month's first day (`first`); `day-fits` bounds the sum.
 use Rattle.days.specs.Gregorian.{firstDay, monthNumber}
 use Rattle.days.proofs.Dates.{Valid, valid-facts, day-fits, day-accepted, day-refused}
-use Rattle.days.proofs.Months.{first-in}
+use Rattle.days.proofs.MonthOfDay.{first-in}
 use Rattle.days.specs.Dates.{dayOf}
 use native.Mathlib.Omega.{arith}
 use mathlib.Core.Path.{_≡_, _∙_, sym}
 use Rattle.days.proofs.day_of_date.Statement.{statement}
 use Rattle.days.proofs.day_of_date.Tie as tie
-
-is-date-requires : tie.Need-is-date-requires
-is-date-requires c κs = tt
 
 ok : (c : tie.Then1) → Valid (c .before .before .args .year) (c .before .before .args .month) (c .before .before .args .day)
 ok c = valid-facts _ _ _ (sym (c .before .is-date .ensures) ∙ c .if1 .taken)
@@ -28,9 +27,6 @@ add-first-day c = omega (arith, ok c)
 sub-first-day-2 : tie.Need-sub-first-day-2
 sub-first-day-2 c = omega (arith, ok c)
 
-first-day-requires : tie.Need-first-day-requires
-first-day-requires c κs = tt
-
 add-t11 : tie.Need-add-t11
 add-t11 c = omega (arith, day-fits _ _ _ (ok (c .before)), first c)
 
@@ -48,12 +44,12 @@ pub day-of-date-spec : {M : Type 1} → statement M
 day-of-date-spec =
     tie.close
     (tie.spec
-    is-date-requires
+    (λ c κs. tt)
     sub-first-day
     mul-first-day
     add-first-day
     sub-first-day-2
-    first-day-requires
+    (λ c κs. tt)
     add-t11
     sub-t12
     returns

@@ -1,3 +1,4 @@
+-- The constant table follows the Gregorian month lengths from day 0 to 36,525 and has 1,200 entries. By computing.
 use Rattle.questions.specs.Search.{oneOf}
 use Rattle.days.specs.Gregorian.{followsFrom, lengthOf, monthLength, lengthIn, leapYear}
 use mathlib.Core.Path.{refl}

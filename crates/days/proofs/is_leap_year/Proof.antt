@@ -1,3 +1,5 @@
+-- A year that 4 does not divide is none; of those that 4 divides, the ones that 100 does not divide are; of the others 400 decides.
+-- Each `return` turns the code's tests into the definition's.
 use Rattle.days.specs.Gregorian.{leapYear}
 use borrow.Author.Tests.{eq-eqb, ne-eqb}
 use Rattle.days.proofs.is_leap_year.Statement.{statement}

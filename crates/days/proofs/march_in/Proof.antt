@@ -1,3 +1,4 @@
+-- The first of March in the year 2000 + i, counted from the year's first day: 60 where 4 divides i, else 59. The two cases are the definition's.
 use Rattle.days.specs.Dates.{marchIn}
 use native.Mathlib.Omega.{arith}
 use borrow.Author.Tests.{eq-eqb, ne-eqb}

@@ -1,3 +1,5 @@
+-- The month r of day n of a year: it starts by n, and the next month, where there is one, starts after n. By `early-month` before March, where the
+-- answer is n / 31, and by `late-month` from March on.
 use Rattle.days.proofs.Years.{early-month, late-month}
 use borrow.Author.Needs.{needs}
 use Rattle.days.proofs.month_in_year.Statement.{statement}

@@ -1,4 +1,6 @@
-use Rattle.days.proofs.Months.{length-none, length-past, length-thirty, length-long}
+-- The length of a month, 0 for a number that is none. February asks `is_leap_year`; `length-none` and `length-past` are the numbers outside 1 to 12,
+-- `length-thirty` the four months named, and `length-long` the others, for which all five shorter months are ruled out.
+use Rattle.days.proofs.MonthOfDay.{length-none, length-past, length-thirty, length-long}
 use Rattle.days.specs.Gregorian.{lengthIn, monthLength}
 use Rattle.questions.specs.Search.{oneOf}
 use mathlib.Core.Logic.{inl, inr}
@@ -6,9 +8,6 @@ use borrow.Author.Tests.{eq-eqb, ne-eqb}
 use mathlib.Core.Path.{_∙_, sym}
 use Rattle.days.proofs.month_length.Statement.{statement}
 use Rattle.days.proofs.month_length.Tie as tie
-
-is-leap-year-requires : tie.Need-is-leap-year-requires
-is-leap-year-requires c κs = tt
 
 returns : tie.Need-returns
 unfolding monthLength lengthIn
@@ -46,4 +45,4 @@ returns-6 c =
 pub month-length-spec : {M : Type 1} → statement M
 month-length-spec =
     tie.close
-    (tie.spec is-leap-year-requires returns returns-2 returns-3 returns-4 returns-5 returns-6)
+    (tie.spec (λ c κs. tt) returns returns-2 returns-3 returns-4 returns-5 returns-6)

@@ -1,32 +1,21 @@
+-- The month number of a day; 1,200 after 2099 (`month-past`). Of another day `month-by-rule`: 12 for each year before, and the month that
+-- `month_in_year` finds. The sums are bounded by `in-year`.
 use Rattle.days.proofs.Years.{in-year, days-from-march, month-by-rule}
-use Rattle.days.proofs.Months.{month-past}
+use Rattle.days.proofs.MonthOfDay.{month-past}
 use Prim.Native.Nat.{ℕ, _-_}
 use native.Mathlib.Omega.{arith}
 use mathlib.Core.Path.{sym, ap}
 use Rattle.days.proofs.month_of.Statement.{statement}
 use Rattle.days.proofs.month_of.Tie as tie
-use Rattle.days.proofs.day_in_year.Reads as day-in-year-reads
-use Rattle.days.proofs.march_in.Reads as march-in-reads
-use Rattle.days.proofs.month_in_year.Reads as month-in-year-reads
-use Rattle.days.proofs.year_of.Reads as year-of-reads
 
 returns : tie.Need-returns
 returns c = sym (month-past _ (c .if1 .taken))
-
-year-of-requires : tie.Need-year-of-requires
-year-of-requires c κs = tt
 
 sub-i : tie.Need-sub-i
 sub-i c = omega (arith, in-year _ (c .before .if1 .left))
 
 mul-result : tie.Need-mul-result
 mul-result c = omega (arith, in-year _ (c .before .if1 .left))
-
-march-in-requires : tie.Need-march-in-requires
-march-in-requires c κs = tt
-
-day-in-year-requires : tie.Need-day-in-year-requires
-day-in-year-requires c κs = tt
 
 month-in-year-requires : tie.Need-month-in-year-requires
 month-in-year-requires c κs =
@@ -44,11 +33,11 @@ month-of-spec =
     tie.close
     (tie.spec
     returns
-    year-of-requires
+    (λ c κs. tt)
     sub-i
     mul-result
-    march-in-requires
-    day-in-year-requires
+    (λ c κs. tt)
+    (λ c κs. tt)
     month-in-year-requires
     add-result
     returns-2)

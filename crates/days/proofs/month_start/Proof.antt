@@ -1,12 +1,11 @@
-use Rattle.days.proofs.Table.{first-rule}
-use Rattle.days.proofs.Months.{first-in, first-out}
+-- The first day of a month by arithmetic; 36,525 for a month after 2099. By `first-rule` the first day of each of the 1,200 months is this sum.
+use Rattle.days.proofs.MonthTable.{first-rule}
+use Rattle.days.proofs.MonthOfDay.{first-in, first-out}
 use native.Mathlib.Omega.{arith}
 use mathlib.Core.Path.{_∙_, sym}
 use borrow.Author.Needs.{needs}
 use Rattle.days.proofs.month_start.Statement.{statement}
 use Rattle.days.proofs.month_start.Tie as tie
-use Rattle.days.proofs.march_in.Reads as march-in-reads
-use Rattle.days.proofs.start_in_year.Reads as start-in-year-reads
 
 returns : tie.Need-returns
 returns c = sym (first-out _ (c .if1 .taken))

@@ -1,3 +1,5 @@
+-- The first day of month j of a year, counted from the year's first day: 31 · j before March (`start-early`), by fifths of 153 from March on
+-- (`start-late`). It is at most 366 by arithmetic.
 use Rattle.days.proofs.Years.{start-early, start-late}
 use native.Mathlib.Omega.{arith}
 use mathlib.Core.Path.{sym}

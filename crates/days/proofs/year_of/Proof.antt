@@ -1,3 +1,4 @@
+-- The year of a day; 2100 after 2099 (`year-of-past`). Of another day it is 4 · day / 1461 + 2000, by `year-of-is`.
 use Rattle.days.proofs.Years.{year-of-is, year-of-past}
 use mathlib.Core.Path.{sym}
 use borrow.Author.Needs.{needs}

@@ -1,3 +1,4 @@
+-- 1 January of a year, at most 36,525: 0 before 2000 and 36,525 after 2099, as the definition has it; between them by arithmetic (`year-start-is`).
 use Rattle.days.proofs.Years.{year-start-is, year-start-before, year-start-past}
 use native.Mathlib.Omega.{arith}
 use mathlib.Core.Path.{sym}

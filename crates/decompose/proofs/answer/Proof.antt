@@ -1,17 +1,11 @@
 -- The buffer has room for a line; load's answer says which of the two texts is the file's.
 use native.Mathlib.Omega.{arith}
-use mathlib.Core.Path.{_≡_, sym, ap, _∙_}
+use mathlib.Core.Path.{sym, ap, _∙_}
 use borrow.Author.Needs.{needs}
 use Rattle.questions.specs.Questions.{Answer}
-use Rattle.master.specs.declared.Counts.{Counts}
+use Rattle.file_load.specs.declared.Counts.{Counts}
 use Rattle.decompose.proofs.answer.Statement.{statement}
 use Rattle.decompose.proofs.answer.Tie as tie
-
-large-buffer-requires : tie.Need-large-buffer-requires
-large-buffer-requires c κs = tt
-
-load-requires : tie.Need-load-requires
-load-requires c κs = tt
 
 slice-aggregate-write-refusal : tie.Need-slice-aggregate-write-refusal
 slice-aggregate-write-refusal c = search needs
@@ -27,9 +21,6 @@ write-refusal-requires c κs =
 
 returns : tie.Need-returns
 returns c = c .before .write-refusal .ensures
-
-calendar-of-requires : tie.Need-calendar-of-requires
-calendar-of-requires c κs = tt
 
 slice-aggregate-write-text : tie.Need-slice-aggregate-write-text
 slice-aggregate-write-text c = search needs
@@ -50,12 +41,12 @@ pub answer-spec : {M : Type 1} → statement M
 answer-spec =
     tie.close
     (tie.spec
-    large-buffer-requires
-    load-requires
+    (λ c κs. tt)
+    (λ c κs. tt)
     slice-aggregate-write-refusal
     write-refusal-requires
     returns
-    calendar-of-requires
+    (λ c κs. tt)
     slice-aggregate-write-text
     write-text-requires
     returns-2)

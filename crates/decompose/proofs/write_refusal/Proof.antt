@@ -1,16 +1,10 @@
 -- The line of a refusal is all of a refused file's text.
 use native.Mathlib.Omega.{arith}
 use borrow.Author.Needs.{needs}
-use Rattle.contents.proofs.Lengths.{refusal-fits}
-use Rattle.contents.proofs.Whole.{refused-length, next-refused}
+use Rattle.file_text_print.proofs.TextLengths.{refusal-fits}
+use Rattle.file_text_print.proofs.WholeText.{refused-length, next-refused}
 use Rattle.decompose.proofs.write_refusal.Statement.{statement}
 use Rattle.decompose.proofs.write_refusal.Tie as tie
-
-print-refusal-requires : tie.Need-print-refusal-requires
-print-refusal-requires c κs = tt
-
-nothing-sent-requires : tie.Need-nothing-sent-requires
-nothing-sent-requires c κs = tt
 
 write-out-requires : tie.Need-write-out-requires
 write-out-requires c κs =
@@ -41,4 +35,4 @@ returns c = λ e.
 pub write-refusal-spec : {M : Type 1} → statement M
 write-refusal-spec =
     tie.close
-    (tie.spec print-refusal-requires nothing-sent-requires write-out-requires same-length returns)
+    (tie.spec (λ c κs. tt) (λ c κs. tt) write-out-requires same-length returns)

@@ -5,8 +5,8 @@ use mathlib.Core.Bool.{true≢false}
 use Prim.Native.Nat.{_-_, _≤_, _<_}
 use lib.ListN.{length}
 use Rattle.questions.proofs.Bools.{said-no, said-yes}
-use Rattle.contents.specs.Contents.{lineCount, linesText}
-use Rattle.contents.proofs.Whole.{no-lines, lines-more, all-lines, next-lines}
+use Rattle.file_text_print.specs.Contents.{lineCount, linesText}
+use Rattle.file_text_print.proofs.WholeText.{no-lines, lines-more, all-lines, next-lines}
 use Rattle.decompose.proofs.write_text.Statement.{statement}
 use Rattle.decompose.proofs.write_text.Tie as tie
 

@@ -1,5 +1,5 @@
 -- A file that is refused and a bad line are told in one line, which is the text; else all rows are printed.
-use mathlib.Core.Path.{_≡_, refl, _∙_, sym, ap}
+use mathlib.Core.Path.{_≡_, _∙_, sym, ap}
 use Prim.Native.Nat.{ℕ, _+_}
 use native.Mathlib.Omega.{arith}
 use lib.ListN.{length}
@@ -11,12 +11,6 @@ use Rattle.deliver.proofs.answer.Tie as tie
 
 total : (a b n k : ℕ) → a ≡ b + n → b ≡ 0 → n ≡ k → a ≡ k
 total a b n k e z q = omega arith
-
-master-line-requires : tie.Need-master-line-requires
-master-line-requires c κs = tt
-
-nothing-handed-requires : tie.Need-nothing-handed-requires
-nothing-handed-requires c κs = tt
 
 tell-requires : tie.Need-tell-requires
 tell-requires c κs =
@@ -43,15 +37,6 @@ returns c = λ e.
           (line-long made (master-short _) ∙ ap length (sym (refused-told _ _ _ (start .pre .0) (at-then .if1 .taken)))),
     )
 
-read-notices-requires : tie.Need-read-notices-requires
-read-notices-requires c κs = tt
-
-bad-line-requires : tie.Need-bad-line-requires
-bad-line-requires c κs = tt
-
-nothing-handed-requires-2 : tie.Need-nothing-handed-requires-2
-nothing-handed-requires-2 c κs = tt
-
 tell-requires-2 : tie.Need-tell-requires-2
 tell-requires-2 c κs =
     let at-line = c .before in
@@ -61,7 +46,7 @@ tell-requires-2 c κs =
     let start = at-else .before .before .before .before .before .before .before in
     let x = at-read .read-notices .ensures in
     let held = x .is (x .fits ∙ lists-fit _ _ (start .pre .2) (start .pre .3)) in
-    let made = at-line .bad-line .ensures in
+    let made = at-line .bad-notice-line .ensures in
     let none = c .nothing-handed2 .ensures in (
       line-few made (bad-short _),
       omega (arith, none .1),
@@ -84,7 +69,7 @@ returns-2 c = λ e.
     let start = at-else .before .before .before .before .before .before .before in
     let x = at-read .read-notices .ensures in
     let held = x .is (x .fits ∙ lists-fit _ _ (start .pre .2) (start .pre .3)) in
-    let made = at-line .bad-line .ensures in
+    let made = at-line .bad-notice-line .ensures in
     let none = c .before .nothing-handed2 .ensures in
     let u = c .tell2 .ensures in (
       ap (λ (s : Sent). s .bytes) (u .0) ∙ none .0
@@ -131,13 +116,13 @@ pub answer-spec : {M : Type 1} → statement M
 answer-spec =
     tie.close
     (tie.spec
-    master-line-requires
-    nothing-handed-requires
+    (λ c κs. tt)
+    (λ c κs. tt)
     tell-requires
     returns
-    read-notices-requires
-    bad-line-requires
-    nothing-handed-requires-2
+    (λ c κs. tt)
+    (λ c κs. tt)
+    (λ c κs. tt)
     tell-requires-2
     same-length
     same-length-2

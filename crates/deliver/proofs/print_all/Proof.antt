@@ -1,5 +1,5 @@
 -- The heading comes first of the rows; after all places the rows are whole, and after the measures of unknown ids what is told.
-use mathlib.Core.Path.{_≡_, refl, _∙_, sym, ap}
+use mathlib.Core.Path.{_∙_, sym, ap}
 use mathlib.Core.Bool.{true≢false}
 use Prim.Native.Nat.{_<_}
 use native.Mathlib.Omega.{arith}
@@ -7,32 +7,23 @@ use lib.ListN.{length}
 use borrow.Author.Needs.{needs}
 use Rattle.questions.proofs.Bools.{said-no, said-yes}
 use Rattle.streams.specs.declared.output.Sent.{Sent}
-use Rattle.delivery_rows.specs.Delivery.{headingText}
+use Rattle.delivery_rows.specs.Delivery.{deliveryHeading}
 use Rattle.delivery_parts.proofs.Handing.{heading-long, line-long, line-few, line-next, next-heading, no-place, count-few, next-unknowns, all-rows, all-told}
 use Rattle.deliver.proofs.print_all.Statement.{statement}
 use Rattle.deliver.proofs.print_all.Tie as tie
 
-nothing-handed-requires : tie.Need-nothing-handed-requires
-nothing-handed-requires c κs = tt
-
-heading-line-requires : tie.Need-heading-line-requires
-heading-line-requires c κs = tt
-
-short : length headingText < 64
+short : length deliveryHeading < 64
 short = omega (arith, heading-long)
 
 write-line-requires : tie.Need-write-line-requires
 write-line-requires c κs =
-    let made = c .heading-line .ensures in
+    let made = c .delivery-heading-line .ensures in
     let none = c .before .nothing-handed .ensures in
     let pre = c .before .before .before .before .before .before .before .before .pre in (
       line-few made short,
       omega (arith, none .0),
       rw (none .0) (line-next made short (next-heading _ _ _ _ _ _ (pre .0))),
     )
-
-is-open-requires : tie.Need-is-open-requires
-is-open-requires c κs = tt
 
 returns : tie.Need-returns
 returns c = λ e. absurd (true≢false (sym e ∙ said-no (c .before .is-open .ensures) (c .if1 .taken)))
@@ -46,7 +37,7 @@ print-places-requires c κs =
     let none = at-head .before .nothing-handed .ensures in
     let pre = at-head .before .before .before .before .before .before .before .before .pre in
     let w = at-write .write-line .ensures in
-    let made = at-head .heading-line .ensures in (
+    let made = at-head .delivery-heading-line .ensures in (
       pre .0,
       no-place _ _ _ _ _ _ (pre .0) _ _
           (omega (arith, w .0 (said-yes (at-open .is-open .ensures) (at-else .if1 .left)), none .0, line-long made short))
@@ -54,9 +45,6 @@ print-places-requires c κs =
       pre .1,
       pre .2,
     )
-
-is-open-requires-2 : tie.Need-is-open-requires-2
-is-open-requires-2 c κs = tt
 
 same-length : tie.Need-same-length
 same-length c = search needs
@@ -98,13 +86,13 @@ pub print-all-spec : {M : Type 1} → statement M
 print-all-spec =
     tie.close
     (tie.spec
-    nothing-handed-requires
-    heading-line-requires
+    (λ c κs. tt)
+    (λ c κs. tt)
     write-line-requires
-    is-open-requires
+    (λ c κs. tt)
     returns
     print-places-requires
-    is-open-requires-2
+    (λ c κs. tt)
     same-length
     same-length-2
     returns-2

@@ -1,5 +1,5 @@
 -- The rows of the place come next of the rows, and its lines next of what is told: after both, one place more was handed out.
-use mathlib.Core.Path.{_≡_, refl, _∙_, sym, ap}
+use mathlib.Core.Path.{_∙_, sym, ap}
 use mathlib.Core.Bool.{true≢false}
 use native.Mathlib.Omega.{arith}
 use Rattle.questions.proofs.Bools.{said-no, said-yes}
@@ -7,9 +7,6 @@ use Rattle.streams.specs.declared.output.Sent.{Sent}
 use Rattle.delivery_parts.proofs.Handing.{count-few, next-rows, next-lines, one-place}
 use Rattle.deliver.proofs.print_place.Statement.{statement}
 use Rattle.deliver.proofs.print_place.Tie as tie
-
-deliver-place-requires : tie.Need-deliver-place-requires
-deliver-place-requires c κs = tt
 
 write-out-requires : tie.Need-write-out-requires
 write-out-requires c κs =
@@ -20,9 +17,6 @@ write-out-requires c κs =
       omega (arith, pre .1 .rows-few, pre .2, pre .0 .size, x .within, x .out-long, pre .4),
       next-rows _ _ _ _ _ _ (pre .0) _ _ _ _ _ _ x (pre .3) (pre .4) _ _ (pre .1) (pre .2),
     )
-
-is-open-requires : tie.Need-is-open-requires
-is-open-requires c κs = tt
 
 same-length : tie.Need-same-length
 same-length c =
@@ -78,9 +72,9 @@ pub print-place-spec : {M : Type 1} → statement M
 print-place-spec =
     tie.close
     (tie.spec
-    deliver-place-requires
+    (λ c κs. tt)
     write-out-requires
-    is-open-requires
+    (λ c κs. tt)
     same-length
     same-length-2
     returns

@@ -6,7 +6,7 @@ use Prim.Native.Nat.{ℕ, _-_, _≤_}
 use native.Mathlib.Omega.{arith}
 use lib.ListN.{length}
 use Rattle.questions.proofs.Bools.{said-no, said-yes}
-use Rattle.ids.specs.Ids.{placeCount}
+use Rattle.file_ids.specs.Ids.{placeCount}
 use Rattle.delivery_parts.specs.Handing.{HandedTo}
 use Rattle.deliver.proofs.print_places.Statement.{statement}
 use Rattle.deliver.proofs.print_places.Tie as tie

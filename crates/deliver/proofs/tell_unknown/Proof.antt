@@ -1,5 +1,5 @@
 -- What was told is as long as the lines before the next one; each line comes next, and at the end all lines are there.
-use mathlib.Core.Path.{_≡_, refl, _∙_, sym, ap}
+use mathlib.Core.Path.{_≡_, refl, _∙_, ap}
 use mathlib.Core.List.{List}
 use Prim.Native.Nat.{ℕ, _+_, _-_, _≤_}
 use native.Mathlib.Omega.{arith}
@@ -21,8 +21,8 @@ loop-holds c =
     let start = c .before .before .before .before in
     (omega arith, refl, omega (arith, no-unknown (start .args .file .now) (start .args .calls .now) (start .args .ids .now)))
 
-unknown-line-requires : tie.Need-unknown-line-requires Inv-loop μ-loop
-unknown-line-requires c κs = tt
+unknown-measure-line-requires : tie.Need-unknown-measure-line-requires Inv-loop μ-loop
+unknown-measure-line-requires c κs = tt
 
 tell-requires : tie.Need-tell-requires Inv-loop μ-loop
 tell-requires c κs =
@@ -33,7 +33,7 @@ tell-requires c κs =
     let calls = start .args .calls .now in
     let ids = start .args .ids .now in
     let i = at-loop .loop .i in
-    let made = c .unknown-line .ensures in
+    let made = c .unknown-measure-line .ensures in
     let v = at-loop .loop .inv in (
       line-few made (unknown-short _ _ _ _),
       omega (arith, v .0, v .2, few-unknown f calls ids i, start .pre .0, start .pre .1),
@@ -59,7 +59,7 @@ loop-again c =
     let calls = start .args .calls .now in
     let ids = start .args .ids .now in
     let i = at-loop .loop .i in
-    let made = at-line .unknown-line .ensures in
+    let made = at-line .unknown-measure-line .ensures in
     let v = at-loop .loop .inv in
     let u = c .tell .ensures in
     (omega (arith, at-in .loop-test .taken), u .0 ∙ v .1, omega (arith, u .1, v .2, line-long made (unknown-short f calls ids i), more-unknown f calls ids i))
@@ -80,7 +80,7 @@ tell-unknown-spec =
     Inv-loop
     μ-loop
     loop-holds
-    unknown-line-requires
+    unknown-measure-line-requires
     tell-requires
     add-i
     loop-less

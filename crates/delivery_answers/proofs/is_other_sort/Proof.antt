@@ -1,4 +1,5 @@
-use mathlib.Core.Path.{_≡_, refl, _∙_, sym, ap}
+-- `is_other_sort` says whether a name's form is not that of the product: the definition's two cases, each by the test.
+use mathlib.Core.Path.{refl}
 use Rattle.delivery_answers.proofs.is_other_sort.Statement.{statement}
 use Rattle.delivery_answers.proofs.is_other_sort.Tie as tie
 

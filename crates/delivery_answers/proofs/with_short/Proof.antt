@@ -1,15 +1,13 @@
-use Rattle.contents.proofs.Building.{then, one, first}
+-- `with_short` adds a number of at most eight digits without zeros before it: below 10,000 as
+-- it is (`short-few`), else the digits before the last four and then those four (`short-many`).
+use Rattle.file_text_print.proofs.Building.{then}
 use native.Mathlib.Omega.{arith}
-use borrow.Author.Needs.{needs}
-use Rattle.delivery_answers.proofs.Texts.{short-few, short-many}
+use Rattle.delivery_answers.proofs.ReplyTexts.{short-few, short-many}
 use Rattle.delivery_answers.proofs.with_short.Statement.{statement}
 use Rattle.delivery_answers.proofs.with_short.Tie as tie
 
 cast-with-decimal : tie.Need-cast-with-decimal
 cast-with-decimal c = omega arith
-
-with-decimal-requires : tie.Need-with-decimal-requires
-with-decimal-requires c κs = tt
 
 returns : tie.Need-returns
 returns c = short-few _ _ _ (c .before .if1 .taken) (c .with-decimal .ensures)
@@ -17,17 +15,11 @@ returns c = short-few _ _ _ (c .before .if1 .taken) (c .with-decimal .ensures)
 cast-with-decimal-2 : tie.Need-cast-with-decimal-2
 cast-with-decimal-2 c = omega arith
 
-with-decimal-requires-2 : tie.Need-with-decimal-requires-2
-with-decimal-requires-2 c κs = tt
-
 cast-with-four : tie.Need-cast-with-four
 cast-with-four c = omega arith
-
-with-four-requires : tie.Need-with-four-requires
-with-four-requires c κs = tt
 
 returns-2 : tie.Need-returns-2
 returns-2 c = short-many _ _ _ (c .before .before .if1 .left) (then (c .before .with-decimal2 .ensures) (c .with-four .ensures))
 
 pub with-short-spec : {M : Type 1} → statement M
-with-short-spec = tie.close (tie.spec cast-with-decimal with-decimal-requires returns cast-with-decimal-2 with-decimal-requires-2 cast-with-four with-four-requires returns-2)
+with-short-spec = tie.close (tie.spec cast-with-decimal (λ c κs. tt) returns cast-with-decimal-2 (λ c κs. tt) cast-with-four (λ c κs. tt) returns-2)

@@ -1,4 +1,5 @@
-use Rattle.contents.proofs.Building.{then, one, first}
+-- `with_size` adds the whole number of a size and its part in 1/10,000: what the two calls add, joined as in `sizeText`.
+use Rattle.file_text_print.proofs.Building.{then}
 use native.Mathlib.Omega.{arith}
 use borrow.Author.Needs.{needs}
 use Rattle.delivery_answers.specs.Replies.{sizeText}
@@ -8,18 +9,12 @@ use Rattle.delivery_answers.proofs.with_size.Tie as tie
 cast-with-number : tie.Need-cast-with-number
 cast-with-number c = search needs
 
-with-number-requires : tie.Need-with-number-requires
-with-number-requires c κs = tt
-
 cast-with-part : tie.Need-cast-with-part
 cast-with-part c = omega arith
-
-with-part-requires : tie.Need-with-part-requires
-with-part-requires c κs = tt
 
 returns : tie.Need-returns
 unfolding sizeText
 returns c = then (c .before .with-number .ensures) (c .with-part .ensures)
 
 pub with-size-spec : {M : Type 1} → statement M
-with-size-spec = tie.close (tie.spec cast-with-number with-number-requires cast-with-part with-part-requires returns)
+with-size-spec = tie.close (tie.spec cast-with-number (λ c κs. tt) cast-with-part (λ c κs. tt) returns)

@@ -1,5 +1,7 @@
-use mathlib.Core.Path.{_≡_, refl, _∙_, sym, ap}
-use Rattle.delivery_differences.proofs.Passes.{up-to-15}
+-- `difference_at` tells of a key by the first n of 15 maturities: what `told_of`
+-- says of `within(n)` of them, which are the same maturities (`up-to-15`).
+use mathlib.Core.Path.{_∙_, ap}
+use Rattle.delivery_differences.proofs.DifferencePasses.{up-to-15}
 use Rattle.delivery_differences.specs.Differences.{differenceOf, rowsAt}
 use mathlib.Core.List.{List}
 use Rattle.listing.specs.declared.Maturity.{Maturity}

@@ -1,8 +1,10 @@
-use mathlib.Core.Path.{_≡_, refl, _∙_, sym, ap}
+-- `lesser_listed` keeps what was found where the key is below `from` (`too-small`), not below what was found (`too-large`) or
+-- does not differ (`passing`); else the key is the lesser (`failing`). Whether it differs is what `told_of` and `is_same` say.
+use mathlib.Core.Path.{_∙_, sym, ap}
 use Rattle.delivery_differences.specs.Differences.{isSame, differsIn, differenceOf}
 use mathlib.Core.Bool.{not}
 use Rattle.delivery_differences.specs.declared.Difference.{Difference}
-use Rattle.delivery_differences.proofs.Passes.{too-small, too-large, passing, failing}
+use Rattle.delivery_differences.proofs.DifferencePasses.{too-small, too-large, passing, failing}
 use borrow.Author.Needs.{needs}
 use Rattle.delivery_differences.proofs.lesser_listed.Statement.{statement}
 use Rattle.delivery_differences.proofs.lesser_listed.Tie as tie

@@ -1,8 +1,10 @@
-use mathlib.Core.Path.{_≡_, refl, _∙_, sym, ap}
-use Rattle.delivery_differences.specs.Passes.{unlisted}
+-- `lesser_unlisted` keeps what was found where the key is below `from` (`too-small`), not below what was found (`too-large`)
+-- or listed (`passing`); else the key is the lesser (`failing`). Whether it is listed is what `right_of` says.
+use mathlib.Core.Path.{_∙_, sym, ap}
+use Rattle.delivery_differences.specs.DifferencePasses.{unlisted}
 use mathlib.Core.Bool.{not}
 use Rattle.delivery_differences.specs.declared.Right.{Right}
-use Rattle.delivery_differences.proofs.Passes.{too-small, too-large, passing, failing}
+use Rattle.delivery_differences.proofs.DifferencePasses.{too-small, too-large, passing, failing}
 use borrow.Author.Needs.{needs}
 use Rattle.delivery_differences.proofs.lesser_unlisted.Statement.{statement}
 use Rattle.delivery_differences.proofs.lesser_unlisted.Tie as tie

@@ -1,8 +1,10 @@
-use mathlib.Core.Path.{_≡_, refl, _∙_, sym, ap}
-use Rattle.delivery_differences.proofs.Passes.{up-to-15, passes-find}
+-- `next_difference` gives the smallest key that differs from a key on. The least unlisted key that was delivered, then the least listed
+-- key that differs, make the least of all that differ (`passes-find`); the first n of 15 maturities are those that are used (`up-to-15`).
+use mathlib.Core.Path.{_∙_, sym, ap}
+use Rattle.delivery_differences.proofs.DifferencePasses.{up-to-15, passes-find}
 use Rattle.delivery_differences.specs.Differences.{differsIn, nextDifference, rowsAt}
-use Rattle.delivery_differences.specs.Passes.{keysOf, unlisted, leastOf}
-use Rattle.delivery_differences.proofs.Rows.{rowKeys, places-keys}
+use Rattle.delivery_differences.specs.DifferencePasses.{maturityKeys, unlisted, leastOf}
+use Rattle.delivery_differences.proofs.KeyRows.{places-keys}
 use mathlib.Core.List.{List}
 use Prim.Native.Nat.{ℕ}
 use Rattle.listing.specs.declared.Maturity.{Maturity}
@@ -25,7 +27,7 @@ returns c =
     let rows = (rowsAt (c .before .before .before .before .before .before .before .before .before .args .keys .now) (c .before .before .before .before .before .before .before .before .before .args .days .now) (c .before .before .before .before .before .before .before .before .before .args .fulls .now) (c .before .before .before .before .before .before .before .before .before .args .numbers .now) (c .before .before .before .before .before .before .before .before .before .args .backs .now) (c .before .before .before .before .before .before .before .before .before .args .places .now)) in
     let ms = take (c .before .before .within .result) (c .before .before .before .before .before .before .before .before .before .args .maturities) in
     c .least-listed .ensures
-    ∙ ap (leastOf (differsIn ms rows) (c .before .before .before .before .before .before .before .before .before .args .from) (keysOf ms)) (c .before .least-unlisted .ensures ∙ ap (λ (ks : List ℕ). leastOf (unlisted ms) (c .before .before .before .before .before .before .before .before .before .args .from) ks 65536) (sym (places-keys (c .before .before .before .before .before .before .before .before .before .args .keys .now) (c .before .before .before .before .before .before .before .before .before .args .days .now) (c .before .before .before .before .before .before .before .before .before .args .fulls .now) (c .before .before .before .before .before .before .before .before .before .args .numbers .now) (c .before .before .before .before .before .before .before .before .before .args .backs .now) (c .before .before .before .before .before .before .before .before .before .args .places .now))))
+    ∙ ap (leastOf (differsIn ms rows) (c .before .before .before .before .before .before .before .before .before .args .from) (maturityKeys ms)) (c .before .least-unlisted .ensures ∙ ap (λ (ks : List ℕ). leastOf (unlisted ms) (c .before .before .before .before .before .before .before .before .before .args .from) ks 65536) (sym (places-keys (c .before .before .before .before .before .before .before .before .before .args .keys .now) (c .before .before .before .before .before .before .before .before .before .args .days .now) (c .before .before .before .before .before .before .before .before .before .args .fulls .now) (c .before .before .before .before .before .before .before .before .before .args .numbers .now) (c .before .before .before .before .before .before .before .before .before .args .backs .now) (c .before .before .before .before .before .before .before .before .before .args .places .now))))
     ∙ passes-find ms rows (c .before .before .before .before .before .before .before .before .before .args .from)
     ∙ ap (λ (ms : List Maturity). nextDifference ms rows (c .before .before .before .before .before .before .before .before .before .args .from)) (up-to-15 (c .before .before .before .before .before .before .before .before .before .args .maturities) (c .before .before .before .before .before .before .before .before .before .args .n) _ (c .before .before .before .before .before .before .before .before .before .good .0 .1 .0 .1) (c .before .before .within .ensures .1))
 

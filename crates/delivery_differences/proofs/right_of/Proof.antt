@@ -1,9 +1,11 @@
-use mathlib.Core.Path.{_≡_, refl, _∙_, sym, ap}
+-- `right_of` gives the maturity with a key among the first n. The loop keeps: n is within the list, and the maturity with the key
+-- among those from i on is that among all. It returns where the key is (`right-here`), and at n there is none (`right-none`).
+use mathlib.Core.Path.{_≡_, refl, _∙_, sym}
 use native.Mathlib.Omega.{arith}
 use Prim.Native.Nat.{_-_, _≤_}
 use lib.ListN.{length, take, drop}
 use Rattle.delivery_differences.specs.Differences.{rightOf}
-use Rattle.delivery_differences.proofs.Rows.{right-here, right-next, right-none}
+use Rattle.delivery_differences.proofs.KeyRows.{right-here, right-next, right-none}
 use Rattle.delivery_differences.proofs.right_of.Statement.{statement}
 use Rattle.delivery_differences.proofs.right_of.Tie as tie
 

@@ -1,7 +1,9 @@
-use mathlib.Core.Path.{_≡_, refl, _∙_, sym, ap}
+-- `standing_of` counts how often a key was delivered, up to 2, and gives its first row. Without a first row it is none (`none-stands`),
+-- without a second one (`one-stands`), else two (`more-stand`); the row at the first place is the first with the key (`row-is`).
+use mathlib.Core.Path.{_∙_}
 use native.Mathlib.Omega.{arith}
 use denote.Ref.{now}
-use Rattle.delivery_differences.proofs.Rows.{none-stands, row-is, one-stands, more-stand}
+use Rattle.delivery_differences.proofs.KeyRows.{none-stands, row-is, one-stands, more-stand}
 use borrow.Author.Needs.{needs}
 use Rattle.delivery_differences.proofs.standing_of.Statement.{statement}
 use Rattle.delivery_differences.proofs.standing_of.Tie as tie
@@ -9,6 +11,7 @@ use Rattle.delivery_differences.proofs.standing_of.Tie as tie
 index-from-requires : tie.Need-index-from-requires
 index-from-requires c κs = search needs
 
+-- ---- none
 returns : tie.Need-returns
 returns c = none-stands (now (c .before .before .before .before .before .before .before .before .args .keys)) (now (c .before .before .before .before .before .before .before .before .args .days)) (now (c .before .before .before .before .before .before .before .before .args .fulls)) (now (c .before .before .before .before .before .before .before .before .args .numbers)) (now (c .before .before .before .before .before .before .before .before .args .backs)) (now (c .before .before .before .before .before .before .before .before .args .places)) (c .before .before .before .before .before .before .before .before .args .key) _ (c .before .index-from .ensures) (c .if1 .taken)
 
@@ -18,6 +21,7 @@ mul-row-at c = search needs
 shared-slice-read-row-at : tie.Need-shared-slice-read-row-at
 shared-slice-read-row-at c = search needs
 
+-- ---- one
 cast-row-at : tie.Need-cast-row-at
 cast-row-at c = omega (arith, c .shared-slice-known7 .given (c .before .before .index-from .result))
 
@@ -36,6 +40,7 @@ returns-2 c =
     let h = c .before .before .before .before .if1 .left in
     (one-stands (now (c .before .before .before .before .before .before .before .before .before .before .before .before .args .keys)) (now (c .before .before .before .before .before .before .before .before .before .before .before .before .args .days)) (now (c .before .before .before .before .before .before .before .before .before .before .before .before .args .fulls)) (now (c .before .before .before .before .before .before .before .before .before .before .before .before .args .numbers)) (now (c .before .before .before .before .before .before .before .before .before .before .before .before .args .backs)) (now (c .before .before .before .before .before .before .before .before .before .before .before .before .args .places)) (c .before .before .before .before .before .before .before .before .before .before .before .before .args .key) _ e h _ (c .before .index-from2 .ensures) (c .if2 .taken), c .before .before .row-at .ensures ∙ row-is (now (c .before .before .before .before .before .before .before .before .before .before .before .before .args .keys)) (now (c .before .before .before .before .before .before .before .before .before .before .before .before .args .days)) (now (c .before .before .before .before .before .before .before .before .before .before .before .before .args .fulls)) (now (c .before .before .before .before .before .before .before .before .before .before .before .before .args .numbers)) (now (c .before .before .before .before .before .before .before .before .before .before .before .before .args .backs)) (now (c .before .before .before .before .before .before .before .before .before .before .before .before .args .places)) (c .before .before .before .before .before .before .before .before .before .before .before .before .args .key) _ e h)
 
+-- ---- two or more
 returns-3 : tie.Need-returns-3
 returns-3 c =
     let e = c .before .before .before .before .before .index-from .ensures in

@@ -1,6 +1,8 @@
-use mathlib.Core.Path.{_≡_, refl, _∙_, sym, ap}
+-- `told_of` gives what is told of a key: its definition with what `standing_of`, `right_of`
+-- and `why_from` say; a count up to 2 gives the same reason as the whole count (`up-to-two`).
+use mathlib.Core.Path.{refl}
 use Rattle.delivery_differences.specs.Differences.{whyOf, differenceOf}
-use Rattle.delivery_differences.proofs.Rows.{up-to-two}
+use Rattle.delivery_differences.proofs.KeyRows.{up-to-two}
 use borrow.Author.Needs.{needs}
 use Rattle.delivery_differences.proofs.told_of.Statement.{statement}
 use Rattle.delivery_differences.proofs.told_of.Tie as tie

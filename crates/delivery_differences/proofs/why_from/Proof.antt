@@ -1,4 +1,5 @@
-use mathlib.Core.Path.{_≡_, refl, _∙_, sym, ap}
+-- `why_from` gives the reason why a key differs: the definition's tests in their order, each return by its own test and the others before it.
+use mathlib.Core.Path.{refl, sym}
 use Rattle.delivery_differences.specs.Differences.{whyFrom}
 use borrow.Author.Tests.{le-leb, lt-leb, eq-eqb, ne-eqb}
 use Rattle.delivery_differences.proofs.why_from.Statement.{statement}

@@ -1,12 +1,15 @@
-use mathlib.Core.Path.{_≡_, refl, _∙_, sym, ap}
+-- `field_count` counts the fields of a line. The loop keeps: `from` is a place of the line or its end, the count is at most `from` + 1,
+-- and the count with the fields that are left after `from` makes all. A separator has one more (`some-left`), the end none (`none-left`).
+use mathlib.Core.Path.{_≡_, sym}
 use native.Mathlib.Omega.{arith}
 use Prim.Native.Nat.{_+_, _-_, _≤_}
 use lib.ListN.{length}
 use Rattle.delivery_items.specs.Items.{fieldsOf}
-use Rattle.delivery_items.proofs.Parting.{fieldsLeft, fields-counted, none-left, some-left}
+use Rattle.delivery_items.proofs.FieldsParted.{fieldsLeft, fields-counted, none-left, some-left}
 use Rattle.delivery_items.proofs.field_count.Statement.{statement}
 use Rattle.delivery_items.proofs.field_count.Tie as tie
 
+-- ---- the loop's invariant and its measure
 abbrev Inv-loop : tie.InvT-loop
 Inv-loop line count₀ from₀ count from = (from ≤ length line) × (count ≤ from + 1) × (count + fieldsLeft line from ≡ length (fieldsOf line))
 
@@ -16,6 +19,7 @@ abbrev μ-loop : tie.MeasureT-loop
 separator-from-requires : tie.Need-separator-from-requires Inv-loop μ-loop
 separator-from-requires c κs = omega arith
 
+-- ---- before the loop
 loop-holds : tie.Need-loop-holds Inv-loop μ-loop
 loop-holds c =
     let s = c .separator-from .ensures in
@@ -30,6 +34,7 @@ add-separator-from c = omega arith
 separator-from-requires-2 : tie.Need-separator-from-requires-2 Inv-loop μ-loop
 separator-from-requires-2 c κs = omega arith
 
+-- ---- a turn and the end
 loop-less : tie.Need-loop-less Inv-loop μ-loop
 loop-less c = omega (arith, c .separator-from2 .ensures .on)
 

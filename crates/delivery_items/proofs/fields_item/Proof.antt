@@ -1,9 +1,11 @@
+-- `fields_item` gives the row of a line's fields: three are a short row (`three-fields`), five a full
+-- one, whose two numbers are at most 65,535 (`five-fields`), any other number none (`other-fields`).
 use mathlib.Core.List.{List}
 use Prim.Native.Nat.{ℕ}
-use Rattle.entries.specs.Entries.{numberOf}
-use mathlib.Core.Path.{_≡_, refl, _∙_, sym, ap}
-use Rattle.delivery_items.proofs.Forms.{three-fields, five-fields, other-fields}
-use Rattle.entries.proofs.Numbers.{at-most}
+use Rattle.file_text_lines.specs.Entries.{wordNumber}
+use mathlib.Core.Path.{_∙_, ap}
+use Rattle.delivery_items.proofs.ItemForms.{three-fields, five-fields, other-fields}
+use Rattle.file_text_lines.proofs.NumberWords.{at-most}
 use borrow.Author.Needs.{needs}
 use Rattle.delivery_items.proofs.fields_item.Statement.{statement}
 use Rattle.delivery_items.proofs.fields_item.Tie as tie
@@ -11,51 +13,54 @@ use Rattle.delivery_items.proofs.fields_item.Tie as tie
 field-count-requires : tie.Need-field-count-requires
 field-count-requires c κs = search needs
 
-field-at-requires : tie.Need-field-at-requires
-field-at-requires c κs = search needs
+line-field-requires : tie.Need-line-field-requires
+line-field-requires c κs = search needs
 
-field-at-requires-2 : tie.Need-field-at-requires-2
-field-at-requires-2 c κs = search needs
+line-field-requires-2 : tie.Need-line-field-requires-2
+line-field-requires-2 c κs = search needs
 
-field-at-requires-3 : tie.Need-field-at-requires-3
-field-at-requires-3 c κs = search needs
+line-field-requires-3 : tie.Need-line-field-requires-3
+line-field-requires-3 c κs = search needs
 
 short-item-requires : tie.Need-short-item-requires
 short-item-requires c κs = search needs
 
+-- ---- three fields
 returns : tie.Need-returns
-returns c = three-fields _ _ (c .before .before .before .before .before .field-count .ensures) _ _ _ (c .before .before .before .before .field-at .ensures) (c .before .before .before .if1 .taken) (c .before .before .field-at2 .ensures) (c .before .field-at3 .ensures) _ (c .short-item .ensures)
+returns c = three-fields _ _ (c .before .before .before .before .before .field-count .ensures) _ _ _ (c .before .before .before .before .line-field .ensures) (c .before .before .before .if1 .taken) (c .before .before .line-field2 .ensures) (c .before .line-field3 .ensures) _ (c .short-item .ensures)
 
-field-at-requires-4 : tie.Need-field-at-requires-4
-field-at-requires-4 c κs = search needs
+line-field-requires-4 : tie.Need-line-field-requires-4
+line-field-requires-4 c κs = search needs
 
-field-at-requires-5 : tie.Need-field-at-requires-5
-field-at-requires-5 c κs = search needs
+line-field-requires-5 : tie.Need-line-field-requires-5
+line-field-requires-5 c κs = search needs
 
 short-item-requires-2 : tie.Need-short-item-requires-2
 short-item-requires-2 c κs = search needs
 
-field-at-requires-6 : tie.Need-field-at-requires-6
-field-at-requires-6 c κs = search needs
+line-field-requires-6 : tie.Need-line-field-requires-6
+line-field-requires-6 c κs = search needs
 
-number-of-requires : tie.Need-number-of-requires
-number-of-requires c κs = search needs
+word-number-requires : tie.Need-word-number-requires
+word-number-requires c κs = search needs
 
-field-at-requires-7 : tie.Need-field-at-requires-7
-field-at-requires-7 c κs = search needs
+line-field-requires-7 : tie.Need-line-field-requires-7
+line-field-requires-7 c κs = search needs
 
-number-of-requires-2 : tie.Need-number-of-requires-2
-number-of-requires-2 c κs = search needs
+word-number-requires-2 : tie.Need-word-number-requires-2
+word-number-requires-2 c κs = search needs
 
+-- ---- five fields
 full-item-requires : tie.Need-full-item-requires
-full-item-requires c κs = (at-most _ _ _ (c .before .before .number-of .ensures), at-most _ _ _ (c .number-of2 .ensures))
+full-item-requires c κs = (at-most _ _ _ (c .before .before .word-number .ensures), at-most _ _ _ (c .word-number2 .ensures))
 
 returns-2 : tie.Need-returns-2
-returns-2 c = five-fields _ _ (c .before .before .before .before .before .before .before .before .before .before .before .field-count .ensures) _ _ _ (c .before .before .before .before .before .before .before .before .before .before .field-at .ensures) (c .before .before .before .before .before .before .before .before .if2 .taken) (c .before .before .before .before .before .before .before .field-at4 .ensures) (c .before .before .before .before .before .before .field-at5 .ensures) _ (c .before .before .before .before .before .short-item2 .ensures) _ _ (c .before .before .before .number-of .ensures ∙ ap (λ (w : List ℕ). numberOf w 65535) (c .before .before .before .before .field-at6 .ensures)) (c .before .number-of2 .ensures ∙ ap (λ (w : List ℕ). numberOf w 65535) (c .before .before .field-at7 .ensures)) _ (c .full-item .ensures)
+returns-2 c = five-fields _ _ (c .before .before .before .before .before .before .before .before .before .before .before .field-count .ensures) _ _ _ (c .before .before .before .before .before .before .before .before .before .before .line-field .ensures) (c .before .before .before .before .before .before .before .before .if2 .taken) (c .before .before .before .before .before .before .before .line-field4 .ensures) (c .before .before .before .before .before .before .line-field5 .ensures) _ (c .before .before .before .before .before .short-item2 .ensures) _ _ (c .before .before .before .word-number .ensures ∙ ap (λ (w : List ℕ). wordNumber w 65535) (c .before .before .before .before .line-field6 .ensures)) (c .before .word-number2 .ensures ∙ ap (λ (w : List ℕ). wordNumber w 65535) (c .before .before .line-field7 .ensures)) _ (c .full-item .ensures)
 
 no-item-requires : tie.Need-no-item-requires
 no-item-requires c κs = search needs
 
+-- ---- another number of fields
 returns-3 : tie.Need-returns-3
 returns-3 c = c .no-item .ensures ∙ other-fields _ _ (c .before .before .before .before .field-count .ensures) (c .before .before .if1 .left) (c .before .if2 .left)
 
@@ -64,18 +69,18 @@ fields-item-spec =
     tie.close
     (tie.spec
     field-count-requires
-    field-at-requires
-    field-at-requires-2
-    field-at-requires-3
+    line-field-requires
+    line-field-requires-2
+    line-field-requires-3
     short-item-requires
     returns
-    field-at-requires-4
-    field-at-requires-5
+    line-field-requires-4
+    line-field-requires-5
     short-item-requires-2
-    field-at-requires-6
-    number-of-requires
-    field-at-requires-7
-    number-of-requires-2
+    line-field-requires-6
+    word-number-requires
+    line-field-requires-7
+    word-number-requires-2
     full-item-requires
     returns-2
     no-item-requires

@@ -1,5 +1,7 @@
-use Rattle.delivery_items.proofs.Forms.{full-none, full-is}
-use mathlib.Core.Path.{_≡_, refl, _∙_, sym, ap}
+-- `full_item` gives no row where the short row or a number is missing (`full-none`),
+-- else the row with both numbers (`full-is`), which fit 16 bits by what is required.
+use Rattle.delivery_items.proofs.ItemForms.{full-none, full-is}
+use mathlib.Core.Path.{_∙_}
 use borrow.Author.Tests.{not-true, not-false}
 use borrow.Author.Needs.{needs}
 use Rattle.delivery_items.proofs.full_item.Statement.{statement}

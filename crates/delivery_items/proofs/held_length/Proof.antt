@@ -1,8 +1,8 @@
-use mathlib.Core.Path.{_≡_, refl, _∙_, sym, ap}
+-- `held_length` gives at most 255, and as many bytes are those that the line holds: the array has 255, so taking more takes all of them.
+use mathlib.Core.Path.{_≡_, refl, _∙_, sym}
 use native.Mathlib.Omega.{arith}
 use lib.ListN.{length, length-map}
 use lib.Seq.{take-all}
-use borrow.Author.Needs.{needs}
 use Rattle.delivery_items.proofs.held_length.Statement.{statement}
 use Rattle.delivery_items.proofs.held_length.Tie as tie
 

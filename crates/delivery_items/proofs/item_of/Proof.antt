@@ -1,5 +1,6 @@
-use mathlib.Core.Path.{_≡_, refl, _∙_, sym, ap}
-use Rattle.delivery_items.proofs.Forms.{too-long, not-too-long}
+-- `item_of` gives no row of a line of more than 255 bytes (`too-long`), else that of its fields (`not-too-long`).
+use mathlib.Core.Path.{_∙_}
+use Rattle.delivery_items.proofs.ItemForms.{too-long, not-too-long}
 use borrow.Author.Needs.{needs}
 use Rattle.delivery_items.proofs.item_of.Statement.{statement}
 use Rattle.delivery_items.proofs.item_of.Tie as tie

@@ -1,5 +1,6 @@
-use mathlib.Core.Path.{_≡_, refl, _∙_, sym, ap}
-use Rattle.delivery_items.proofs.Forms.{key-month, key-friday}
+-- `key_read` gives a month's number where the field has 7 bytes (`key-month`), else the day of the Friday (`key-friday`).
+use mathlib.Core.Path.{_∙_}
+use Rattle.delivery_items.proofs.ItemForms.{key-month, key-friday}
 use borrow.Author.Needs.{needs}
 use Rattle.delivery_items.proofs.key_read.Statement.{statement}
 use Rattle.delivery_items.proofs.key_read.Tie as tie

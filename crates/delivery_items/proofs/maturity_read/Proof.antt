@@ -1,5 +1,6 @@
-use mathlib.Core.Path.{_≡_, refl, _∙_, sym, ap}
-use Rattle.delivery_items.proofs.Forms.{maturity-month, maturity-friday}
+-- `maturity_read` reads a field of 7 bytes as a month (`maturity-month`) and another as a date (`maturity-friday`).
+use mathlib.Core.Path.{_∙_}
+use Rattle.delivery_items.proofs.ItemForms.{maturity-month, maturity-friday}
 use borrow.Author.Needs.{needs}
 use Rattle.delivery_items.proofs.maturity_read.Statement.{statement}
 use Rattle.delivery_items.proofs.maturity_read.Tie as tie

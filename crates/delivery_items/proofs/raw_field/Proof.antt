@@ -1,18 +1,23 @@
-use mathlib.Core.Path.{_≡_, refl, _∙_, sym, ap}
+-- `raw_field` gives field k as it stands in the line. The loop keeps: `from` is within the line, i is
+-- at most k, and the fields after the first i are those of the line from `from` on. Where the line ends
+-- first there is none (`field-beyond`); at k the field goes up to the next separator (`field-here`).
+use mathlib.Core.Path.{_≡_, refl, _∙_, ap}
 use native.Mathlib.Omega.{arith}
 use Prim.Native.Nat.{_-_, _≤_}
 use lib.ListN.{length, drop}
 use Rattle.delivery_items.specs.Items.{fieldsOf, rawField}
-use Rattle.delivery_items.proofs.Parting.{fields-next, field-here, field-beyond}
+use Rattle.delivery_items.proofs.FieldsParted.{fields-next, field-here, field-beyond}
 use Rattle.delivery_items.proofs.raw_field.Statement.{statement}
 use Rattle.delivery_items.proofs.raw_field.Tie as tie
 
+-- ---- the loop's invariant and its measure
 abbrev Inv-loop : tie.InvT-loop
 Inv-loop line k from₀ i₀ from i = (from ≤ length line) × (i ≤ k) × (drop i (fieldsOf line) ≡ fieldsOf (drop from line))
 
 abbrev μ-loop : tie.MeasureT-loop
 μ-loop line k from₀ i₀ from i = k - i
 
+-- ---- before the loop
 loop-holds : tie.Need-loop-holds Inv-loop μ-loop
 loop-holds c = (omega arith, omega arith, refl)
 
@@ -22,6 +27,7 @@ separator-from-requires c κs = omega arith
 sub-result : tie.Need-sub-result Inv-loop μ-loop
 sub-result c = omega arith
 
+-- ---- a turn: the line ends, or the next field begins
 part-result-start : tie.Need-part-result-start Inv-loop μ-loop
 part-result-start c = omega (arith, c .before .separator-from .ensures .on)
 
@@ -50,6 +56,7 @@ loop-again c =
 separator-from-requires-2 : tie.Need-separator-from-requires-2 Inv-loop μ-loop
 separator-from-requires-2 c κs = omega arith
 
+-- ---- the end: field k
 sub-result-2 : tie.Need-sub-result-2 Inv-loop μ-loop
 sub-result-2 c = omega (arith, c .separator-from2 .ensures .on)
 

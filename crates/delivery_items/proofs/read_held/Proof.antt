@@ -1,8 +1,10 @@
-use mathlib.Core.Path.{_≡_, refl, _∙_, sym, ap}
+-- `read_held` gives what a held line says: where a byte after the first 255 is no blank it is no row (`held-over`), else it
+-- is read as a line (`held-whole`). The bytes that are read are those that the line holds, by what `held_length` promises.
+use mathlib.Core.Path.{_≡_, sym}
 use native.Mathlib.Omega.{arith}
 use lib.ListN.{length, length-map}
 use lib.Seq.{length-take-le}
-use Rattle.delivery_items.proofs.Forms.{held-over, held-whole}
+use Rattle.delivery_items.proofs.ItemForms.{held-over, held-whole}
 use borrow.Author.Needs.{needs}
 use Rattle.delivery_items.proofs.read_held.Statement.{statement}
 use Rattle.delivery_items.proofs.read_held.Tie as tie
@@ -10,6 +12,7 @@ use Rattle.delivery_items.proofs.read_held.Tie as tie
 held-length-requires : tie.Need-held-length-requires
 held-length-requires c κs = search needs
 
+-- ---- a line that is too long
 array-share-prefix-bytes : tie.Need-array-share-prefix-bytes
 array-share-prefix-bytes c =
     let l : length (c .before .before .before .args .line .bytes) ≡ 255 = simp length-map at (c .before .before .before .good .0 .1 .1 .0 .1 .0 .1) in
@@ -29,6 +32,7 @@ no-item-requires c κs = search needs
 returns : tie.Need-returns
 returns c = held-over (c .before .before .before .before .before .before .args .line) (c .before .before .before .before .before .held-length .result) (c .before .before .before .before .before .held-length .ensures .1) (c .before .before .before .if1 .taken) _ _ (c .before .is-headed .ensures) (c .no-item .ensures)
 
+-- ---- a line that is held whole
 array-share-prefix-bytes-2 : tie.Need-array-share-prefix-bytes-2
 array-share-prefix-bytes-2 c =
     let l : length (c .before .before .before .args .line .bytes) ≡ 255 = simp length-map at (c .before .before .before .good .0 .1 .1 .0 .1 .0 .1) in

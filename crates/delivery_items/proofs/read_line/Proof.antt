@@ -1,7 +1,8 @@
-use mathlib.Core.Path.{_≡_, refl, _∙_, sym, ap}
-use denote.Ref.{now}
+-- `read_line` gives what a line of any length says: what `read_trimmed` says of its first
+-- n bytes, which are the trimmed line by what `trimmed_length` promises (`line-is`).
+use mathlib.Core.Path.{sym}
 use lib.Seq.{length-take-le}
-use Rattle.delivery_items.proofs.Forms.{line-is}
+use Rattle.delivery_items.proofs.ItemForms.{line-is}
 use borrow.Author.Needs.{needs}
 use Rattle.delivery_items.proofs.read_line.Statement.{statement}
 use Rattle.delivery_items.proofs.read_line.Tie as tie

@@ -1,6 +1,7 @@
-use mathlib.Core.Path.{_≡_, refl, _∙_, sym, ap}
-use Rattle.delivery_items.proofs.Forms.{item-none, item-is}
-use Rattle.questions.proofs.Bools.{said-no, said-yes}
+-- `short_item` gives the row of three fields: none where the id, the maturity or the last day
+-- is none (`item-none`), else a row with the id's bytes, the key and the day (`item-is`).
+use mathlib.Core.Path.{_∙_}
+use Rattle.delivery_items.proofs.ItemForms.{item-none, item-is}
 use borrow.Author.Tests.{not-true, not-false}
 use borrow.Author.Needs.{needs}
 use Rattle.delivery_items.proofs.short_item.Statement.{statement}

@@ -1,6 +1,6 @@
-use mathlib.Core.Path.{_≡_, refl, _∙_, sym, ap}
-use native.Mathlib.Omega.{arith}
-use Rattle.delivery_items.proofs.Forms.{short-field, unquoted-start, unquoted-end, quoted}
+-- `unquote` drops a field's quotes. A field of fewer than two bytes (`short-field`) and one without a quote at its
+-- start (`unquoted-start`) or at its end (`unquoted-end`) stay; of another the bytes between are given (`quoted`).
+use Rattle.delivery_items.proofs.ItemForms.{short-field, unquoted-start, unquoted-end, quoted}
 use borrow.Author.Needs.{needs}
 use Rattle.delivery_items.proofs.unquote.Statement.{statement}
 use Rattle.delivery_items.proofs.unquote.Tie as tie

@@ -1,3 +1,4 @@
+-- `ends_blank` says whether the first n bytes end with a blank: none of them do not (`ends-none`), else the byte at n - 1 decides (`ends-some`).
 use mathlib.Core.Path.{_∙_}
 use borrow.Author.Needs.{needs}
 use Rattle.delivery_lines.proofs.Trimming.{ends-none, ends-some}
@@ -13,13 +14,10 @@ sub-is-blank c = search needs
 shared-slice-read-is-blank : tie.Need-shared-slice-read-is-blank
 shared-slice-read-is-blank c = search needs
 
-is-blank-requires : tie.Need-is-blank-requires
-is-blank-requires c κs = tt
-
 returns-2 : tie.Need-returns-2
 returns-2 c = c .is-blank .ensures ∙ ends-some _ _ (c .before .before .if1 .left)
 
 pub ends-blank-spec : {M : Type 1} → statement M
 ends-blank-spec =
     tie.close
-    (tie.spec returns sub-is-blank shared-slice-read-is-blank is-blank-requires returns-2)
+    (tie.spec returns sub-is-blank shared-slice-read-is-blank (λ c κs. tt) returns-2)

@@ -1,3 +1,5 @@
+-- `mark_length` gives 3 where the text begins with the three bytes of a byte order mark (`mark-whole`), and 0
+-- where it is shorter or one of them is another; each return by its test, and the length is within the text.
 use native.Mathlib.Omega.{arith}
 use borrow.Author.Needs.{needs}
 use Rattle.delivery_lines.proofs.Trimming.{mark-short, mark-first, mark-second, mark-third, mark-whole}

@@ -1,19 +1,23 @@
+-- `read_number` gives the number that a word is, held at 1,000,000,000; an empty word and one with a byte that is no digit are none. The loop keeps:
+-- the value is at most that, the bytes from i on are all digits exactly if the word is, and the value continued with them is, held, the word's.
 use mathlib.Core.Path.{_≡_, refl, sym, _∙_, ap}
 use Prim.Native.Nat.{_-_, _≤_}
 use native.Mathlib.Omega.{arith}
 use lib.ListN.{length, drop}
-use Rattle.delivery_lines.proofs.Values.{from-start, held-small, held-most, number-none, no-digit, one-digit, held-one, number-not, digits-whole, value-whole, number-is}
+use Rattle.delivery_lines.proofs.NoticeValues.{from-start, held-small, held-most, number-none, no-digit, one-digit, held-one, number-not, digits-whole, value-whole, number-is}
 use Rattle.questions.proofs.Bools.{said-no, said-yes}
 use Rattle.delivery_lines.specs.NoticeLines.{allDigits, valueFrom, valueOf, held}
 use Rattle.delivery_lines.proofs.read_number.Statement.{statement}
 use Rattle.delivery_lines.proofs.read_number.Tie as tie
 
+-- ---- the loop's invariant and its measure
 abbrev Inv-loop : tie.InvT-loop
 Inv-loop word none value₀ i₀ value i = (value ≤ 1000000000) × (i ≤ length word) × (allDigits (drop i word) ≡ allDigits word) × (held (valueFrom value (drop i word)) ≡ held (valueOf word))
 
 abbrev μ-loop : tie.MeasureT-loop
 μ-loop word none value₀ i₀ value i = length word - i
 
+-- ---- the empty word, and before the loop
 returns : tie.Need-returns Inv-loop μ-loop
 returns c = number-none _ (c .if1 .taken)
 
@@ -26,6 +30,7 @@ shared-slice-read-is-digit c = omega arith
 is-digit-requires : tie.Need-is-digit-requires Inv-loop μ-loop
 is-digit-requires c κs = tt
 
+-- ---- a turn: a byte that is no digit, or a digit more
 returns-2 : tie.Need-returns-2 Inv-loop μ-loop
 returns-2 c =
     number-not _ (sym (c .before .before .before .before .loop .inv .2) ∙ no-digit _ _ (c .before .before .before .loop-test .taken) (said-no (c .before .is-digit .ensures) (c .if2 .taken)))
@@ -36,8 +41,8 @@ shared-slice-read-digit-value c = omega arith
 digit-value-requires : tie.Need-digit-value-requires Inv-loop μ-loop
 digit-value-requires c κs = tt
 
-with-digit-requires : tie.Need-with-digit-requires Inv-loop μ-loop
-with-digit-requires c κs = (c .before .before .before .before .before .before .loop .inv .0, c .digit-value .ensures .1)
+digit-more-requires : tie.Need-digit-more-requires Inv-loop μ-loop
+digit-more-requires c κs = (c .before .before .before .before .before .before .loop .inv .0, c .digit-value .ensures .1)
 
 add-i : tie.Need-add-i Inv-loop μ-loop
 add-i c = omega arith
@@ -47,10 +52,11 @@ loop-less c = omega arith
 
 loop-again : tie.Need-loop-again Inv-loop μ-loop
 loop-again c =
-    let r = c .with-digit .ensures in
+    let r = c .digit-more .ensures in
     let e = c .before .digit-value .ensures .0 in
     (rw r (held-most _), omega arith, sym (one-digit _ _ (c .before .before .before .before .before .before .loop-test .taken) (said-yes (c .before .before .before .before .is-digit .ensures) (c .before .before .before .if2 .left))) ∙ c .before .before .before .before .before .before .before .loop .inv .2, held-one _ _ (c .before .before .before .before .before .before .loop-test .taken) _ _ (rw e at r) (c .before .before .before .before .before .before .before .loop .inv .3))
 
+-- ---- the end: the word is a number
 returns-3 : tie.Need-returns-3 Inv-loop μ-loop
 returns-3 c =
     let v = c .before .loop .inv in
@@ -69,7 +75,7 @@ read-number-spec =
     returns-2
     shared-slice-read-digit-value
     digit-value-requires
-    with-digit-requires
+    digit-more-requires
     add-i
     loop-less
     loop-again

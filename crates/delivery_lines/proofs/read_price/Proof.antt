@@ -1,17 +1,13 @@
+-- `read_price` gives the price that a word is. It is none where the whole or the part is none (`price-none`), held at 1,000,000,000
+-- above 99,999 (`price-large`), else 10,000 times the whole and the part (`price-small`), which fits since a part is at most 9,999.
 use Prim.Native.Nat.{_≤_}
 use native.Mathlib.Omega.{arith}
 use borrow.Author.Tests.{not-true, not-false}
 use borrow.Author.Needs.{needs}
-use Rattle.delivery_lines.proofs.Values.{price-none, price-large, price-small}
-use Rattle.entries.proofs.Numbers.{part-most}
+use Rattle.delivery_lines.proofs.NoticeValues.{price-none, price-large, price-small}
+use Rattle.file_text_lines.proofs.NumberWords.{part-most}
 use Rattle.delivery_lines.proofs.read_price.Statement.{statement}
 use Rattle.delivery_lines.proofs.read_price.Tie as tie
-
-read-whole-requires : tie.Need-read-whole-requires
-read-whole-requires c κs = tt
-
-part-read-requires : tie.Need-part-read-requires
-part-read-requires c κs = tt
 
 returns : tie.Need-returns
 returns c =
@@ -36,4 +32,4 @@ returns-3 c =
 pub read-price-spec : {M : Type 1} → statement M
 read-price-spec =
     tie.close
-    (tie.spec read-whole-requires part-read-requires returns returns-2 mul-t6 add-t7 returns-3)
+    (tie.spec (λ c κs. tt) (λ c κs. tt) returns returns-2 mul-t6 add-t7 returns-3)

@@ -1,3 +1,5 @@
+-- `trimmed_length` gives the length without the blanks at the end. The loop keeps: n is at most the line's length, and the first n bytes
+-- trimmed are the line trimmed; a turn drops a blank (`trim-more`), and where none ends them nothing is left to trim (`trim-done`).
 use mathlib.Core.Path.{_≡_, _∙_, sym, ap}
 use Prim.Native.Nat.{_<_, _≤_}
 use native.Mathlib.Omega.{arith}

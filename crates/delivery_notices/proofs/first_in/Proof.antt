@@ -1,6 +1,7 @@
+-- `first_in` gives the p of a measure and the day of another line: the definition's two cases, each by the test.
 use mathlib.Core.Path.{refl}
 use borrow.Author.Tests.{eq-eqb, ne-eqb}
-use Rattle.delivery_notices.specs.Lists.{firstIn}
+use Rattle.delivery_notices.specs.NoticeLists.{firstIn}
 use Rattle.delivery_notices.proofs.first_in.Statement.{statement}
 use Rattle.delivery_notices.proofs.first_in.Tie as tie
 

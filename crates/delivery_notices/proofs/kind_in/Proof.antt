@@ -1,6 +1,7 @@
+-- `kind_in` numbers the letters R, E and M by 0, 2 and 3 and every other by 1: the definition's tests in their order, each return by those before it.
 use mathlib.Core.Path.{refl}
 use borrow.Author.Tests.{eq-eqb, ne-eqb}
-use Rattle.delivery_notices.specs.Lists.{kindIn}
+use Rattle.delivery_notices.specs.NoticeLists.{kindIn}
 use Rattle.delivery_notices.proofs.kind_in.Statement.{statement}
 use Rattle.delivery_notices.proofs.kind_in.Tie as tie
 

@@ -1,8 +1,10 @@
+-- `line_end` gives the place of the first line feed from a place on, or the text's end. The loop keeps: i lies between `from`
+-- and the text's end, and no byte from `from` up to i is a line feed. It returns at a line feed, or at the end of the text.
 use mathlib.Core.Path.{_≡_}
 use Prim.Native.Nat.{_-_, _≤_, _<_}
 use native.Mathlib.Omega.{arith}
 use lib.ListN.{length, getD}
-use Rattle.delivery_notices.proofs.Ends.{none-more}
+use Rattle.delivery_notices.proofs.NoticeEnds.{none-more}
 use Rattle.delivery_notices.proofs.line_end.Statement.{statement}
 use Rattle.delivery_notices.proofs.line_end.Tie as tie
 

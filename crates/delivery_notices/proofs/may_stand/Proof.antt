@@ -1,3 +1,4 @@
+-- `may_stand` lets an O stand only where there was none, and another line only after one: the definition's two cases, each by the test.
 use mathlib.Core.Path.{refl}
 use borrow.Author.Tests.{eq-eqb, ne-eqb}
 use Rattle.delivery_notices.proofs.may_stand.Statement.{statement}

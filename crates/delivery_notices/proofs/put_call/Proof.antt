@@ -1,9 +1,12 @@
+-- `put_call` writes five numbers to the places of call i. The writes are the five of the
+-- contract, in its order; each place is within the list since a write keeps the length.
 use native.Mathlib.Omega.{arith}
 use lib.ListN.{length-set}
 use borrow.Author.Needs.{needs}
 use Rattle.delivery_notices.proofs.put_call.Statement.{statement}
 use Rattle.delivery_notices.proofs.put_call.Tie as tie
 
+-- ---- the first number
 mul-at : tie.Need-mul-at
 mul-at c = search needs
 
@@ -13,6 +16,7 @@ mul-calls c = search needs
 slice-write-calls : tie.Need-slice-write-calls
 slice-write-calls c = search needs
 
+-- ---- the four after it
 add-calls : tie.Need-add-calls
 add-calls c = search needs
 
@@ -49,6 +53,7 @@ mul-calls-5 c = search needs
 slice-write-calls-5 : tie.Need-slice-write-calls-5
 slice-write-calls-5 c = simp length-set (omega arith)
 
+-- ---- the list after them
 same-length : tie.Need-same-length
 same-length c = search needs
 

@@ -1,3 +1,5 @@
+-- `put_id` writes four bytes to the places of id i. The writes are the four of the
+-- contract, in its order; each place is within the list since a write keeps the length.
 use native.Mathlib.Omega.{arith}
 use lib.ListN.{length-set}
 use borrow.Author.Needs.{needs}

@@ -1,4 +1,5 @@
-use Rattle.delivery_notices.proofs.Taking.{read-all, read-most}
+-- `read_length` says how many bytes of a text are read: 65,537 of a longer one (`read-most`), all of another (`read-all`).
+use Rattle.delivery_notices.proofs.NoticesSoFar.{read-all, read-most}
 use Rattle.delivery_notices.proofs.read_length.Statement.{statement}
 use Rattle.delivery_notices.proofs.read_length.Tie as tie
 

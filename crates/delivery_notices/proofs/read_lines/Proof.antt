@@ -1,25 +1,30 @@
+-- `read_lines` takes all lines of a text into the lists. The loop keeps: the text and the lists have their lengths, and the lines before `from`
+-- are taken (`Going`), of which the room for the next follows. A turn takes one line more (`goes-on`); at the end all are taken (`all-lines`).
 use mathlib.Core.Path.{refl}
 use Prim.Native.Nat.{_-_, _≤_}
 use native.Mathlib.Omega.{arith}
 use lib.ListN.{length}
 use borrow.Author.Needs.{needs}
-use Rattle.delivery_notices.proofs.Taking.{Going, begins, goes-on, all-lines}
+use Rattle.delivery_notices.proofs.NoticesSoFar.{Going, begins, goes-on, all-lines}
 use Rattle.delivery_notices.proofs.read_lines.Statement.{statement}
 use Rattle.delivery_notices.proofs.read_lines.Tie as tie
 
+-- ---- the loop's invariant and its measure
 abbrev Inv-loop : tie.InvT-loop
 Inv-loop text long calls₀ ids₀ t₀ from₀ calls ids t from = (length text ≤ 65537) × (32770 ≤ length calls₀) × (26216 ≤ length ids₀) × Going text long calls₀ ids₀ t calls ids from
 
 abbrev μ-loop : tie.MeasureT-loop
 μ-loop text long calls₀ ids₀ t₀ from₀ calls ids t from = length text - from
 
-nothing-taken-requires : tie.Need-nothing-taken-requires Inv-loop μ-loop
-nothing-taken-requires c κs = tt
+no-notices-taken-requires : tie.Need-no-notices-taken-requires Inv-loop μ-loop
+no-notices-taken-requires c κs = tt
 
+-- ---- before the loop
 loop-holds : tie.Need-loop-holds Inv-loop μ-loop
 loop-holds c =
-    (c .before .before .before .before .pre .0, c .before .before .before .before .pre .1, c .before .before .before .before .pre .2, begins _ _ _ _ _ (c .nothing-taken .ensures))
+    (c .before .before .before .before .pre .0, c .before .before .before .before .pre .1, c .before .before .before .before .pre .2, begins _ _ _ _ _ (c .no-notices-taken .ensures))
 
+-- ---- a turn: the line, and the room for what it says
 line-end-requires : tie.Need-line-end-requires Inv-loop μ-loop
 line-end-requires c κs = omega (arith, c .loop-test .taken)
 
@@ -46,6 +51,7 @@ add-from : tie.Need-add-from Inv-loop μ-loop
 add-from c =
     omega (arith, c .before .before .before .before .before .before .before .before .line-end .ensures .within, c .before .before .before .before .before .before .before .before .before .before .loop .inv .0)
 
+-- ---- the invariant after it
 loop-less : tie.Need-loop-less Inv-loop μ-loop
 loop-less c =
     omega (arith, c .before .before .before .before .before .before .before .before .line-end .ensures .on, c .before .before .before .before .before .before .before .before .before .loop-test .taken)
@@ -55,6 +61,7 @@ loop-again c =
     let v = c .before .before .before .before .before .before .before .before .before .before .loop .inv in
     (v .0, v .1, v .2, goes-on _ _ _ _ _ _ _ _ _ (v .3) (c .before .before .before .before .before .before .before .before .before .loop-test .taken) (c .before .before .before .before .before .before .before .before .line-end .ensures) _ refl _ _ _ (c .before .before .before .before .take-line .ensures))
 
+-- ---- the end
 same-length : tie.Need-same-length Inv-loop μ-loop
 same-length c = c .before .loop .inv .3 .calls-long
 
@@ -70,7 +77,7 @@ read-lines-spec =
     (tie.spec
     Inv-loop
     μ-loop
-    nothing-taken-requires
+    no-notices-taken-requires
     loop-holds
     line-end-requires
     add-cut

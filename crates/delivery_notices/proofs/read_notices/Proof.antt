@@ -1,28 +1,20 @@
+-- `read_notices` reads nothing where a list is too short (`text-idle`); else the lines after a byte order mark are taken and the end
+-- is judged (`text-read`). The room of the lists is what `lists_fit` said, and the part read has at most 65,537 bytes (`rest-few`).
 use mathlib.Core.Path.{refl, sym}
 use lib.Seq.{length-take-le}
 use borrow.Author.Tests.{not-true, not-false}
 use borrow.Author.Needs.{needs}
-use Rattle.delivery_notices.proofs.Taking.{part-few, rest-few, text-read, text-idle, lists-room}
+use Rattle.delivery_notices.proofs.NoticesSoFar.{part-few, rest-few, text-read, text-idle, lists-room}
 use Rattle.delivery_notices.proofs.read_notices.Statement.{statement}
 use Rattle.delivery_notices.proofs.read_notices.Tie as tie
 
-lists-fit-requires : tie.Need-lists-fit-requires
-lists-fit-requires c κs = tt
-
-nothing-taken-requires : tie.Need-nothing-taken-requires
-nothing-taken-requires c κs = tt
-
+-- ---- a list that is too short
 returns : tie.Need-returns
-returns c = text-idle _ _ _ _ (c .nothing-taken .ensures) _ (c .before .before .lists-fit .ensures) (not-true _ (c .before .if1 .taken))
+returns c = text-idle _ _ _ _ (c .no-notices-taken .ensures) _ (c .before .before .lists-fit .ensures) (not-true _ (c .before .if1 .taken))
 
-read-length-requires : tie.Need-read-length-requires
-read-length-requires c κs = tt
-
+-- ---- the text's lines
 slice-aggregate-part : tie.Need-slice-aggregate-part
 slice-aggregate-part c = sym (length-take-le _ _ (part-few (c .before .before .before .before .before .before .before .args .text .now) _ (c .before .read-length .ensures)))
-
-mark-length-requires : tie.Need-mark-length-requires
-mark-length-requires c κs = tt
 
 sub-read-lines : tie.Need-sub-read-lines
 sub-read-lines c = search needs
@@ -47,6 +39,7 @@ same-length c = search needs
 same-length-2 : tie.Need-same-length-2
 same-length-2 c = search needs
 
+-- ---- what was read is the text's
 returns-2 : tie.Need-returns-2
 returns-2 c =
     text-read _ _ _ _ _ _ _ _ _ (c .before .before .before .before .before .before .before .before .before .before .before .read-length .ensures) (c .before .before .before .before .before .before .before .before .before .mark-length .ensures .0) refl (c .before .before .before .before .before .read-lines .ensures) _ (c .whole-taken .ensures) _ (c .before .before .before .before .before .before .before .before .before .before .before .before .before .lists-fit .ensures) (not-false _ (c .before .before .before .before .before .before .before .before .before .before .before .before .if1 .left))
@@ -55,12 +48,12 @@ pub read-notices-spec : {M : Type 1} → statement M
 read-notices-spec =
     tie.close
     (tie.spec
-    lists-fit-requires
-    nothing-taken-requires
+    (λ c κs. tt)
+    (λ c κs. tt)
     returns
-    read-length-requires
+    (λ c κs. tt)
     slice-aggregate-part
-    mark-length-requires
+    (λ c κs. tt)
     sub-read-lines
     part-read-lines-start
     part-read-lines-end

@@ -1,13 +1,9 @@
+-- `store_notice` puts one notice more after the first i of two lists: by `stored`, of the kind
+-- and the first number that their functions give and of the writes of `put_call` and `put_id`.
 use borrow.Author.Needs.{needs}
-use Rattle.delivery_notices.proofs.Storing.{stored}
+use Rattle.delivery_notices.proofs.NoticesStored.{stored}
 use Rattle.delivery_notices.proofs.store_notice.Statement.{statement}
 use Rattle.delivery_notices.proofs.store_notice.Tie as tie
-
-kind-in-requires : tie.Need-kind-in-requires
-kind-in-requires c κs = tt
-
-first-in-requires : tie.Need-first-in-requires
-first-in-requires c κs = tt
 
 put-call-requires : tie.Need-put-call-requires
 put-call-requires c κs = c .before .before .before .before .before .before .pre .0
@@ -41,8 +37,8 @@ pub store-notice-spec : {M : Type 1} → statement M
 store-notice-spec =
     tie.close
     (tie.spec
-    kind-in-requires
-    first-in-requires
+    (λ c κs. tt)
+    (λ c κs. tt)
     put-call-requires
     array-read-put-id
     array-read-put-id-2

@@ -1,4 +1,6 @@
-use Rattle.delivery_notices.proofs.Taking.{line-after-bad, line-cut, line-said}
+-- `take_line` takes a line: after a bad one nothing (`line-after-bad`), a cut one is bad (`line-cut`),
+-- another is taken by what it says (`line-said`). The lengths of the lists are those that `take_said` keeps.
+use Rattle.delivery_notices.proofs.NoticesSoFar.{line-after-bad, line-cut, line-said}
 use Rattle.delivery_notices.proofs.take_line.Statement.{statement}
 use Rattle.delivery_notices.proofs.take_line.Tie as tie
 
@@ -10,9 +12,6 @@ bad-taken-requires c κs = c .before .before .before .before .before .before .pr
 
 returns-2 : tie.Need-returns-2
 returns-2 c = rw (c .bad-taken .ensures) (line-cut _ _ _ _ (c .before .before .if1 .left) _ (c .before .if2 .taken))
-
-notice-of-requires : tie.Need-notice-of-requires
-notice-of-requires c κs = tt
 
 take-said-requires : tie.Need-take-said-requires
 take-said-requires c κs =
@@ -35,7 +34,7 @@ take-line-spec =
     returns
     bad-taken-requires
     returns-2
-    notice-of-requires
+    (λ c κs. tt)
     take-said-requires
     same-length
     same-length-2

@@ -1,25 +1,26 @@
+-- `take_said` counts a line and takes what it says. Each return cites the tests before it: a line that says nothing, a bad one, one that
+-- may not stand here, the O with its date, or a notice that `store_notice` puts into the lists, which have room by what is required.
 use native.Mathlib.Omega.{arith}
 use borrow.Author.Needs.{needs}
-use Rattle.delivery_notices.proofs.Taking.{said-comment, said-bad, said-strayed, said-open, said-call}
+use Rattle.delivery_notices.proofs.NoticesSoFar.{said-comment, said-bad, said-strayed, said-open, said-call}
 use Rattle.questions.proofs.Bools.{said-no, said-yes}
 use Rattle.delivery_notices.proofs.take_said.Statement.{statement}
 use Rattle.delivery_notices.proofs.take_said.Tie as tie
 
+-- ---- a line that says nothing
 add-r : tie.Need-add-r
 add-r c = search needs
 
 returns : tie.Need-returns
 returns c = said-comment _ _ _ _ (c .before .before .before .before .pre .2) (c .if1 .taken)
 
+-- ---- the bad lines
 bad-taken-requires : tie.Need-bad-taken-requires
 bad-taken-requires c κs = c .before .before .before .before .before .pre .0
 
 returns-2 : tie.Need-returns-2
 returns-2 c =
     rw (c .bad-taken .ensures) (said-bad _ _ _ _ (c .before .before .before .before .before .before .pre .2) (c .before .before .if1 .left) (c .before .if2 .taken))
-
-may-stand-requires : tie.Need-may-stand-requires
-may-stand-requires c κs = tt
 
 bad-taken-requires-2 : tie.Need-bad-taken-requires-2
 bad-taken-requires-2 c κs = c .before .before .before .before .before .before .before .pre .0
@@ -28,6 +29,7 @@ returns-3 : tie.Need-returns-3
 returns-3 c =
     rw (c .bad-taken2 .ensures) (said-strayed _ _ _ _ (c .before .before .before .before .before .before .before .before .pre .2) (c .before .before .before .before .if1 .left) (c .before .before .before .if2 .left) (said-no (c .before .before .may-stand .ensures) (c .before .if3 .taken)))
 
+-- ---- the O
 add-r-2 : tie.Need-add-r-2
 add-r-2 c = search needs
 
@@ -35,6 +37,7 @@ returns-4 : tie.Need-returns-4
 returns-4 c =
     said-open _ _ _ _ (c .before .before .before .before .before .before .before .before .before .pre .2) (c .before .before .before .before .before .if1 .left) (c .before .before .before .before .if2 .left) (said-yes (c .before .before .before .may-stand .ensures) (c .before .before .if3 .left)) (c .before .if4 .taken)
 
+-- ---- a notice
 add-store-notice : tie.Need-add-store-notice
 add-store-notice c = search needs
 
@@ -67,7 +70,7 @@ take-said-spec =
     returns
     bad-taken-requires
     returns-2
-    may-stand-requires
+    (λ c κs. tt)
     bad-taken-requires-2
     returns-3
     add-r-2

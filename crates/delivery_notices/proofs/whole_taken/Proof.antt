@@ -1,5 +1,7 @@
+-- `whole_taken` judges the end of a text: one with an O (`whole-opened`) or with a bad
+-- line (`whole-bad`) stays as it is; of another a line is missing (`whole-missing`).
 use mathlib.Core.Path.{_∙_}
-use Rattle.delivery_notices.proofs.Taking.{whole-opened, whole-bad, whole-missing}
+use Rattle.delivery_notices.proofs.NoticesSoFar.{whole-opened, whole-bad, whole-missing}
 use Rattle.delivery_notices.proofs.whole_taken.Statement.{statement}
 use Rattle.delivery_notices.proofs.whole_taken.Tie as tie
 

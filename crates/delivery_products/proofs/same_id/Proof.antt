@@ -1,6 +1,6 @@
+-- `same_id` says whether two ids agree in their four bytes: the definition's four comparisons, by computing; the places are within the arrays.
 use mathlib.Core.Path.{refl}
-use Prim.Native.Nat.{_-_}
-use Rattle.master.specs.Products.{sameId}
+use Rattle.file_load.specs.Products.{sameId}
 use borrow.Author.Needs.{needs}
 use Rattle.delivery_products.proofs.same_id.Statement.{statement}
 use Rattle.delivery_products.proofs.same_id.Tie as tie

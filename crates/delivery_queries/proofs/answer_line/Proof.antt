@@ -1,22 +1,16 @@
 -- By what the line asks: nothing, a bad line, or the answer by what is known of its product.
 use Rattle.questions.proofs.Bools.{said-no, said-yes}
-use Rattle.printing.proofs.Writing.{unprinted, room-long}
+use Rattle.session_text.proofs.TextsInBuffer.{unprinted, room-long}
 use Rattle.delivery_queries.proofs.Answering.{printed-nothing, printed-bad, printed-answer, room-64}
 use borrow.Author.Needs.{needs}
 use Rattle.delivery_queries.proofs.answer_line.Statement.{statement}
 use Rattle.delivery_queries.proofs.answer_line.Tie as tie
-
-has-room-requires : tie.Need-has-room-requires
-has-room-requires c κs = tt
 
 same-length : tie.Need-same-length
 same-length c = search needs
 
 returns : tie.Need-returns
 returns c = unprinted (said-no (c .before .has-room .ensures) (c .if1 .taken))
-
-held-asks-requires : tie.Need-held-asks-requires
-held-asks-requires c κs = tt
 
 same-length-2 : tie.Need-same-length-2
 same-length-2 c = search needs
@@ -47,9 +41,6 @@ returns-3 c =
     printed-bad _ _ _ _ (at-held-asks .held-asks .ensures) _ _ (said-yes (at-has-room .has-room .ensures) (at-if1 .if1 .left))
     (at-if3 .if3 .taken) _ _ (at-put-bad .put-bad .ensures .0) (at-put-bad .put-bad .ensures .1)
 
-standing-requires : tie.Need-standing-requires
-standing-requires c κs = tt
-
 put-answer-requires : tie.Need-put-answer-requires
 put-answer-requires c κs =
     let at-if1 = c .before .before .before .before .before .before .before .before .before .before .before in
@@ -79,16 +70,16 @@ pub answer-line-spec : {M : Type 1} → statement M
 answer-line-spec =
     tie.close
     (tie.spec
-    has-room-requires
+    (λ c κs. tt)
     same-length
     returns
-    held-asks-requires
+    (λ c κs. tt)
     same-length-2
     returns-2
     put-bad-requires
     same-length-3
     returns-3
-    standing-requires
+    (λ c κs. tt)
     put-answer-requires
     same-length-4
     same-length-5

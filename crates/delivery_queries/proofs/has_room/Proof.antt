@@ -1,6 +1,6 @@
 -- The test answers whether a buffer has room for any answer.
 use mathlib.Core.Path.{sym}
-use Rattle.printing.proofs.Writing.{no-room, room-is}
+use Rattle.session_text.proofs.TextsInBuffer.{no-room, room-is}
 use borrow.Author.Needs.{needs}
 use Rattle.delivery_queries.proofs.has_room.Statement.{statement}
 use Rattle.delivery_queries.proofs.has_room.Tie as tie

@@ -11,20 +11,11 @@ use Rattle.delivery_queries.proofs.held_asks.Tie as tie
 array-read-if2 : tie.Need-array-read-if2
 array-read-if2 c = search needs
 
-bare-held-requires : tie.Need-bare-held-requires
-bare-held-requires c κs = tt
-
 returns : tie.Need-returns
 returns c = c .bare-held .ensures ∙ asks-comment _ (c .before .before .if1 .taken) (c .before .if2 .taken)
 
-bare-held-requires-2 : tie.Need-bare-held-requires-2
-bare-held-requires-2 c κs = tt
-
 returns-2 : tie.Need-returns-2
 returns-2 c = c .bare-held2 .ensures ∙ asks-long _ (c .before .before .if1 .taken) (c .before .if2 .left)
-
-held-length-requires : tie.Need-held-length-requires
-held-length-requires c κs = tt
 
 array-share-prefix-bytes : tie.Need-array-share-prefix-bytes
 array-share-prefix-bytes c =
@@ -39,9 +30,6 @@ slice-aggregate-question-of c =
     let l : length (start .args .line .bytes) ≡ 255 = simp length-map at (start .good .0 .1 .1 .0 .1 .0 .1) in
     sym (length-take-le _ _ (omega (arith, at-held-length .held-length .ensures .0, l)))
 
-question-of-requires : tie.Need-question-of-requires
-question-of-requires c κs = tt
-
 returns-3 : tie.Need-returns-3
 returns-3 c =
     let at-held-length = c .before .before in
@@ -55,12 +43,12 @@ held-asks-spec =
     tie.close
     (tie.spec
     array-read-if2
-    bare-held-requires
+    (λ c κs. tt)
     returns
-    bare-held-requires-2
+    (λ c κs. tt)
     returns-2
-    held-length-requires
+    (λ c κs. tt)
     array-share-prefix-bytes
     slice-aggregate-question-of
-    question-of-requires
+    (λ c κs. tt)
     returns-3)

@@ -1,20 +1,11 @@
 -- The answer of `find` says whether the id is there, and of which product.
-use Rattle.delivery_queries.proofs.Standings.{known-here, known-not}
+use Rattle.delivery_queries.proofs.QueryStandings.{known-here, known-not}
 use borrow.Author.Needs.{needs}
 use Rattle.delivery_queries.proofs.known_id.Statement.{statement}
 use Rattle.delivery_queries.proofs.known_id.Tie as tie
 
-find-requires : tie.Need-find-requires
-find-requires c κs = tt
-
 enum-known-block : tie.Need-enum-known-block
 enum-known-block c = search needs
-
-product-at-requires : tie.Need-product-at-requires
-product-at-requires c κs = tt
-
-is-weekly-requires : tie.Need-is-weekly-requires
-is-weekly-requires c κs = tt
 
 enum-told : tie.Need-enum-told
 enum-told c = search needs
@@ -33,10 +24,10 @@ pub known-id-spec : {M : Type 1} → statement M
 known-id-spec =
     tie.close
     (tie.spec
-    find-requires
+    (λ c κs. tt)
     enum-known-block
-    product-at-requires
-    is-weekly-requires
+    (λ c κs. tt)
+    (λ c κs. tt)
     enum-told
     returns
     returns-2)

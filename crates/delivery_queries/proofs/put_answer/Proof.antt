@@ -1,14 +1,11 @@
 -- A misfit is bad; any other question is answered after its line.
 use mathlib.Core.Path.{sym, _∙_}
 use native.Mathlib.Omega.{arith}
-use Rattle.delivery_answers.proofs.Lengths.{reply-short}
+use Rattle.delivery_answers.proofs.ReplyLengths.{reply-short}
 use Rattle.delivery_queries.proofs.Answering.{short-line, answer-bad, answer-reply}
 use borrow.Author.Needs.{needs}
 use Rattle.delivery_queries.proofs.put_answer.Statement.{statement}
 use Rattle.delivery_queries.proofs.put_answer.Tie as tie
-
-is-misfit-requires : tie.Need-is-misfit-requires
-is-misfit-requires c κs = tt
 
 put-bad-requires : tie.Need-put-bad-requires
 put-bad-requires c κs = omega (arith, c .before .before .before .before .pre)
@@ -25,9 +22,6 @@ returns c =
 
 put-held-requires : tie.Need-put-held-requires
 put-held-requires c κs = omega (arith, c .before .before .before .before .pre)
-
-reply-line-requires : tie.Need-reply-line-requires
-reply-line-requires c κs = tt
 
 put-line-requires : tie.Need-put-line-requires
 put-line-requires c κs =
@@ -52,12 +46,12 @@ pub put-answer-spec : {M : Type 1} → statement M
 put-answer-spec =
     tie.close
     (tie.spec
-    is-misfit-requires
+    (λ c κs. tt)
     put-bad-requires
     same-length
     returns
     put-held-requires
-    reply-line-requires
+    (λ c κs. tt)
     put-line-requires
     same-length-2
     returns-2)

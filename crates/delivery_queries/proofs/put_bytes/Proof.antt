@@ -5,7 +5,7 @@ use native.Mathlib.Omega.{arith}
 use lib.ListN.{length, take, length-set}
 use lib.Seq.{take-all}
 use borrow.Author.Needs.{needs}
-use Rattle.printing.specs.Buffer.{Written}
+use Rattle.session_text.specs.Buffer.{Written}
 use Rattle.delivery_queries.proofs.Answering.{put-none, put-more}
 use Rattle.delivery_queries.proofs.put_bytes.Statement.{statement}
 use Rattle.delivery_queries.proofs.put_bytes.Tie as tie

@@ -8,9 +8,6 @@ use borrow.Author.Needs.{needs}
 use Rattle.delivery_queries.proofs.put_held.Statement.{statement}
 use Rattle.delivery_queries.proofs.put_held.Tie as tie
 
-held-length-requires : tie.Need-held-length-requires
-held-length-requires c κs = tt
-
 array-share-prefix-bytes : tie.Need-array-share-prefix-bytes
 array-share-prefix-bytes c =
     let start = c .before .before .before in
@@ -23,9 +20,6 @@ slice-aggregate-trimmed-length c =
     let start = at-held-length .before .before .before in
     let l : length (start .args .line .bytes) ≡ 255 = simp length-map at (start .good .1 .1 .0 .1 .1 .0 .1 .0 .1) in
     sym (length-take-le (at-held-length .held-length .result) (start .args .line .bytes) (omega (arith, l, at-held-length .held-length .ensures .0)))
-
-trimmed-length-requires : tie.Need-trimmed-length-requires
-trimmed-length-requires c κs = tt
 
 array-share-prefix-bytes-2 : tie.Need-array-share-prefix-bytes-2
 array-share-prefix-bytes-2 c =
@@ -98,10 +92,10 @@ pub put-held-spec : {M : Type 1} → statement M
 put-held-spec =
     tie.close
     (tie.spec
-    held-length-requires
+    (λ c κs. tt)
     array-share-prefix-bytes
     slice-aggregate-trimmed-length
-    trimmed-length-requires
+    (λ c κs. tt)
     array-share-prefix-bytes-2
     slice-aggregate-put-bytes
     put-bytes-requires

@@ -1,14 +1,8 @@
 -- Found in the file, and delivered after the notices: each field is that of the definition.
-use Rattle.delivery_queries.proofs.Standings.{stands}
+use Rattle.delivery_queries.proofs.QueryStandings.{stands}
 use borrow.Author.Needs.{needs}
 use Rattle.delivery_queries.proofs.standing.Statement.{statement}
 use Rattle.delivery_queries.proofs.standing.Tie as tie
-
-known-id-requires : tie.Need-known-id-requires
-known-id-requires c κs = tt
-
-deliver-requires : tie.Need-deliver-requires
-deliver-requires c κs = tt
 
 same-length : tie.Need-same-length
 same-length c = search needs
@@ -20,4 +14,4 @@ returns c =
     stands _ _ _ _ _ _ _ _ _ _ _ (at-known-id .known-id .ensures .0) (at-known-id .known-id .ensures .1) (at-deliver .deliver .ensures)
 
 pub standing-spec : {M : Type 1} → statement M
-standing-spec = tie.close (tie.spec known-id-requires deliver-requires same-length returns)
+standing-spec = tie.close (tie.spec (λ c κs. tt) (λ c κs. tt) same-length returns)

@@ -1,4 +1,6 @@
-use mathlib.Core.Path.{_≡_, refl, _∙_, sym, ap}
+-- `is_word` says whether a word is a name. Another length is no (`other-length`). The loop keeps: the lengths are the same, i is
+-- at most that, and the bytes before i are equal; it returns no at the first that differs and yes at the end, both by `same-word`.
+use mathlib.Core.Path.{_≡_}
 use native.Mathlib.Omega.{arith}
 use Prim.Native.Nat.{_-_, _≤_}
 use mathlib.Core.Bool.{true}
@@ -7,7 +9,7 @@ use lib.Dec.{eqb}
 use borrow.Author.Tests.{eq-eqb, ne-eqb}
 use Rattle.questions.specs.Search.{every}
 use Rattle.questions.proofs.Search.{every-none, every-more, every-not}
-use Rattle.delivery_questions.proofs.Forms.{other-length, same-word}
+use Rattle.delivery_questions.proofs.QuestionForms.{other-length, same-word}
 use Rattle.delivery_questions.proofs.is_word.Statement.{statement}
 use Rattle.delivery_questions.proofs.is_word.Tie as tie
 

@@ -1,5 +1,6 @@
-use mathlib.Core.Path.{_≡_, refl, _∙_, sym, ap}
-use Rattle.delivery_receipts.proofs.Taking.{form-here, form-none}
+-- True exactly where the row's maturity has the form of its product's kind, or where the id is not in the file.
+-- Found, the product there says its kind and `is_weekly` is compared with the row (`form-here`); not found, it is true (`form-none`).
+use Rattle.delivery_receipts.proofs.RowsSoFar.{form-here, form-none}
 use borrow.Author.Needs.{needs}
 use Rattle.delivery_receipts.proofs.form_fits.Statement.{statement}
 use Rattle.delivery_receipts.proofs.form_fits.Tie as tie

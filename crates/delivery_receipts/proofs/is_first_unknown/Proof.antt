@@ -1,5 +1,6 @@
-use mathlib.Core.Path.{_≡_, refl, _∙_, sym, ap}
-use Rattle.questions.proofs.Bools.{said-no, said-yes}
+-- True exactly where the id of row `i` is not in the file and no row before has it.
+-- A known id is a no (`known-id`); for an unknown one the answer is that of `stands_first` (`unknown-id`).
+use mathlib.Core.Path.{_∙_, sym}
 use borrow.Author.Tests.{not-true, not-false}
 use Rattle.delivery_receipts.proofs.Gathering.{known-id, unknown-id}
 use borrow.Author.Needs.{needs}

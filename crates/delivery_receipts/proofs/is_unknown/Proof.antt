@@ -1,10 +1,12 @@
-use mathlib.Core.Path.{_≡_, refl, _∙_, sym, ap}
+-- True exactly where the id of row `i` is not in the file.
+-- The answer of `find` is told by its variant: a place means found (`find-there`), nothing means not found (`find-none`).
+use mathlib.Core.Path.{_∙_, sym, ap}
 use mathlib.Core.Bool.{not}
-use Rattle.delivery_products.proofs.Finding.{find-there, find-none}
+use Rattle.delivery_products.proofs.IdFound.{find-there, find-none}
 use mathlib.Core.List.{List}
 use Prim.Native.Nat.{ℕ}
 use denote.Ref.{now}
-use Rattle.master.specs.Load.{found}
+use Rattle.file_load.specs.Load.{found}
 use borrow.Author.Needs.{needs}
 use Rattle.delivery_receipts.proofs.is_unknown.Statement.{statement}
 use Rattle.delivery_receipts.proofs.is_unknown.Tie as tie

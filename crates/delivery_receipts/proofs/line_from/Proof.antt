@@ -1,8 +1,10 @@
-use mathlib.Core.Path.{_≡_, refl, _∙_, sym, ap}
+-- The line goes on with the part's bytes up to its line feed, or up to the part's end, and the answer says which.
+-- The loop keeps (`Going`): the bytes from `i` on bring after line `l` what those from `from` on bring after the line given; `i` is at least `from`.
+-- A line feed ends the line (`line-ends`), any other byte makes it longer (`goes`), and past the last byte the part ends (`part-ends`).
 use native.Mathlib.Omega.{arith}
 use Prim.Native.Nat.{_-_}
 use lib.ListN.{length}
-use Rattle.delivery_receipts.proofs.Feeding.{Going, begins, goes, line-ends, part-ends}
+use Rattle.delivery_receipts.proofs.RowLinesFed.{Going, begins, goes, line-ends, part-ends}
 use Rattle.delivery_receipts.proofs.line_from.Statement.{statement}
 use Rattle.delivery_receipts.proofs.line_from.Tie as tie
 
@@ -24,14 +26,14 @@ add-i c = omega arith
 returns : tie.Need-returns Inv-loop μ-loop
 returns c = line-ends _ _ _ _ _ (c .before .before .before .loop .inv) (c .before .before .loop-test .taken) (c .if1 .taken)
 
-extend-requires : tie.Need-extend-requires Inv-loop μ-loop
-extend-requires c κs = tt
+extend-long-requires : tie.Need-extend-long-requires Inv-loop μ-loop
+extend-long-requires c κs = tt
 
 loop-less : tie.Need-loop-less Inv-loop μ-loop
 loop-less c = omega arith
 
 loop-again : tie.Need-loop-again Inv-loop μ-loop
-loop-again c = goes _ _ _ _ _ (c .before .before .before .before .loop .inv) (c .before .before .before .loop-test .taken) (c .before .if1 .left) _ (c .extend .ensures)
+loop-again c = goes _ _ _ _ _ (c .before .before .before .before .loop .inv) (c .before .before .before .loop-test .taken) (c .before .if1 .left) _ (c .extend-long .ensures)
 
 returns-2 : tie.Need-returns-2 Inv-loop μ-loop
 returns-2 c = part-ends _ _ _ _ _ (c .before .loop .inv) (c .loop-test .left)
@@ -46,7 +48,7 @@ line-from-spec =
     shared-slice-read-byte
     add-i
     returns
-    extend-requires
+    extend-long-requires
     loop-less
     loop-again
     returns-2)

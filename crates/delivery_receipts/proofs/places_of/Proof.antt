@@ -1,26 +1,31 @@
-use mathlib.Core.Path.{_≡_, refl, _∙_, sym, ap}
+-- With room for `n` places, and `n` at most 65,536, the places of the product's rows among the first `n` stand at the list's start.
+-- The loop keeps (`Gathering`): the first `size` places are those of the product among the first `i` rows, `size` is at most `i`, `i` at most `n`,
+-- and the list is as long as it was. In the two early returns these conditions do not hold.
+use mathlib.Core.Path.{_∙_, ap}
 use native.Mathlib.Omega.{arith}
 use Prim.Native.Nat.{_-_}
-use Rattle.master.specs.Products.{sameId}
+use Rattle.file_load.specs.Products.{sameId}
 use mathlib.Core.List.{List}
 use Prim.Native.Nat.{ℕ, _-_}
-use Rattle.delivery_receipts.specs.Receiving.{idIn}
 use Rattle.delivery_receipts.proofs.Gathering.{Gathering, starts, place-room, place-small, gathers, gathered, none-gathered}
 use Rattle.delivery_receipts.proofs.places_of.Statement.{statement}
 use Rattle.delivery_receipts.proofs.places_of.Tie as tie
 
+-- ---- what the loop keeps
 abbrev Inv-loop : tie.InvT-loop
 Inv-loop id ids n places₀ size₀ i₀ places size i = Gathering id ids n places₀ places size i
 
 abbrev μ-loop : tie.MeasureT-loop
 μ-loop id ids n places₀ size₀ i₀ places size i = n - i
 
+-- ---- no room
 returns : tie.Need-returns Inv-loop μ-loop
 returns c = none-gathered _ _ _ _ (λ s r. omega (arith, c .if1 .taken))
 
 returns-2 : tie.Need-returns-2 Inv-loop μ-loop
 returns-2 c = none-gathered _ _ _ _ (λ s r. omega (arith, c .if2 .taken))
 
+-- ---- the loop
 loop-holds : tie.Need-loop-holds Inv-loop μ-loop
 loop-holds c = starts _ _ _ _ (c .before .if1 .left) (c .if2 .left)
 
@@ -42,6 +47,7 @@ loop-less c = omega arith
 loop-again : tie.Need-loop-again Inv-loop μ-loop
 loop-again c = gathers _ _ _ _ _ _ _ (c .before .before .before .before .before .before .before .loop .inv) (c .before .before .before .before .before .before .loop-test .taken) _ (c .before .before .before .before .same-id .ensures ∙ ap (λ (x : List ℕ). sameId x (c .before .before .before .before .before .before .before .before .before .before .before .before .args .id)) (c .before .before .before .before .before .id-in .ensures)) _ _ (c .before .before .put-place .ensures .0) (c .before .before .put-place .ensures .1)
 
+-- ---- the end
 same-length : tie.Need-same-length Inv-loop μ-loop
 same-length c = c .before .loop .inv .long
 

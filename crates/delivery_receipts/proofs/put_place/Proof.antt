@@ -1,4 +1,6 @@
-use mathlib.Core.Path.{_≡_, refl, _∙_, sym, ap}
+-- Where the row is the product's, its place stands at `size` and the count is one more; else list and count are as they were.
+-- Both sides follow from the value of `is`; the bounds that are required make the write and the cast right.
+use mathlib.Core.Path.{refl}
 use native.Mathlib.Omega.{arith}
 use borrow.Author.Needs.{needs}
 use Rattle.delivery_receipts.proofs.put_place.Statement.{statement}

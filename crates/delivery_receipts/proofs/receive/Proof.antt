@@ -1,6 +1,7 @@
-use mathlib.Core.Path.{_≡_, refl, _∙_, sym, ap}
+-- The state after a line is that of the definition.
+-- Six returns, one for each sort of line, each citing the tests before it: after a row too many, empty, heading, bad, good, one too many.
 use borrow.Author.Tests.{not-true, not-false}
-use Rattle.delivery_receipts.proofs.Taking.{is-ended, is-empty, is-heading, is-bad, is-row, is-too-many}
+use Rattle.delivery_receipts.proofs.RowsSoFar.{is-ended, is-empty, is-heading, is-bad, is-row, is-too-many}
 use borrow.Author.Needs.{needs}
 use Rattle.delivery_receipts.proofs.receive.Statement.{statement}
 use Rattle.delivery_receipts.proofs.receive.Tie as tie

@@ -1,4 +1,6 @@
-use mathlib.Core.Path.{_≡_, refl, _∙_, sym, ap}
+-- 65,536 where all six lengths suffice, else 0, and so at most 65,536.
+-- Each side of the test is the side of the `cond` with the same test.
+use mathlib.Core.Path.{refl, sym}
 use native.Mathlib.Omega.{arith}
 use Rattle.delivery_receipts.proofs.room_of.Statement.{statement}
 use Rattle.delivery_receipts.proofs.room_of.Tie as tie

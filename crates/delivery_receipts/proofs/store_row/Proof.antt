@@ -1,10 +1,13 @@
-use mathlib.Core.Path.{_≡_, refl, _∙_, sym, ap}
+-- The six lists have the row as row `i`: four bytes of the id from 4 × `i` on, and an entry at `i` in each of the other five.
+-- The lists after the writes are those of `RowStored` by computing; the mark of a full row cites its call. The lengths required bound the writes.
+use mathlib.Core.Path.{refl}
 use native.Mathlib.Omega.{arith}
 use lib.ListN.{length-set}
 use borrow.Author.Needs.{needs}
 use Rattle.delivery_receipts.proofs.store_row.Statement.{statement}
 use Rattle.delivery_receipts.proofs.store_row.Tie as tie
 
+-- ---- the four bytes of the id
 mul-at : tie.Need-mul-at
 mul-at c = search needs
 
@@ -41,6 +44,7 @@ add-ids-3 c = search needs
 slice-write-ids-4 : tie.Need-slice-write-ids-4
 slice-write-ids-4 c = simp length-set (omega arith)
 
+-- ---- the other five lists
 mul-keys : tie.Need-mul-keys
 mul-keys c = search needs
 
@@ -71,6 +75,7 @@ mul-backs c = search needs
 slice-write-backs : tie.Need-slice-write-backs
 slice-write-backs c = search needs
 
+-- ---- the lengths
 same-length : tie.Need-same-length
 same-length c = search needs
 
@@ -89,6 +94,7 @@ same-length-5 c = search needs
 same-length-6 : tie.Need-same-length-6
 same-length-6 c = search needs
 
+-- ---- the row
 returns : tie.Need-returns
 returns c = record { ids = refl; keys = refl; days = refl; fulls = rw (c .full-mark .ensures) refl; numbers = refl; backs = refl }
 

@@ -1,12 +1,16 @@
-use mathlib.Core.Path.{_≡_, refl, _∙_, sym, ap}
+-- The state and the lists after the line are those of the definition, and the lists are as long as they were.
+-- Where the count of rows is the same, no row is stored (`none-stored`); else the line is a good row, the lists have room for it (`has-room`),
+-- and the row stored by `store_row` is the one the definition adds (`one-stored`).
+use mathlib.Core.Path.{_∙_, ap}
 use Prim.Native.Nat.{ℕ}
 use denote.Ref.{now}
 use Rattle.delivery_receipts.specs.Receiving.{Lists, receiving}
-use Rattle.delivery_receipts.proofs.Taking.{none-stored, has-room, one-stored, held-four, room-is}
+use Rattle.delivery_receipts.proofs.RowsSoFar.{none-stored, has-room, one-stored, held-four, room-is}
 use borrow.Author.Needs.{needs}
 use Rattle.delivery_receipts.proofs.take_line.Statement.{statement}
 use Rattle.delivery_receipts.proofs.take_line.Tie as tie
 
+-- ---- the line read
 room-of-requires : tie.Need-room-of-requires
 room-of-requires c κs = search needs
 
@@ -16,11 +20,13 @@ read-held-requires c κs = search needs
 receive-requires : tie.Need-receive-requires
 receive-requires c κs = search needs
 
+-- ---- no row
 returns : tie.Need-returns
 returns c =
     let b : Lists = (record { ids = now (c .before .before .before .before .before .before .before .before .before .before .before .before .before .args .ids); keys = now (c .before .before .before .before .before .before .before .before .before .before .before .before .before .args .keys); days = now (c .before .before .before .before .before .before .before .before .before .before .before .before .before .args .days); fulls = now (c .before .before .before .before .before .before .before .before .before .before .before .before .before .args .fulls); numbers = now (c .before .before .before .before .before .before .before .before .before .before .before .before .before .args .numbers); backs = now (c .before .before .before .before .before .before .before .before .before .before .before .before .before .args .backs) }) in
     none-stored (now (c .before .before .before .before .before .before .before .before .before .before .before .before .before .args .file)) (c .before .before .before .before .before .before .before .before .before .before .before .before .before .args .s) (c .before .before .before .before .before .before .before .before .before .before .before .before .before .args .line) b (c .before .before .before .before .read-held .result) (c .before .before .before .before .read-held .ensures) (c .before .before .before .receive .result) (c .before .before .before .receive .ensures ∙ ap (λ (room : ℕ). receiving room (now (c .before .before .before .before .before .before .before .before .before .before .before .before .before .args .file)) (c .before .before .before .before .before .before .before .before .before .before .before .before .before .args .s) (c .before .before .before .before .read-held .result)) (room-is b _ (c .before .before .before .before .before .room-of .ensures .1))) (c .if1 .taken)
 
+-- ---- one row more
 cast-i : tie.Need-cast-i
 cast-i c = search needs
 

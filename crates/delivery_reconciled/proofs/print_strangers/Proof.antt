@@ -1,7 +1,7 @@
 -- One row after the other, as long as there is one and room for its line.
 use Prim.Native.Nat.{_-_}
 use native.Mathlib.Omega.{arith}
-use Rattle.delivery_inputs.proofs.Lines.{line-fits}
+use Rattle.delivery_inputs.proofs.ShortLines.{line-fits}
 use Rattle.delivery_reconciled.proofs.Strangers.{Printing, begins, goes, ends, has-more, row-short}
 use Rattle.delivery_reconciled.proofs.print_strangers.Statement.{statement}
 use Rattle.delivery_reconciled.proofs.print_strangers.Tie as tie
@@ -18,12 +18,12 @@ loop-holds c = begins _ _ _ _ _
 goes-on-requires : tie.Need-goes-on-requires Inv-loop μ-loop
 goes-on-requires c κs = tt
 
-row-line-requires : tie.Need-row-line-requires Inv-loop μ-loop
-row-line-requires c κs = tt
+id-row-line-requires : tie.Need-id-row-line-requires Inv-loop μ-loop
+id-row-line-requires c κs = tt
 
 append-requires : tie.Need-append-requires Inv-loop μ-loop
 append-requires c κs =
-    (line-fits _ (row-short _ _ _) _ (c .before .row-line .ensures), has-more _ _ _ _ (c .before .before .before .goes-on .ensures) (c .before .before .if1 .taken) .1)
+    (line-fits _ (row-short _ _ _) _ (c .before .id-row-line .ensures), has-more _ _ _ _ (c .before .before .before .goes-on .ensures) (c .before .before .if1 .taken) .1)
 
 line-count-requires : tie.Need-line-count-requires Inv-loop μ-loop
 line-count-requires c κs = tt
@@ -46,7 +46,7 @@ loop-less c =
 
 loop-again : tie.Need-loop-again Inv-loop μ-loop
 loop-again c =
-    goes _ _ _ _ _ _ _ _ _ (c .before .before .before .before .before .before .before .before .before .loop .inv) (c .before .before .before .before .before .before .before .goes-on .ensures) (c .before .before .before .before .before .before .if1 .taken) _ (c .before .before .before .before .before .row-line .ensures) _ _
+    goes _ _ _ _ _ _ _ _ _ (c .before .before .before .before .before .before .before .before .before .loop .inv) (c .before .before .before .before .before .before .before .goes-on .ensures) (c .before .before .before .before .before .before .if1 .taken) _ (c .before .before .before .before .before .id-row-line .ensures) _ _
     (c .before .before .before .append .ensures .0) (c .before .before .before .append .ensures .1) _ (c .line-count .ensures .0)
 
 same-length : tie.Need-same-length Inv-loop μ-loop
@@ -63,7 +63,7 @@ print-strangers-spec =
     μ-loop
     loop-holds
     goes-on-requires
-    row-line-requires
+    id-row-line-requires
     append-requires
     line-count-requires
     add-lines

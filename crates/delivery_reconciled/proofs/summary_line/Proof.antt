@@ -1,6 +1,6 @@
 -- Four numbers and the words between them, one after the other.
-use Rattle.contents.proofs.Building.{first, then}
-use Rattle.delivery_answers.proofs.Texts.{bytes}
+use Rattle.file_text_print.proofs.Building.{first, then}
+use Rattle.delivery_answers.proofs.ReplyTexts.{bytes}
 use Rattle.delivery_reconciled.specs.Reconciled.{summaryText}
 use borrow.Author.Needs.{needs}
 use Rattle.delivery_reconciled.proofs.summary_line.Statement.{statement}

@@ -1,23 +1,12 @@
+-- The line of a refused file is `master.bin: NO `, the refusal's number and a line feed: what the four calls add, joined.
 use borrow.Author.Needs.{needs}
-use Rattle.contents.proofs.Building.{then, one, first}
+use Rattle.file_text_print.proofs.Building.{then, one, first}
 use Rattle.delivery_refusals.specs.Refusals.{masterText}
 use Rattle.delivery_refusals.proofs.master_line.Statement.{statement}
 use Rattle.delivery_refusals.proofs.master_line.Tie as tie
 
-empty-line-requires : tie.Need-empty-line-requires
-empty-line-requires c κs = tt
-
 slice-aggregate-with-bytes : tie.Need-slice-aggregate-with-bytes
 slice-aggregate-with-bytes c = search needs
-
-with-bytes-requires : tie.Need-with-bytes-requires
-with-bytes-requires c κs = tt
-
-with-decimal-requires : tie.Need-with-decimal-requires
-with-decimal-requires c κs = tt
-
-extend-requires : tie.Need-extend-requires
-extend-requires c κs = tt
 
 returns : tie.Need-returns
 unfolding masterText
@@ -28,9 +17,9 @@ pub master-line-spec : {M : Type 1} → statement M
 master-line-spec =
     tie.close
     (tie.spec
-    empty-line-requires
+    (λ c κs. tt)
     slice-aggregate-with-bytes
-    with-bytes-requires
-    with-decimal-requires
-    extend-requires
+    (λ c κs. tt)
+    (λ c κs. tt)
+    (λ c κs. tt)
     returns)

@@ -1,13 +1,12 @@
+-- `with_number` adds a number of up to five digits: below 10,000 what `with_decimal`
+-- adds, found by search; else its first digit and its last four (`number-large`).
 use borrow.Author.Needs.{needs}
-use Rattle.delivery_refusals.proofs.Telling.{number-large}
+use Rattle.delivery_refusals.proofs.RefusalsTold.{number-large}
 use Rattle.delivery_refusals.proofs.with_number.Statement.{statement}
 use Rattle.delivery_refusals.proofs.with_number.Tie as tie
 
 cast-with-decimal : tie.Need-cast-with-decimal
 cast-with-decimal c = search needs
-
-with-decimal-requires : tie.Need-with-decimal-requires
-with-decimal-requires c κs = tt
 
 returns : tie.Need-returns
 returns c = search needs
@@ -15,14 +14,8 @@ returns c = search needs
 cast-with-digit : tie.Need-cast-with-digit
 cast-with-digit c = search needs
 
-with-digit-requires : tie.Need-with-digit-requires
-with-digit-requires c κs = tt
-
 cast-with-four : tie.Need-cast-with-four
 cast-with-four c = search needs
-
-with-four-requires : tie.Need-with-four-requires
-with-four-requires c κs = tt
 
 returns-2 : tie.Need-returns-2
 returns-2 c = number-large _ _ _ _ (c .before .before .if1 .left) (c .before .with-digit .ensures) (c .with-four .ensures)
@@ -32,10 +25,10 @@ with-number-spec =
     tie.close
     (tie.spec
     cast-with-decimal
-    with-decimal-requires
+    (λ c κs. tt)
     returns
     cast-with-digit
-    with-digit-requires
+    (λ c κs. tt)
     cast-with-four
-    with-four-requires
+    (λ c κs. tt)
     returns-2)

@@ -1,13 +1,17 @@
+-- The line's bytes stand in the buffer from `at` on, all else as it was, and the answer is the place after them.
+-- The loop keeps: the first `i` bytes of the line are pasted at `at` in the buffer as it was, its length is the same, and `i` is at most `n`;
+-- at the end `i` is the line's length. One byte more is `byte-pasted`; the room of 64 bytes that is required bounds every write.
 use native.Mathlib.Omega.{arith}
 use borrow.Author.Needs.{needs}
 use mathlib.Core.Path.{_≡_, refl}
 use Prim.Native.Nat.{_+_, _-_, _≤_}
 use lib.ListN.{length, length-map, length-set}
 use lib.Seq.{paste, paste-zero}
-use Rattle.contents.proofs.Building.{byte-pasted}
+use Rattle.file_text_print.proofs.Building.{byte-pasted}
 use Rattle.delivery_reports.proofs.append.Statement.{statement}
 use Rattle.delivery_reports.proofs.append.Tie as tie
 
+-- ---- what the loop keeps
 abbrev Inv-loop : tie.InvT-loop
 Inv-loop out₀ at bytes n i₀ out i = (i ≤ n) × (n ≤ 64) × (at + 64 ≤ length out₀) × (length bytes ≡ 64) × (out ≡ paste out₀ at bytes i) × (length out ≡ length out₀)
 
@@ -20,6 +24,7 @@ loop-holds c =
     let l : length (start .args .line .bytes) ≡ 64 = simp length-map at (start .good .1 .1 .0 .1 .1 .0 .1 .0 .1) in
     (omega arith, omega arith, omega arith, l, paste-zero (start .args .out .now) (start .args .at) (start .args .line .bytes), refl)
 
+-- ---- one byte
 array-read-out : tie.Need-array-read-out Inv-loop μ-loop
 array-read-out c =
     let v = c .before .loop .inv in
@@ -45,6 +50,7 @@ loop-again c =
     let start = c .before .before .before in
     (omega arith, v .1, v .2, v .3, rw (v .4) (byte-pasted (start .args .out .now) (start .args .at) (start .args .line .bytes) (c .before .loop .i) (omega (arith, v .1, v .2)) (omega (arith, v .1, v .3))), simp length-set (v .5))
 
+-- ---- the end
 add-result : tie.Need-add-result Inv-loop μ-loop
 add-result c = search needs
 

@@ -1,10 +1,12 @@
-use mathlib.Core.Path.{_≡_, refl, _∙_, sym, ap}
+-- The line is the text of a key that differs: id, name, reason, delivered and right, with commas between and a line feed at the end.
+-- Each call adds its part to the line before it; `first`, `then` and `one` put the eleven parts together in the order of `differenceText`.
 use Rattle.delivery_reports.specs.Reports.{differenceText}
-use Rattle.contents.proofs.Building.{then, one, first}
+use Rattle.file_text_print.proofs.Building.{then, one, first}
 use borrow.Author.Needs.{needs}
 use Rattle.delivery_reports.proofs.difference_line.Statement.{statement}
 use Rattle.delivery_reports.proofs.difference_line.Tie as tie
 
+-- ---- what the calls need
 empty-line-requires : tie.Need-empty-line-requires
 empty-line-requires c κs = search needs
 
@@ -38,6 +40,7 @@ with-right-requires c κs = search needs
 extend-requires-5 : tie.Need-extend-requires-5
 extend-requires-5 c κs = search needs
 
+-- ---- the line
 returns : tie.Need-returns
 unfolding differenceText
 returns c =

@@ -1,5 +1,6 @@
-use native.Mathlib.Omega.{arith}
-use Rattle.delivery_reports.proofs.Going.{no-more, too-short, room-is}
+-- True exactly where there is another key and room for its line of 64 bytes.
+-- A `return` of the first test is `no-more`, of the second `too-short`; past both, the comparison with the length less 64 is `room-is`.
+use Rattle.delivery_reports.proofs.ReportLines.{no-more, too-short, room-is}
 use borrow.Author.Needs.{needs}
 use Rattle.delivery_reports.proofs.goes_on.Statement.{statement}
 use Rattle.delivery_reports.proofs.goes_on.Tie as tie

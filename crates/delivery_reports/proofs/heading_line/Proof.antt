@@ -1,7 +1,8 @@
-use mathlib.Core.Path.{_≡_, refl, _∙_, sym, ap}
+-- The line is the heading of the differences.
+-- It is the empty line fed with the heading's bytes, which are those of `differencesHeading`.
 use Rattle.delivery_reports.specs.Reports.{differencesHeading}
-use Rattle.contents.proofs.Building.{first}
-use Rattle.delivery_reports.proofs.Words.{fed-text}
+use Rattle.file_text_print.proofs.Building.{first}
+use Rattle.delivery_reports.proofs.BytesOnLine.{fed-text}
 use borrow.Author.Needs.{needs}
 use Rattle.delivery_reports.proofs.heading_line.Statement.{statement}
 use Rattle.delivery_reports.proofs.heading_line.Tie as tie

@@ -1,6 +1,7 @@
-use mathlib.Core.Path.{_≡_, refl, _∙_, sym, ap}
+-- The line of a key says how the maturities and the rows at the places differ there.
+-- `difference_line` writes the text of the difference that `difference_at` finds; the one is put for the other.
 use Rattle.delivery_reports.specs.Reports.{differenceText}
-use Rattle.contents.proofs.Building.{same}
+use Rattle.file_text_print.proofs.Building.{same}
 use borrow.Author.Needs.{needs}
 use Rattle.delivery_reports.proofs.key_line.Statement.{statement}
 use Rattle.delivery_reports.proofs.key_line.Tie as tie

@@ -1,13 +1,15 @@
-use mathlib.Core.Path.{_≡_, refl, _∙_, sym, ap}
+-- The lines of the keys that differ, from a key on, stand at the buffer's start as long as there is room, and the answer says what is left.
+-- The loop keeps (`Printing`): the first `length` bytes and the lines from `next` on are all lines from `from` on, `lines` counts those written,
+-- the buffer is unchanged past `length`, and `next` is a key that differs or 65,536. Each round moves `next` on, so it ends.
 use native.Mathlib.Omega.{arith}
-use Prim.Native.Nat.{_-_, _<_, _≤_}
+use Prim.Native.Nat.{_-_}
 use lib.ListN.{take}
-use borrow.Author.Needs.{needs}
 use Rattle.delivery_differences.specs.Differences.{rowsAt}
-use Rattle.delivery_reports.proofs.Going.{Printing, begins, goes, ends, has-more, line-fits, next-on}
+use Rattle.delivery_reports.proofs.ReportLines.{Printing, begins, goes, ends, has-more, line-fits, next-on}
 use Rattle.delivery_reports.proofs.print_differences.Statement.{statement}
 use Rattle.delivery_reports.proofs.print_differences.Tie as tie
 
+-- ---- what the loop keeps
 abbrev Inv-loop : tie.InvT-loop
 Inv-loop kind id maturities n places keys days fulls numbers backs from out₀ next₀ length₀ lines₀ out next length lines = Printing kind id (take n maturities) (rowsAt keys days fulls numbers backs places) from out₀ next length lines out
 
@@ -20,6 +22,7 @@ next-difference-requires c κs = tt
 loop-holds : tie.Need-loop-holds Inv-loop μ-loop
 loop-holds c = begins _ _ (c .before .before .before .before .before .before .before .before .good .1 .0 .1 .0 .1) _ _ _ _ _ (c .next-difference .ensures)
 
+-- ---- one round
 goes-on-requires : tie.Need-goes-on-requires Inv-loop μ-loop
 goes-on-requires c κs = tt
 
@@ -48,6 +51,7 @@ add-next-difference c =
 next-difference-requires-2 : tie.Need-next-difference-requires-2 Inv-loop μ-loop
 next-difference-requires-2 c κs = tt
 
+-- ---- the next round
 loop-less : tie.Need-loop-less Inv-loop μ-loop
 loop-less c =
     let h = has-more _ _ _ (c .before .before .before .before .before .before .before .goes-on .ensures) (c .before .before .before .before .before .before .if1 .taken) in
@@ -57,6 +61,7 @@ loop-less c =
 loop-again : tie.Need-loop-again Inv-loop μ-loop
 loop-again c = goes _ _ (c .before .before .before .before .before .before .before .before .before .before .before .before .before .before .before .before .before .before .good .1 .0 .1 .0 .1) _ _ _ _ _ _ _ _ (c .before .before .before .before .before .before .before .before .before .loop .inv) (c .before .before .before .before .before .before .before .goes-on .ensures) (c .before .before .before .before .before .before .if1 .taken) _ (c .before .before .before .before .before .key-line .ensures) _ _ (c .before .before .before .append .ensures .0) (c .before .before .before .append .ensures .1) _ (c .next-difference2 .ensures)
 
+-- ---- the end
 same-length : tie.Need-same-length Inv-loop μ-loop
 same-length c = c .before .before .before .loop .inv .long
 

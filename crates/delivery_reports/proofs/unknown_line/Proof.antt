@@ -1,7 +1,8 @@
-use mathlib.Core.Path.{_≡_, refl, _∙_, sym, ap}
+-- The line is that of an id that is not in the file: the id, and the bytes ',,product,,' with a line feed.
+-- The empty line gets the id and then the bytes; `first` and `then` join them to `unknownText`.
 use Rattle.delivery_reports.specs.Reports.{unknownText}
-use Rattle.contents.proofs.Building.{first, then}
-use Rattle.delivery_reports.proofs.Words.{fed-text}
+use Rattle.file_text_print.proofs.Building.{first, then}
+use Rattle.delivery_reports.proofs.BytesOnLine.{fed-text}
 use borrow.Author.Needs.{needs}
 use Rattle.delivery_reports.proofs.unknown_line.Statement.{statement}
 use Rattle.delivery_reports.proofs.unknown_line.Tie as tie

@@ -1,10 +1,12 @@
-use mathlib.Core.Path.{_≡_, refl, _∙_, sym, ap}
+-- The line has what was delivered more: a day, a decimal number, or nothing where the row is the same or missing.
+-- Seven arms, one for each reason: `Same` and `Missing` add no text, the others cite the call that writes the day, the number or the days back.
 use Rattle.delivery_reports.specs.Reports.{deliveredText}
-use Rattle.delivery_reports.proofs.Words.{no-text}
+use Rattle.delivery_reports.proofs.BytesOnLine.{no-text}
 use borrow.Author.Needs.{needs}
 use Rattle.delivery_reports.proofs.with_delivered.Statement.{statement}
 use Rattle.delivery_reports.proofs.with_delivered.Tie as tie
 
+-- ---- the reasons, and what the calls need
 enum-told : tie.Need-enum-told
 enum-told c = search needs
 
@@ -41,6 +43,7 @@ enum-told-7 c = search needs
 with-decimal-requires-2 : tie.Need-with-decimal-requires-2
 with-decimal-requires-2 c κs = search needs
 
+-- ---- one answer for each reason
 returns : tie.Need-returns
 unfolding deliveredText
 returns c = rw (c .enum-told .given .1) (no-text _)
@@ -69,6 +72,7 @@ returns-7 : tie.Need-returns-7
 unfolding deliveredText
 returns-7 c = rw (c .before .enum-told7 .given .1) (c .with-decimal2 .ensures)
 
+-- ---- all together
 pub with-delivered-spec : {M : Type 1} → statement M
 with-delivered-spec =
     tie.close

@@ -1,5 +1,7 @@
-use Rattle.printing.specs.Text.{monthText, yearMonth}
-use Rattle.contents.proofs.Building.{then, one}
+-- The line has the text of the month more: the year in four digits, a hyphen, the month in two.
+-- The three calls add these one after the other, and `then` joins them to `monthText`; the sums fit by search.
+use Rattle.session_text.specs.TermsText.{monthText, yearMonth}
+use Rattle.file_text_print.proofs.Building.{then, one}
 use borrow.Author.Needs.{needs}
 use Rattle.delivery_reports.proofs.with_month.Statement.{statement}
 use Rattle.delivery_reports.proofs.with_month.Tie as tie

@@ -1,5 +1,7 @@
-use mathlib.Core.Path.{_≡_, refl, _∙_, sym, ap}
-use Rattle.printing.specs.Text.{nameText}
+-- The line has the name of the maturity more: the date of its Friday for a weekly kind, else its month.
+-- The answer of `is_weekly` chooses the same side of `nameText` as the branch of the code, and each side cites the call that writes it.
+use mathlib.Core.Path.{_∙_, sym}
+use Rattle.session_text.specs.TermsText.{nameText}
 use borrow.Author.Needs.{needs}
 use Rattle.delivery_reports.proofs.with_name.Statement.{statement}
 use Rattle.delivery_reports.proofs.with_name.Tie as tie

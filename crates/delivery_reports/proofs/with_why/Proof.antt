@@ -1,10 +1,12 @@
-use mathlib.Core.Path.{_≡_, refl, _∙_, sym, ap}
+-- The line has the word of the reason more, nothing where the row is the same.
+-- Seven arms, one for each reason: `Same` adds no text, each of the others feeds the bytes that `whyText` has for it.
 use Rattle.delivery_reports.specs.Reports.{whyText}
-use Rattle.delivery_reports.proofs.Words.{no-text, fed-text}
+use Rattle.delivery_reports.proofs.BytesOnLine.{no-text, fed-text}
 use borrow.Author.Needs.{needs}
 use Rattle.delivery_reports.proofs.with_why.Statement.{statement}
 use Rattle.delivery_reports.proofs.with_why.Tie as tie
 
+-- ---- the reasons, and what the calls need
 enum-told : tie.Need-enum-told
 enum-told c = search needs
 
@@ -62,6 +64,7 @@ slice-aggregate-feed-6 c = search needs
 feed-requires-6 : tie.Need-feed-requires-6
 feed-requires-6 c κs = search needs
 
+-- ---- one answer for each reason
 returns : tie.Need-returns
 unfolding whyText
 returns c = rw (c .enum-told .given .1) (no-text _)
@@ -90,6 +93,7 @@ returns-7 : tie.Need-returns-7
 unfolding whyText
 returns-7 c = rw (c .before .before .enum-told7 .given .1) (fed-text _ _ _ (c .feed6 .ensures))
 
+-- ---- all together
 pub with-why-spec : {M : Type 1} → statement M
 with-why-spec =
     tie.close

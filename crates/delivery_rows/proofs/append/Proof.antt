@@ -1,25 +1,30 @@
+-- `append` writes a line's bytes from a place on and gives the place after them. The loop keeps: i is at most n, n at most 64, the buffer
+-- has room for 64 bytes and keeps its length, and it is the first one with i bytes pasted; a turn pastes one more (`byte-pasted`).
 use mathlib.Core.Path.{_≡_, refl}
 use Prim.Native.Nat.{_+_, _-_, _≤_}
 use native.Mathlib.Omega.{arith}
 use lib.ListN.{length, length-map, length-set}
 use lib.Seq.{paste, paste-zero}
 use borrow.Author.Needs.{needs}
-use Rattle.contents.proofs.Building.{byte-pasted}
+use Rattle.file_text_print.proofs.Building.{byte-pasted}
 use Rattle.delivery_rows.proofs.append.Statement.{statement}
 use Rattle.delivery_rows.proofs.append.Tie as tie
 
+-- ---- the loop's invariant and its measure
 abbrev Inv-loop : tie.InvT-loop
 Inv-loop out₀ at bytes n i₀ out i = (i ≤ n) × (n ≤ 64) × (at + 64 ≤ length out₀) × (length bytes ≡ 64) × (out ≡ paste out₀ at bytes i) × (length out ≡ length out₀)
 
 abbrev μ-loop : tie.MeasureT-loop
 μ-loop out₀ at bytes n i₀ out i = n - i
 
+-- ---- before the loop
 loop-holds : tie.Need-loop-holds Inv-loop μ-loop
 loop-holds c =
     let start = c .before in
     let l : length (start .args .line .bytes) ≡ 64 = simp length-map at (start .good .1 .1 .0 .1 .1 .0 .1 .0 .1) in
     (omega arith, omega arith, omega arith, l, paste-zero (start .args .out .now) (start .args .at) (start .args .line .bytes), refl)
 
+-- ---- a turn
 array-read-out : tie.Need-array-read-out Inv-loop μ-loop
 array-read-out c =
     let v = c .before .loop .inv in
@@ -48,6 +53,7 @@ loop-again c =
 add-result : tie.Need-add-result Inv-loop μ-loop
 add-result c = search needs
 
+-- ---- the end: i is n
 same-length : tie.Need-same-length Inv-loop μ-loop
 same-length c = c .before .loop .inv .5
 

@@ -1,6 +1,7 @@
+-- `has_room` says whether 1,024 bytes fit from a place on: not in a shorter buffer (`too-short`), else by the comparison (`room-is`).
 use mathlib.Core.Path.{sym}
 use borrow.Author.Needs.{needs}
-use Rattle.delivery_rows.proofs.Writing.{too-short, room-is}
+use Rattle.delivery_rows.proofs.RowsInBuffer.{too-short, room-is}
 use Rattle.delivery_rows.proofs.has_room.Statement.{statement}
 use Rattle.delivery_rows.proofs.has_room.Tie as tie
 

@@ -1,22 +1,18 @@
+-- `print_rows` writes nothing without room (`not-printed`); else the rows of as
+-- many maturities as the kind has places, of at most 15, by `put_rows` (`printed`).
 use mathlib.Core.Path.{_≡_}
 use lib.ListN.{length, length-map}
 use borrow.Author.Needs.{needs}
 use Rattle.questions.proofs.Bools.{said-no, said-yes}
-use Rattle.delivery_rows.proofs.Writing.{room-long, not-printed, printed}
+use Rattle.delivery_rows.proofs.RowsInBuffer.{room-long, not-printed, printed}
 use Rattle.delivery_rows.proofs.print_rows.Statement.{statement}
 use Rattle.delivery_rows.proofs.print_rows.Tie as tie
-
-has-room-requires : tie.Need-has-room-requires
-has-room-requires c κs = tt
 
 same-length : tie.Need-same-length
 same-length c = search needs
 
 returns : tie.Need-returns
 returns c = not-printed _ _ _ _ (said-no (c .before .has-room .ensures) (c .if1 .taken))
-
-places-of-kind-requires : tie.Need-places-of-kind-requires
-places-of-kind-requires c κs = tt
 
 cast-put-rows : tie.Need-cast-put-rows
 cast-put-rows c = search needs
@@ -43,10 +39,10 @@ pub print-rows-spec : {M : Type 1} → statement M
 print-rows-spec =
     tie.close
     (tie.spec
-    has-room-requires
+    (λ c κs. tt)
     same-length
     returns
-    places-of-kind-requires
+    (λ c κs. tt)
     cast-put-rows
     put-rows-requires
     same-length-2

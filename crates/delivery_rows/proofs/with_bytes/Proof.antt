@@ -1,9 +1,11 @@
+-- `with_bytes` gives a line with all bytes of a slice more. The loop keeps: the line so far, fed with the bytes
+-- from i on, is the first line fed with all; a turn is `fed-from`, and at the end nothing is left (`fed-done`).
 use mathlib.Core.Path.{_≡_, refl, _∙_, sym}
 use Prim.Native.Nat.{_-_}
 use native.Mathlib.Omega.{arith}
 use lib.ListN.{length, drop}
-use Rattle.lines.specs.Lines.{fed}
-use Rattle.delivery_rows.proofs.Writing.{fed-from, fed-done}
+use Rattle.session_lines.specs.CommandLines.{fed}
+use Rattle.delivery_rows.proofs.RowsInBuffer.{fed-from, fed-done}
 use Rattle.delivery_rows.proofs.with_bytes.Statement.{statement}
 use Rattle.delivery_rows.proofs.with_bytes.Tie as tie
 

@@ -1,23 +1,15 @@
+-- `with_month` adds the year in four digits, a dash and the month in two, which are `monthText`; both numbers fit 16 bits.
 use borrow.Author.Needs.{needs}
-use Rattle.contents.proofs.Building.{then, one}
-use Rattle.printing.specs.Text.{yearMonth, monthText}
+use Rattle.file_text_print.proofs.Building.{then, one}
+use Rattle.session_text.specs.TermsText.{yearMonth, monthText}
 use Rattle.delivery_rows.proofs.with_month.Statement.{statement}
 use Rattle.delivery_rows.proofs.with_month.Tie as tie
 
 add-with-four : tie.Need-add-with-four
 add-with-four c = search needs
 
-with-four-requires : tie.Need-with-four-requires
-with-four-requires c κs = tt
-
-extend-requires : tie.Need-extend-requires
-extend-requires c κs = tt
-
 add-with-two : tie.Need-add-with-two
 add-with-two c = search needs
-
-with-two-requires : tie.Need-with-two-requires
-with-two-requires c κs = tt
 
 returns : tie.Need-returns
 unfolding monthText yearMonth
@@ -28,8 +20,8 @@ with-month-spec =
     tie.close
     (tie.spec
     add-with-four
-    with-four-requires
-    extend-requires
+    (λ c κs. tt)
+    (λ c κs. tt)
     add-with-two
-    with-two-requires
+    (λ c κs. tt)
     returns)

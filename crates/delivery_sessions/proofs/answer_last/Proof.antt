@@ -1,14 +1,11 @@
 -- A line with no bytes has no answer; any other has that of a line.
-use Rattle.delivery_sessions.proofs.Passing.{no-last, last-line}
+use Rattle.delivery_sessions.proofs.QueryPassing.{no-last, last-line}
 use borrow.Author.Needs.{needs}
 use Rattle.delivery_sessions.proofs.answer_last.Statement.{statement}
 use Rattle.delivery_sessions.proofs.answer_last.Tie as tie
 
 returns : tie.Need-returns
 returns c = no-last _ _ _ _ (c .if1 .taken)
-
-answer-line-requires : tie.Need-answer-line-requires
-answer-line-requires c κs = tt
 
 same-length : tie.Need-same-length
 same-length c = search needs
@@ -24,4 +21,4 @@ returns-2 c =
 
 pub answer-last-spec : {M : Type 1} → statement M
 answer-last-spec =
-    tie.close (tie.spec returns answer-line-requires same-length same-length-2 returns-2)
+    tie.close (tie.spec returns (λ c κs. tt) same-length same-length-2 returns-2)

@@ -1,27 +1,15 @@
 -- The line goes on past the part, or its answer stands after the others.
 use borrow.Author.Tests.{not-true, not-false}
-use Rattle.delivery_sessions.proofs.Passing.{goes-past, is-answered}
+use Rattle.delivery_sessions.proofs.QueryPassing.{goes-past, is-answered}
 use borrow.Author.Needs.{needs}
 use Rattle.delivery_sessions.proofs.answer_next.Statement.{statement}
 use Rattle.delivery_sessions.proofs.answer_next.Tie as tie
-
-line-from-requires : tie.Need-line-from-requires
-line-from-requires c κs = tt
 
 returns : tie.Need-returns
 returns c =
     let at-line-from = c .before .before .before in
     let start = at-line-from .before .before .before .before .before .before .before .before in
     goes-past _ _ _ (start .args .s) (start .pre .0) (start .pre .1) _ (at-line-from .line-from .ensures) (not-true _ (c .if1 .taken))
-
-answer-line-requires : tie.Need-answer-line-requires
-answer-line-requires c κs = tt
-
-empty-line-requires : tie.Need-empty-line-requires
-empty-line-requires c κs = tt
-
-next-number-requires : tie.Need-next-number-requires
-next-number-requires c κs = tt
 
 same-length : tie.Need-same-length
 same-length c = search needs
@@ -31,23 +19,23 @@ same-length-2 c = search needs
 
 returns-2 : tie.Need-returns-2
 returns-2 c =
-    let at-empty-line = c .before in
-    let at-answer-line = at-empty-line .before .before .before .before .before in
+    let at-empty-long-line = c .before in
+    let at-answer-line = at-empty-long-line .before .before .before .before .before in
     let at-if1 = at-answer-line .before .before .before in
     let at-line-from = at-if1 .before .before .before in
     let start = at-line-from .before .before .before .before .before .before .before .before in
     is-answered _ _ _ (start .args .s) (start .pre .0) (start .pre .1) _ (at-line-from .line-from .ensures) (not-false _ (at-if1 .if1 .left)) _ _
-    _ _ (c .next-number .ensures) (at-empty-line .empty-line .ensures) (at-answer-line .answer-line .ensures)
+    _ _ (c .next-number .ensures) (at-empty-long-line .empty-long-line .ensures) (at-answer-line .answer-line .ensures)
 
 pub answer-next-spec : {M : Type 1} → statement M
 answer-next-spec =
     tie.close
     (tie.spec
-    line-from-requires
+    (λ c κs. tt)
     returns
-    answer-line-requires
-    empty-line-requires
-    next-number-requires
+    (λ c κs. tt)
+    (λ c κs. tt)
+    (λ c κs. tt)
     same-length
     same-length-2
     returns-2)

@@ -3,9 +3,9 @@ use mathlib.Core.Path.{_≡_, refl}
 use Prim.Native.Nat.{_-_}
 use native.Mathlib.Omega.{arith}
 use lib.ListN.{length}
-use Rattle.sessions.proofs.Passing.{has-next}
+use Rattle.session_parts.proofs.TermsPassing.{has-next}
 use Rattle.delivery_queries.specs.Queries.{standingIn}
-use Rattle.delivery_sessions.proofs.Passing.{Going, begins, goes, finishes}
+use Rattle.delivery_sessions.proofs.QueryPassing.{Going, begins, goes, finishes}
 use Rattle.delivery_sessions.proofs.answer_part.Statement.{statement}
 use Rattle.delivery_sessions.proofs.answer_part.Tie as tie
 

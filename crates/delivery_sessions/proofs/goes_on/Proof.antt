@@ -1,5 +1,7 @@
+-- `goes_on` says whether the part goes on at a place and the buffer has room for another answer: no at the part's
+-- end (`used-up`), no in a buffer of fewer than 512 bytes (`too-short`), else by the last comparison (`next-is`).
 use borrow.Author.Needs.{needs}
-use Rattle.sessions.proofs.Passing.{used-up, too-short, next-is}
+use Rattle.session_parts.proofs.TermsPassing.{used-up, too-short, next-is}
 use Rattle.delivery_sessions.proofs.goes_on.Statement.{statement}
 use Rattle.delivery_sessions.proofs.goes_on.Tie as tie
 

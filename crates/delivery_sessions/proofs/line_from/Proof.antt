@@ -1,8 +1,10 @@
-use mathlib.Core.Path.{_≡_, refl, _∙_, sym, ap}
+-- `line_from` feeds a line with a part from a place on. The loop keeps (`Fed`): i is at or after `from`, and
+-- the answers to the line so far with the part from i on are those to the first line with it from `from` on.
+-- At a line feed the line has ended (`line-ends`); at the end of the part it goes on (`part-ends`).
 use native.Mathlib.Omega.{arith}
 use Prim.Native.Nat.{_-_}
 use lib.ListN.{length}
-use Rattle.delivery_sessions.proofs.Feeding.{Fed, feeds-none, feeds, line-ends, part-ends}
+use Rattle.delivery_sessions.proofs.QueryLinesFed.{Fed, feeds-none, feeds, line-ends, part-ends}
 use Rattle.delivery_sessions.proofs.line_from.Statement.{statement}
 use Rattle.delivery_sessions.proofs.line_from.Tie as tie
 
@@ -24,8 +26,8 @@ add-i c = omega arith
 returns : tie.Need-returns Inv-loop μ-loop
 returns c = line-ends _ _ _ _ _ (c .before .before .before .loop .inv) (c .before .before .loop-test .taken) (c .if1 .taken)
 
-extend-requires : tie.Need-extend-requires Inv-loop μ-loop
-extend-requires c κs = tt
+extend-long-requires : tie.Need-extend-long-requires Inv-loop μ-loop
+extend-long-requires c κs = tt
 
 loop-less : tie.Need-loop-less Inv-loop μ-loop
 loop-less c = omega arith
@@ -35,7 +37,7 @@ loop-again c =
     let at-if1 = c .before in
     let at-In-loop = at-if1 .before .before in
     let at-loop = at-In-loop .before in
-    feeds _ _ _ _ _ (at-loop .loop .inv) (at-In-loop .loop-test .taken) (at-if1 .if1 .left) _ (c .extend .ensures)
+    feeds _ _ _ _ _ (at-loop .loop .inv) (at-In-loop .loop-test .taken) (at-if1 .if1 .left) _ (c .extend-long .ensures)
 
 returns-2 : tie.Need-returns-2 Inv-loop μ-loop
 returns-2 c = part-ends _ _ _ _ _ (c .before .loop .inv) (c .loop-test .left)
@@ -50,7 +52,7 @@ line-from-spec =
     shared-slice-read-byte
     add-i
     returns
-    extend-requires
+    extend-long-requires
     loop-less
     loop-again
     returns-2)

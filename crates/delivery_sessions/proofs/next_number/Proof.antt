@@ -1,5 +1,5 @@
 -- The last number of 64 bits stays.
-use Rattle.delivery_sessions.proofs.Passing.{number-more, number-most}
+use Rattle.delivery_sessions.proofs.QueryPassing.{number-more, number-most}
 use borrow.Author.Needs.{needs}
 use Rattle.delivery_sessions.proofs.next_number.Statement.{statement}
 use Rattle.delivery_sessions.proofs.next_number.Tie as tie

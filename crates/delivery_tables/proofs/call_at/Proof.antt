@@ -6,17 +6,17 @@ use Rattle.delivery_tables.proofs.call_at.Tie as tie
 mul-at : tie.Need-mul-at
 mul-at c = search needs
 
-add-number-at : tie.Need-add-number-at
-add-number-at c = search needs
+add-call-number : tie.Need-add-call-number
+add-call-number c = search needs
 
-add-number-at-2 : tie.Need-add-number-at-2
-add-number-at-2 c = search needs
+add-call-number-2 : tie.Need-add-call-number-2
+add-call-number-2 c = search needs
 
-add-number-at-3 : tie.Need-add-number-at-3
-add-number-at-3 c = search needs
+add-call-number-3 : tie.Need-add-call-number-3
+add-call-number-3 c = search needs
 
-add-number-at-4 : tie.Need-add-number-at-4
-add-number-at-4 c = search needs
+add-call-number-4 : tie.Need-add-call-number-4
+add-call-number-4 c = search needs
 
 returns : tie.Need-returns
 returns c = λ k.
@@ -24,20 +24,20 @@ returns c = λ k.
     let third = fourth .before in
     let second = third .before in
     let first = second .before in
-    rw (← first .number-at .ensures, ← second .number-at2 .ensures, ← third .number-at3 .ensures, ← fourth .number-at4 .ensures) (c .call-apart .ensures k)
+    rw (← first .call-number .ensures, ← second .call-number2 .ensures, ← third .call-number3 .ensures, ← fourth .call-number4 .ensures) (c .call-apart .ensures k)
 
 pub call-at-spec : {M : Type 1} → statement M
 call-at-spec =
     tie.close
     (tie.spec
     mul-at
-    add-number-at
+    add-call-number
     (λ c κs. tt)
-    add-number-at-2
+    add-call-number-2
     (λ c κs. tt)
-    add-number-at-3
+    add-call-number-3
     (λ c κs. tt)
-    add-number-at-4
+    add-call-number-4
     (λ c κs. tt)
     (λ c κs. tt)
     returns)

@@ -1,9 +1,8 @@
-use Rattle.delivery_tables.proofs.Taking.{not-made, all-made}
+-- `deliver` opens a product's table and takes the notices. A buffer without room for their refusals takes
+-- none (`not-made`); else the table is the opened one after all of them, as `take_notices` says (`all-made`).
+use Rattle.delivery_tables.proofs.NoticesOnTable.{not-made, all-made}
 use Rattle.delivery_tables.proofs.deliver.Statement.{statement}
 use Rattle.delivery_tables.proofs.deliver.Tie as tie
-
-open-in-requires : tie.Need-open-in-requires
-open-in-requires c κs = tt
 
 returns : tie.Need-returns
 returns c = not-made _ _ _ _ _ _ _ _ (c .before .before .open-in .ensures) (c .if1 .taken)
@@ -20,4 +19,4 @@ returns-2 c =
 
 pub deliver-spec : {M : Type 1} → statement M
 deliver-spec =
-    tie.close (tie.spec open-in-requires returns take-notices-requires same-length returns-2)
+    tie.close (tie.spec (λ c κs. tt) returns take-notices-requires same-length returns-2)

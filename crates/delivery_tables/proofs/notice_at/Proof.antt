@@ -1,15 +1,15 @@
 -- Whether the notice is a call of the product is what `concerns` says: where it is none all stays, else the call is made.
 use borrow.Author.Needs.{needs}
 use Rattle.questions.proofs.Bools.{said-no, said-yes}
-use Rattle.delivery_tables.proofs.Taking.{concerns-is, made-not, noticed-call}
+use Rattle.delivery_tables.proofs.NoticesOnTable.{concerns-is, made-not, noticed-call}
 use Rattle.delivery_tables.proofs.notice_at.Statement.{statement}
 use Rattle.delivery_tables.proofs.notice_at.Tie as tie
 
-mul-number-at : tie.Need-mul-number-at
-mul-number-at c = search needs
+mul-call-number : tie.Need-mul-call-number
+mul-call-number c = search needs
 
-add-number-at : tie.Need-add-number-at
-add-number-at c = search needs
+add-call-number : tie.Need-add-call-number
+add-call-number c = search needs
 
 returns : tie.Need-returns
 returns c = λ k.
@@ -18,7 +18,7 @@ returns c = λ k.
     let args = at-number .before .before .before .before .args in
     made-not _ _ _ _ _
     (said-no
-    (concerns-is (args .calls .now) (args .ids .now) (args .id) (args .i) _ _ _ (at-number .number-at .ensures) (at-concerns .before .id-in .ensures) (at-concerns .concerns .ensures))
+    (concerns-is (args .calls .now) (args .ids .now) (args .id) (args .i) _ _ _ (at-number .call-number .ensures) (at-concerns .before .id-in .ensures) (at-concerns .concerns .ensures))
     (c .if1 .taken))
 
 returns-2 : tie.Need-returns-2
@@ -30,7 +30,7 @@ returns-2 c = λ k.
     rw
     (← noticed-call _ _ _
     (said-yes
-    (concerns-is (args .calls .now) (args .ids .now) (args .id) (args .i) _ _ _ (at-number .number-at .ensures) (at-concerns .before .id-in .ensures) (at-concerns .concerns .ensures))
+    (concerns-is (args .calls .now) (args .ids .now) (args .id) (args .i) _ _ _ (at-number .call-number .ensures) (at-concerns .before .id-in .ensures) (at-concerns .concerns .ensures))
     (at-if1 .if1 .left)))
     (c .call-at .ensures k)
 
@@ -38,8 +38,8 @@ pub notice-at-spec : {M : Type 1} → statement M
 notice-at-spec =
     tie.close
     (tie.spec
-    mul-number-at
-    add-number-at
+    mul-call-number
+    add-call-number
     (λ c κs. tt)
     (λ c κs. tt)
     (λ c κs. tt)

@@ -1,13 +1,13 @@
 -- The loop keeps: the table of the rest and its maps is the one that the calls so far leave, the buffer holds their refusals, and question 10 has the answer that it had at the start.
-use mathlib.Core.Path.{_≡_, refl, ap, _∙_}
+use mathlib.Core.Path.{_≡_, refl}
 use Prim.Native.Nat.{_-_, _≤_}
 use native.Mathlib.Omega.{arith}
 use lib.ListN.{length}
 use borrow.Author.Needs.{needs}
 use Rattle.table.specs.Table.{sound}
-use Rattle.apart.specs.Apart.{tableWith}
-use Rattle.delivery_notices.specs.Lists.{noticeAt}
-use Rattle.delivery_tables.proofs.Taking.{Taking, begins, turns, tenth-turns, ends}
+use Rattle.session_apart.specs.Apart.{tableWith}
+use Rattle.delivery_notices.specs.NoticeLists.{noticeAt}
+use Rattle.delivery_tables.proofs.NoticesOnTable.{Taking, begins, turns, tenth-turns, ends}
 use Rattle.delivery_tables.proofs.run_notices.Statement.{statement}
 use Rattle.delivery_tables.proofs.run_notices.Tie as tie
 

@@ -1,6 +1,4 @@
 -- The table taken apart and put together is itself, and question 10 of it is asked before the loop.
-use mathlib.Core.Path.{ap, _∙_}
-use Rattle.table.specs.Table.{sound}
 use Rattle.delivery_tables.proofs.take_notices.Statement.{statement}
 use Rattle.delivery_tables.proofs.take_notices.Tie as tie
 
@@ -8,7 +6,7 @@ run-notices-requires : tie.Need-run-notices-requires
 run-notices-requires c κs =
     let at-rest = c .before .before .before in
     let at-sound = at-rest .before .before .before .before in
-    (at-sound .before .before .before .before .before .pre, rw (at-rest .rest-of .ensures) (at-sound .is-sound .ensures))
+    (at-sound .before .before .before .before .before .pre, rw (at-rest .table-rest .ensures) (at-sound .is-sound .ensures))
 
 same-length : tie.Need-same-length
 same-length c = c .before .before .before .run-notices .ensures .long
@@ -17,7 +15,7 @@ returns : tie.Need-returns
 returns c =
     let at-run = c .before .before .before in
     let at-rest = at-run .before .before .before .before in
-    rw (c .table-of .ensures) (rw (at-rest .rest-of .ensures) at (at-run .run-notices .ensures))
+    rw (c .table-of .ensures) (rw (at-rest .table-rest .ensures) at (at-run .run-notices .ensures))
 
 pub take-notices-spec : {M : Type 1} → statement M
 take-notices-spec =

@@ -1,28 +1,20 @@
+-- The last trading day of a month. The usual day is the month's anchor (`exception`); it is the answer where it trades (`there`), else the latest
+-- trading day before it is (`before`). A third Friday is at least day 14 (`third-is`), so there is a day before it.
 use Rattle.expiry.proofs.Fridays.{third-is}
 use Rattle.expiry.proofs.Stepping.{there, before, exception}
-use Prim.Native.Nat.{_-_}
 use native.Mathlib.Omega.{arith}
 use mathlib.Core.Path.{_∙_, sym}
 use Rattle.expiry.proofs.month_last_day_in.Statement.{statement}
 use Rattle.expiry.proofs.month_last_day_in.Tie as tie
 
-third-friday-requires : tie.Need-third-friday-requires
-third-friday-requires c κs = tt
-
 italian-exception-requires : tie.Need-italian-exception-requires
 italian-exception-requires c κs = omega (arith, c .third-friday .ensures, third-is (c .before .before .args .month))
-
-is-trading-day-in-requires : tie.Need-is-trading-day-in-requires
-is-trading-day-in-requires c κs = tt
 
 returns : tie.Need-returns
 returns c =
     let at-exception = c .before .before in
     rw (← exception _ _ _ _ (at-exception .before .third-friday .ensures) (at-exception .italian-exception .ensures))
     (there _ _ (sym (c .before .is-trading-day-in .ensures) ∙ c .if1 .taken))
-
-trading-day-before-in-requires : tie.Need-trading-day-before-in-requires
-trading-day-before-in-requires c κs = tt
 
 returns-2 : tie.Need-returns-2
 returns-2 c =
@@ -34,9 +26,9 @@ pub month-last-day-in-spec : {M : Type 1} → statement M
 month-last-day-in-spec =
     tie.close
     (tie.spec
-    third-friday-requires
+    (λ c κs. tt)
     italian-exception-requires
-    is-trading-day-in-requires
+    (λ c κs. tt)
     returns
-    trading-day-before-in-requires
+    (λ c κs. tt)
     returns-2)

@@ -1,6 +1,7 @@
+-- The latest trading day before an anchor and the steps back to it; day 0 where there is none. The loop keeps `Stepping`: the latest trading day
+-- before `day` is the latest before the anchor, and day + back is the anchor. Each turn takes `day` one back.
 use Rattle.expiry.proofs.Stepping.{Stepping, starts, again, found, none}
 use Rattle.calendar.specs.Trading.{calendarWith, tradingDay}
-use Prim.Native.Nat.{_-_}
 use native.Mathlib.Omega.{arith}
 use mathlib.Core.Path.{_∙_, sym}
 use Rattle.expiry.proofs.trading_day_before_in.Statement.{statement}

@@ -1,15 +1,9 @@
 -- A refused announcement has the same text for every input; an accepted one is a state with no blocks read.
 use mathlib.Core.Path.{refl}
 use mathlib.Core.List.{[]}
-use Rattle.intake_texts.proofs.Pieces.{announced-refused, begins, ended-refused}
+use Rattle.file_intake_text.proofs.Pieces.{announced-refused, begins, ended-refused}
 use Rattle.gateway.proofs.load.Statement.{statement}
 use Rattle.gateway.proofs.load.Tie as tie
-
-announce-requires : tie.Need-announce-requires
-announce-requires c κs = tt
-
-refused-requires : tie.Need-refused-requires
-refused-requires c κs = tt
 
 returns : tie.Need-returns
 returns c =
@@ -25,4 +19,4 @@ returns-2 c = c .read-blocks .ensures
 
 pub load-spec : {M : Type 1} → statement M
 load-spec =
-    tie.close (tie.spec announce-requires refused-requires returns read-blocks-requires returns-2)
+    tie.close (tie.spec (λ c κs. tt) (λ c κs. tt) returns read-blocks-requires returns-2)

@@ -7,8 +7,8 @@ use native.Mathlib.Omega.{arith}
 use lib.ListN.{length, take}
 use borrow.Author.Needs.{needs}
 use Rattle.questions.proofs.Bools.{lt-or-ge}
-use Rattle.intake_texts.specs.Texts.{Reached}
-use Rattle.intake_texts.proofs.Pieces.{unread, ends, ends-refused, goes-on, ended-refused, ended-finished}
+use Rattle.file_intake_text.specs.GatewayTexts.{IntakeReached}
+use Rattle.file_intake_text.proofs.Pieces.{unread, ends, ends-refused, goes-on, ended-refused, ended-finished}
 use Rattle.gateway.proofs.read_blocks.Statement.{statement}
 use Rattle.gateway.proofs.read_blocks.Tie as tie
 
@@ -21,7 +21,7 @@ bytes n block h l e z = go (lt-or-ge n 1)
     go (inr w) = (omega arith, omega arith)
 
 abbrev Inv-loop : tie.InvT-loop
-Inv-loop number block₀ state₀ turns₀ block state turns = (length block ≡ 512) × Reached number state × (turns + state .taken ≡ 129)
+Inv-loop number block₀ state₀ turns₀ block state turns = (length block ≡ 512) × IntakeReached number state × (turns + state .taken ≡ 129)
 
 abbrev μ-loop : tie.MeasureT-loop
 μ-loop number block₀ state₀ turns₀ block state turns = turns

@@ -1,3 +1,5 @@
+-- The front of a kind on a date; the first key beyond the cover where it has none. The loop keeps: the search from `key` on gives what the search
+-- from the date's key gives. A key that may be the front is it (`front-here`), another is passed by (`search-next`); `key` comes nearer to `end`.
 use Rattle.questions.proofs.Search.{search-next}
 use Rattle.listing.proofs.Front.{searched, front-here, front-none}
 use Rattle.calendar.specs.Trading.{calendarWith}
@@ -20,18 +22,21 @@ end-key-requires c κs = tt
 key-of-requires : tie.Need-key-of-requires Inv-loop μ-loop
 key-of-requires c κs = tt
 
+-- ---- the loop begins at the date's key
 loop-holds : tie.Need-loop-holds Inv-loop μ-loop
 loop-holds c = refl
 
 may-be-front-requires : tie.Need-may-be-front-requires Inv-loop μ-loop
 may-be-front-requires c κs = tt
 
+-- ---- a key that may be the front
 returns : tie.Need-returns Inv-loop μ-loop
 returns c =
     let at-loop = c .before .before .before in
     front-here _ _ _ _ _ _ _ (at-loop .loop .inv) (at-loop .before .before .end-key .ensures .0) (at-loop .before .key-of .ensures)
     (c .before .before .loop-test .taken) (rw (c .before .may-be-front .ensures) at (c .if1 .taken))
 
+-- ---- the next key
 add-key : tie.Need-add-key Inv-loop μ-loop
 add-key c = omega arith
 
@@ -41,6 +46,7 @@ loop-less c = omega arith
 loop-again : tie.Need-loop-again Inv-loop μ-loop
 loop-again c = search-next _ _ _ _ (c .before .before .loop-test .taken) (rw (c .before .may-be-front .ensures) at (c .if1 .left)) ∙ c .before .before .before .loop .inv
 
+-- ---- after the loop: the cover has none
 returns-2 : tie.Need-returns-2 Inv-loop μ-loop
 returns-2 c =
     let at-loop = c .before in

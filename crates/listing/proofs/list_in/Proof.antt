@@ -1,6 +1,9 @@
+-- The fresh listing. Both loops keep `Walking`: `complete` is yes; the places listed and those still to fill are a complete listing's, at most 15;
+-- and filling those, the rest of this step's and the later steps', from `from` on gives what the start gives. A place is filled by `takes`, a key
+-- from `end` on leaves both loops (`stops`), and after the last step `finishes` gives the listing.
 use Rattle.listing.proofs.Fresh.{matOf, listing-is}
 use Rattle.listing.specs.Months.{setAt, ruleOf}
-use Rattle.listing.proofs.Taking.{rest, Walking, starts, enters, finishes, leaves, has-room, takes, stops, kind-below}
+use Rattle.listing.proofs.ListLoops.{rest, Walking, starts, enters, finishes, leaves, has-room, takes, stops, kind-below}
 use Rattle.calendar.specs.Trading.{calendarWith}
 use Rattle.listing.specs.Rules.{front, taken, complete}
 use lib.ListN.{replicate}
@@ -28,6 +31,7 @@ abbrev μ-steps : tie.MeasureT-steps
 kind-number-requires : tie.Need-kind-number-requires Inv-loop μ-loop Inv-steps μ-steps
 kind-number-requires c κs = tt
 
+-- ---- before the loops
 cast-row : tie.Need-cast-row Inv-loop μ-loop Inv-steps μ-steps
 cast-row c = omega (arith, c .kind-number .ensures, kind-below (c .before .before .args .kind))
 
@@ -47,6 +51,7 @@ steps-holds c =
     rw (c .front-key-in .ensures, c .before .unused-places .ensures)
     (starts _ _ (start .args .kind) _ _ (at-end-key .before .kind-number .ensures) (at-end-key .end-key .ensures .1))
 
+-- ---- a step begins
 mul-count : tie.Need-mul-count Inv-loop μ-loop Inv-steps μ-steps
 mul-count c = omega arith
 
@@ -59,6 +64,7 @@ index-2-count c = omega arith
 loop-holds : tie.Need-loop-holds Inv-loop μ-loop Inv-steps μ-steps
 loop-holds c = enters (c .before .before .steps .step) (c .before .steps-test .taken) (c .before .before .steps .inv)
 
+-- ---- a place is filled
 next-in-set-requires : tie.Need-next-in-set-requires Inv-loop μ-loop Inv-steps μ-steps
 next-in-set-requires c κs = (c .before .loop .inv .0 .row, c .before .before .before .steps-test .taken)
 
@@ -88,6 +94,7 @@ loop-again c =
     let w = c .before .before .before in
     (rw (c .last-trading-day-in .ensures) (takes _ _ _ _ (w .before .loop .inv .0) (c .before .before .next-in-set .result) (w .loop-test .taken) (c .before .before .next-in-set .ensures) (c .before .if1 .left)), w .before .loop .inv .1)
 
+-- ---- a step ends
 add-step : tie.Need-add-step Inv-loop μ-loop Inv-steps μ-steps
 add-step c = omega arith
 
@@ -97,6 +104,7 @@ steps-less c = omega arith
 steps-again : tie.Need-steps-again Inv-loop μ-loop Inv-steps μ-steps
 steps-again c = leaves _ _ _ _ (c .before .loop .inv .0) (c .loop-test .left)
 
+-- ---- after the last step, or at a key from `end` on
 returns : tie.Need-returns Inv-loop μ-loop Inv-steps μ-steps
 returns c =
     let at-end-key = c .before .before .before .before in

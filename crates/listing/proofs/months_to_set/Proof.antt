@@ -1,7 +1,6 @@
 -- The months of a step's set lie 1, 3, 6 or 12 months apart, so the next of them follows from the month's remainder.
 use native.Mathlib.Omega.{arith}
 use mathlib.Core.Path.{_≡_}
-use Prim.Native.Nat.{_-_}
 use borrow.Author.Needs.{needs}
 use Rattle.listing.proofs.NextMonths.{to-all, to-quarters, to-halves, to-decembers}
 use Rattle.listing.proofs.months_to_set.Statement.{statement}

@@ -1,5 +1,4 @@
 -- Within the cover the next month of the set is the one that follows from the remainder; where that lies beyond, none of the cover's is in the set.
-use native.Mathlib.Omega.{arith}
 use borrow.Author.Needs.{needs}
 use Rattle.listing.proofs.NextMonths.{none-left, next-beyond, next-is}
 use Rattle.listing.proofs.next_month.Statement.{statement}

@@ -1,4 +1,6 @@
-use Rattle.listing.proofs.Taking.{rest-count, rest-zero, rest, rest-room, kind-below}
+-- How many maturities a complete listing of a kind has, at most 15. The loop keeps: `step` is at most 4, and `sum` with the places of the steps from
+-- `step` on is all places of the kind. A turn adds one step's count (`rest-count`); after the last step none is left (`rest-zero`).
+use Rattle.listing.proofs.ListLoops.{rest-count, rest-zero, rest, rest-room, kind-below}
 use Rattle.listing.specs.Months.{placesOf, rowOf, setsOf}
 use lib.ListN.{length}
 use Prim.Native.Nat.{ℕ, _+_, _-_, _≤_, _<_}
@@ -16,6 +18,7 @@ abbrev μ-loop : tie.MeasureT-loop
 kind-number-requires : tie.Need-kind-number-requires Inv-loop μ-loop
 kind-number-requires c κs = tt
 
+-- ---- the loop begins with no steps
 cast-row : tie.Need-cast-row Inv-loop μ-loop
 cast-row c = omega (arith, c .kind-number .ensures, kind-below (c .before .args .kind))
 
@@ -24,6 +27,7 @@ loop-holds c =
     let k = c .before .args .kind in
     rw (c .kind-number .ensures) (omega arith, kind-below k, rest-room k, omega arith)
 
+-- ---- a turn: one step's count
 mul-count : tie.Need-mul-count Inv-loop μ-loop
 mul-count c = omega arith
 
@@ -42,12 +46,14 @@ add-sum c = omega (arith, rest-count _ (c .before .before .loop .step) (c .befor
 add-step : tie.Need-add-step Inv-loop μ-loop
 add-step c = omega arith
 
+-- ---- the next turn
 loop-less : tie.Need-loop-less Inv-loop μ-loop
 loop-less c = omega arith
 
 loop-again : tie.Need-loop-again Inv-loop μ-loop
 loop-again c = (omega arith, c .before .before .loop .inv .1, c .before .before .loop .inv .2, omega (arith, rest-count _ (c .before .before .loop .step) (c .before .before .loop .inv .1) (c .before .loop-test .taken)))
 
+-- ---- after the loop: all steps
 returns : tie.Need-returns Inv-loop μ-loop
 unfolding rest
 returns c =

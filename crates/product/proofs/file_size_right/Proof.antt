@@ -1,3 +1,5 @@
+-- Question 7, the size in a record: at least one share and at most 9,999 ten-thousandths. The definition's other test, at most 65,535 shares, holds
+-- of every number of two bytes.
 use Prim.Native.Nat.{_≤_}
 use native.Mathlib.Omega.{arith}
 use mathlib.Core.Bool.{and-true}

@@ -1,3 +1,4 @@
+-- The first digit of a group: 0 for the futures' kinds 0 and 4 (`future-digit`), 1 for any other (`option-digit`).
 use Rattle.product.proofs.KindNumbers.{future-digit, option-digit}
 use Rattle.product.proofs.first_digit.Statement.{statement}
 use Rattle.product.proofs.first_digit.Tie as tie

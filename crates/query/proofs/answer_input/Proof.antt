@@ -1,25 +1,16 @@
 -- The first part, then the others; an input of fewer than three bytes is one part.
-use mathlib.Core.Path.{_≡_, refl, sym, _∙_}
+use mathlib.Core.Path.{refl, sym, _∙_}
 use mathlib.Core.Bool.{true≢false}
 use native.Mathlib.Omega.{arith}
 use lib.Seq.{length-take-le}
-use Rattle.delivery_sessions.proofs.Runs.{came-first, came-short}
-use Rattle.query.proofs.Whole.{neither, three}
+use Rattle.delivery_sessions.proofs.QueryRuns.{came-first, came-short}
+use Rattle.query.proofs.WholeRun.{neither, three}
 use borrow.Author.Needs.{needs}
 use Rattle.query.proofs.answer_input.Statement.{statement}
 use Rattle.query.proofs.answer_input.Tie as tie
 
-large-buffer-requires : tie.Need-large-buffer-requires
-large-buffer-requires c κs = tt
-
-large-buffer-requires-2 : tie.Need-large-buffer-requires-2
-large-buffer-requires-2 c κs = tt
-
 slice-aggregate-read-first : tie.Need-slice-aggregate-read-first
 slice-aggregate-read-first c = search needs
-
-read-first-requires : tie.Need-read-first-requires
-read-first-requires c κs = tt
 
 array-share-prefix-part : tie.Need-array-share-prefix-part
 array-share-prefix-part c = search needs
@@ -32,12 +23,6 @@ slice-aggregate-write-first-2 c = search needs
 
 write-first-requires : tie.Need-write-first-requires
 write-first-requires c κs = (omega (arith, c .before .before .before .before .before .before .large-buffer2 .ensures), refl)
-
-is-open-requires : tie.Need-is-open-requires
-is-open-requires c κs = tt
-
-cut-short-requires : tie.Need-cut-short-requires
-cut-short-requires c κs = tt
 
 same-length : tie.Need-same-length
 same-length c = search needs
@@ -94,16 +79,16 @@ pub answer-input-spec : {M : Type 1} → statement M
 answer-input-spec =
     tie.close
     (tie.spec
-    large-buffer-requires
-    large-buffer-requires-2
+    (λ c κs. tt)
+    (λ c κs. tt)
     slice-aggregate-read-first
-    read-first-requires
+    (λ c κs. tt)
     array-share-prefix-part
     slice-aggregate-write-first
     slice-aggregate-write-first-2
     write-first-requires
-    is-open-requires
-    cut-short-requires
+    (λ c κs. tt)
+    (λ c κs. tt)
     same-length
     returns
     slice-aggregate-write-last

@@ -1,16 +1,10 @@
 -- A refused file is told; the verdict that is handed on is the file's.
 use mathlib.Core.Path.{sym}
 use lib.Seq.{length-take-le}
-use Rattle.query.proofs.Whole.{master-told}
+use Rattle.query.proofs.WholeRun.{master-told}
 use borrow.Author.Needs.{needs}
 use Rattle.query.proofs.judged.Statement.{statement}
 use Rattle.query.proofs.judged.Tie as tie
-
-judge-requires : tie.Need-judge-requires
-judge-requires c κs = tt
-
-master-line-requires : tie.Need-master-line-requires
-master-line-requires c κs = tt
 
 tell-requires : tie.Need-tell-requires
 tell-requires c κs = master-told _ _ _ _ (c .before .before .before .before .judge .ensures) (c .before .before .if1 .taken) (c .master-line .ensures)
@@ -26,9 +20,6 @@ slice-aggregate-read-file-or-tell c = search needs
 
 slice-aggregate-read-file-or-tell-2 : tie.Need-slice-aggregate-read-file-or-tell-2
 slice-aggregate-read-file-or-tell-2 c = search needs
-
-read-file-or-tell-requires : tie.Need-read-file-or-tell-requires
-read-file-or-tell-requires c κs = tt
 
 same-length-2 : tie.Need-same-length-2
 same-length-2 c = search needs
@@ -68,14 +59,14 @@ pub judged-spec : {M : Type 1} → statement M
 judged-spec =
     tie.close
     (tie.spec
-    judge-requires
-    master-line-requires
+    (λ c κs. tt)
+    (λ c κs. tt)
     tell-requires
     same-length
     returns
     slice-aggregate-read-file-or-tell
     slice-aggregate-read-file-or-tell-2
-    read-file-or-tell-requires
+    (λ c κs. tt)
     same-length-2
     returns-2
     slice-reshare-prefix-answer-notices

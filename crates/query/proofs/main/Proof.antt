@@ -14,9 +14,6 @@ slice-aggregate-read-file-or-tell-2 c = search needs
 slice-aggregate-read-file-or-tell-3 : tie.Need-slice-aggregate-read-file-or-tell-3
 slice-aggregate-read-file-or-tell-3 c = search needs
 
-read-file-or-tell-requires : tie.Need-read-file-or-tell-requires
-read-file-or-tell-requires c κs = tt
-
 returns : tie.Need-returns
 returns c = search needs
 
@@ -51,7 +48,7 @@ main-spec =
     slice-aggregate-read-file-or-tell
     slice-aggregate-read-file-or-tell-2
     slice-aggregate-read-file-or-tell-3
-    read-file-or-tell-requires
+    (λ c κs. tt)
     returns
     array-share-prefix-file
     slice-aggregate-judged

@@ -1,18 +1,9 @@
 -- The first part without its mark, from line 1 on.
 use native.Mathlib.Omega.{arith}
-use Rattle.query.proofs.Whole.{first-handed}
+use Rattle.query.proofs.WholeRun.{first-handed}
 use borrow.Author.Needs.{needs}
 use Rattle.query.proofs.write_first.Statement.{statement}
 use Rattle.query.proofs.write_first.Tie as tie
-
-empty-line-requires : tie.Need-empty-line-requires
-empty-line-requires c κs = tt
-
-nothing-sent-requires : tie.Need-nothing-sent-requires
-nothing-sent-requires c κs = tt
-
-mark-length-requires : tie.Need-mark-length-requires
-mark-length-requires c κs = tt
 
 sub-write-part : tie.Need-sub-write-part
 sub-write-part c = omega (arith, c .before .mark-length .ensures .1)
@@ -39,17 +30,17 @@ returns c = λ e.
     let at-write-part = c .before .before .before .before in
     let at-mark-length = at-write-part .before .before .before .before in
     let at-nothing-sent = at-mark-length .before in
-    let at-empty-line = at-nothing-sent .before in
-    first-handed _ _ _ _ _ _ _ _ (at-empty-line .empty-line .ensures) (at-nothing-sent .nothing-sent .ensures .1)
+    let at-empty-long-line = at-nothing-sent .before in
+    first-handed _ _ _ _ _ _ _ _ (at-empty-long-line .empty-long-line .ensures) (at-nothing-sent .nothing-sent .ensures .1)
     (at-mark-length .mark-length .ensures .0) (at-write-part .write-part .ensures e)
 
 pub write-first-spec : {M : Type 1} → statement M
 write-first-spec =
     tie.close
     (tie.spec
-    empty-line-requires
-    nothing-sent-requires
-    mark-length-requires
+    (λ c κs. tt)
+    (λ c κs. tt)
+    (λ c κs. tt)
     sub-write-part
     part-write-part-start
     part-write-part-end

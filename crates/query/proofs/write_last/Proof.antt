@@ -1,14 +1,11 @@
 -- What stands in the buffer is the answer to the last line, and the count grows by it.
 use mathlib.Core.Path.{sym, _∙_}
 use native.Mathlib.Omega.{arith}
-use Rattle.delivery_sessions.specs.Runs.{last}
-use Rattle.delivery_sessions.proofs.Runs.{last-count}
+use Rattle.delivery_sessions.specs.QueryRuns.{last}
+use Rattle.delivery_sessions.proofs.QueryRuns.{last-count}
 use borrow.Author.Needs.{needs}
 use Rattle.query.proofs.write_last.Statement.{statement}
 use Rattle.query.proofs.write_last.Tie as tie
-
-answer-last-requires : tie.Need-answer-last-requires
-answer-last-requires c κs = tt
 
 write-out-requires : tie.Need-write-out-requires
 write-out-requires c κs =
@@ -16,9 +13,6 @@ write-out-requires c κs =
     let start = at-answer-last .before .before .before .before .before .before .before .before .before in
     let a = rw (start .pre .1) at (at-answer-last .answer-last .ensures) in
     (omega (arith, a .fits), last (a .text (start .pre .0)))
-
-is-open-requires : tie.Need-is-open-requires
-is-open-requires c κs = tt
 
 same-length : tie.Need-same-length
 same-length c = search needs
@@ -38,9 +32,9 @@ pub write-last-spec : {M : Type 1} → statement M
 write-last-spec =
     tie.close
     (tie.spec
-    answer-last-requires
+    (λ c κs. tt)
     write-out-requires
-    is-open-requires
+    (λ c κs. tt)
     same-length
     same-length-2
     returns)

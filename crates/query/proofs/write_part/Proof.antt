@@ -6,8 +6,8 @@ use native.Mathlib.Omega.{arith}
 use lib.ListN.{length, drop}
 use Rattle.questions.proofs.Bools.{said-no, said-yes}
 use Rattle.delivery_queries.specs.Queries.{standingIn}
-use Rattle.delivery_sessions.specs.Runs.{Handed, answers}
-use Rattle.delivery_sessions.proofs.Runs.{handed-none, handed-more, handed-all}
+use Rattle.delivery_sessions.specs.QueryRuns.{QueryHanded, answers}
+use Rattle.delivery_sessions.proofs.QueryRuns.{handed-none, handed-more, handed-all}
 use borrow.Author.Needs.{needs}
 use Rattle.query.proofs.write_part.Statement.{statement}
 use Rattle.query.proofs.write_part.Tie as tie
@@ -15,7 +15,7 @@ use Rattle.query.proofs.write_part.Tie as tie
 abbrev Inv-loop : tie.InvT-loop
 Inv-loop file judged t calls ids refusals₀ room part out₀ number line sent₀ s₀ refusals out sent s =
     (512 ≤ length out₀) × (length out ≡ length out₀) × (length refusals ≡ room)
-    × Handed (standingIn judged file t calls ids room) (s₀ .number) (s₀ .line) part (sent₀ .bytes) (s .number) (s .line) (drop (s .at) part) (sent .bytes)
+    × QueryHanded (standingIn judged file t calls ids room) (s₀ .number) (s₀ .line) part (sent₀ .bytes) (s .number) (s .line) (drop (s .at) part) (sent .bytes)
 
 abbrev μ-loop : tie.MeasureT-loop
 μ-loop file judged t calls ids refusals₀ room part out₀ number line sent₀ s₀ refusals out sent s = length part - s .at

@@ -7,8 +7,8 @@ use lib.ListN.{length}
 use lib.Seq.{length-take-le}
 use Rattle.questions.proofs.Bools.{said-yes}
 use Rattle.delivery_queries.specs.Queries.{standingIn}
-use Rattle.delivery_sessions.specs.Runs.{Came}
-use Rattle.delivery_sessions.proofs.Runs.{came-more, came-all}
+use Rattle.delivery_sessions.specs.QueryRuns.{Came}
+use Rattle.delivery_sessions.proofs.QueryRuns.{came-more, came-all}
 use borrow.Author.Needs.{needs}
 use Rattle.query.proofs.write_rest.Statement.{statement}
 use Rattle.query.proofs.write_rest.Tie as tie

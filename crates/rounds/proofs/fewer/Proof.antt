@@ -1,3 +1,4 @@
+-- The smaller of two numbers; each `return` rewrites by its test.
 use Rattle.rounds.proofs.fewer.Statement.{statement}
 use borrow.Author.Tests.{lt-ltb, le-ltb}
 use Rattle.rounds.proofs.fewer.Tie as tie

@@ -1,6 +1,9 @@
+-- Shown: the first b tables, or all if fewer, are taken in their order and stand at the end of the queue. The number taken,
+-- k, is at most the count (`few-least`), so the three `put_after` stay within 200 places: the first k, the rest, and the
+-- first k after the rest; together they are the definition's queue (`handled-is`).
 use lib.ListN.{length, length-map}
 use mathlib.Core.Path.{_≡_}
-use Rattle.rounds.proofs.Calls.{placed, few-least, rest-length, handled-is}
+use Rattle.rounds.proofs.QueueQuestions.{placed, few-least, rest-length, handled-is}
 use native.Mathlib.Omega.{arith}
 use borrow.Author.Needs.{needs}
 use Prim.Native.Nat.{_≤_}
@@ -10,15 +13,10 @@ use Rattle.rounds.proofs.first_to_end.Tie as tie
 cast-n : tie.Need-cast-n
 cast-n c = search needs
 
-fewer-requires : tie.Need-fewer-requires
-fewer-requires c κs = tt
-
 cast-k : tie.Need-cast-k
 cast-k c = search needs
 
-no-tables-requires : tie.Need-no-tables-requires
-no-tables-requires c κs = tt
-
+-- ---- the three moves stay within the places
 put-after-requires : tie.Need-put-after-requires
 put-after-requires c κs =
     let start = c .before .before .before .before in
@@ -48,6 +46,7 @@ put-after-requires-3 c κs =
     let r = rest-length (start .args .q .tables) (start .args .q .count) fits _ _ (c .before .before .before .fewer .ensures) in
     (omega arith, omega (arith, m), omega (arith, m), placed _ _ _ (c .put-after2 .ensures) r)
 
+-- ---- the answer
 returns : tie.Need-returns
 returns c =
     let start = c .before .before .before .before .before .before .before in
@@ -61,9 +60,9 @@ first-to-end-spec =
     tie.close
     (tie.spec
     cast-n
-    fewer-requires
+    (λ c κs. tt)
     cast-k
-    no-tables-requires
+    (λ c κs. tt)
     put-after-requires
     put-after-requires-2
     sub-put-after

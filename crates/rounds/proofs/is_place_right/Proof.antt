@@ -1,3 +1,6 @@
+-- Shown: yes exactly where the number at place i is from 0 to 199 and no place before i has it. A number above 199 ends
+-- with no. The loop keeps: j is at most i, the number is at most 199, and no place before j has it; a place that has it
+-- ends with no, and after the last one j is i.
 use Rattle.questions.proofs.Search.{every-none, every-more, every-not}
 use Rattle.questions.proofs.Bools.{and-both}
 use Rattle.questions.specs.Search.{every}
@@ -11,6 +14,7 @@ use mathlib.Core.Path.{_≡_, sym, ap}
 use Rattle.rounds.proofs.is_place_right.Statement.{statement}
 use Rattle.rounds.proofs.is_place_right.Tie as tie
 
+-- ---- what the loop keeps
 abbrev Inv-loop : tie.InvT-loop
 Inv-loop i tables number j₀ j = (j ≤ i) × (getD tables i 0 ≤ 199) × (every j (λ k. not (eqb (getD tables k 0) (getD tables i 0))) ≡ true)
 
@@ -23,9 +27,11 @@ mul-number c = omega arith
 array-read-number : tie.Need-array-read-number Inv-loop μ-loop
 array-read-number c = omega arith
 
+-- ---- a number above 199
 returns : tie.Need-returns Inv-loop μ-loop
 returns c = rw (lt-leb _ _ (c .if1 .taken))
 
+-- ---- the loop
 loop-holds : tie.Need-loop-holds Inv-loop μ-loop
 loop-holds c = (omega arith, omega arith, every-none _)
 
@@ -50,6 +56,7 @@ loop-again c =
     let v = c .before .before .loop .inv in
     (omega arith, v .1, every-more _ _ (v .2) (ap not (ne-eqb _ _ (c .if2 .left))))
 
+-- ---- after the loop
 returns-3 : tie.Need-returns-3 Inv-loop μ-loop
 returns-3 c =
     let v = c .before .loop .inv in

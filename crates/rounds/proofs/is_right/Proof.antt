@@ -1,3 +1,6 @@
+-- Shown: the answer is question 10. A count above 200 ends with no.
+-- The loop keeps: n is at most 200, i at most n, and the places before i are right. A place with a no ends with no; after
+-- the last one i is the count, so all used places are right.
 use Rattle.rounds.specs.Rounds.{queuePlaceRight, queueRight}
 use Rattle.questions.proofs.Search.{every-none, every-more, every-not}
 use Rattle.questions.proofs.Bools.{and-both, said-no, said-yes}
@@ -11,6 +14,7 @@ use mathlib.Core.Path.{_≡_, sym}
 use Rattle.rounds.proofs.is_right.Statement.{statement}
 use Rattle.rounds.proofs.is_right.Tie as tie
 
+-- ---- what the loop keeps
 abbrev Inv-loop : tie.InvT-loop
 Inv-loop n tables i₀ i = (n ≤ 200) × (i ≤ n) × (every i (queuePlaceRight tables) ≡ true)
 
@@ -20,10 +24,12 @@ abbrev μ-loop : tie.MeasureT-loop
 cast-n : tie.Need-cast-n Inv-loop μ-loop
 cast-n c = search needs
 
+-- ---- a count above 200
 returns : tie.Need-returns Inv-loop μ-loop
 unfolding queueRight
 returns c = rw (lt-leb _ _ (c .if1 .taken))
 
+-- ---- the loop
 loop-holds : tie.Need-loop-holds Inv-loop μ-loop
 loop-holds c = (omega arith, omega arith, every-none _)
 
@@ -47,6 +53,7 @@ loop-again c =
     let v = c .before .before .before .loop .inv in
     (v .0, omega arith, every-more _ _ (v .2) (said-yes (c .before .is-place-right .ensures) (c .if2 .left)))
 
+-- ---- after the loop
 returns-3 : tie.Need-returns-3 Inv-loop μ-loop
 unfolding queueRight
 returns-3 c =

@@ -1,17 +1,22 @@
-use Rattle.rounds.proofs.Places.{Putting, puts, puts-more, puts-all}
+-- Shown: the places hold the first n numbers of the other places, then those at first to end − 1, then zeros.
+-- The loop keeps (`Putting`): the places before `at` are filled, they and the numbers from i to end are the whole, and
+-- `at` with what is left to put is at most 200, so that every write is within the places.
+use Rattle.rounds.proofs.QueuePlaces.{Putting, puts, puts-more, puts-all}
 use lib.ListN.{take, drop}
 use mathlib.Core.List.{_++_}
-use Prim.Native.Nat.{_+_, _-_}
+use Prim.Native.Nat.{_-_}
 use native.Mathlib.Omega.{arith}
 use Rattle.rounds.proofs.put_after.Statement.{statement}
 use Rattle.rounds.proofs.put_after.Tie as tie
 
+-- ---- what the loop keeps
 abbrev Inv-loop : tie.InvT-loop
 Inv-loop n first end tables out₀ at₀ i₀ out at i = Putting (take n out₀ ++ drop first (take end tables)) tables end out at i
 
 abbrev μ-loop : tie.MeasureT-loop
 μ-loop n first end tables out₀ at₀ i₀ out at i = end - i
 
+-- ---- the loop
 loop-holds : tie.Need-loop-holds Inv-loop μ-loop
 loop-holds c =
     let p = c .pre in
@@ -41,6 +46,7 @@ loop-less c = omega arith
 loop-again : tie.Need-loop-again Inv-loop μ-loop
 loop-again c = puts-more _ _ _ _ _ _ (c .before .loop .inv) (c .loop-test .taken)
 
+-- ---- after the loop
 returns : tie.Need-returns Inv-loop μ-loop
 returns c = puts-all _ _ _ _ _ _ (c .before .loop .inv) (c .loop-test .left)
 

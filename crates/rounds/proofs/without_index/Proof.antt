@@ -1,6 +1,8 @@
+-- The queue is the tables before the index and those after it, in their order (`left-is`): two `put_after`, the second after
+-- the first `index` places, and both within the 200 places since the index is below the count.
 use lib.ListN.{length, length-map}
 use mathlib.Core.Path.{_≡_}
-use Rattle.rounds.proofs.Calls.{placed, left-is}
+use Rattle.rounds.proofs.QueueQuestions.{placed, left-is}
 use lib.Seq.{length-take-le}
 use native.Mathlib.Omega.{arith}
 use borrow.Author.Needs.{needs}
@@ -9,9 +11,6 @@ use Rattle.rounds.proofs.without_index.Tie as tie
 
 cast-n : tie.Need-cast-n
 cast-n c = search needs
-
-no-tables-requires : tie.Need-no-tables-requires
-no-tables-requires c κs = tt
 
 put-after-requires : tie.Need-put-after-requires
 put-after-requires c κs = (omega arith, omega arith, omega arith, c .no-tables .ensures)
@@ -40,7 +39,7 @@ without-index-spec =
     tie.close
     (tie.spec
     cast-n
-    no-tables-requires
+    (λ c κs. tt)
     put-after-requires
     add-put-after
     put-after-requires-2

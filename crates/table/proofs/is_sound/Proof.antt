@@ -1,25 +1,18 @@
+-- Shown: the answer is question 10, its seven parts in the definition's order.
+-- Each `return` rewrites `sound` by the yeses before it and its own no; the last by six yeses and `is_listing_sound`.
 use Rattle.table.specs.Table.{sound}
 use Rattle.questions.proofs.Bools.{said-no, said-yes}
-use Prim.Native.Nat.{_-_}
 use Rattle.table.proofs.is_sound.Statement.{statement}
 use Rattle.table.proofs.is_sound.Tie as tie
 
-product-right-requires : tie.Need-product-right-requires
-product-right-requires c κs = tt
-
+-- ---- the product and the calendar
 returns : tie.Need-returns
 unfolding sound
 returns c = simp (said-no (c .before .product-right .ensures) (c .if1 .taken))
 
-is-valid-cover-requires : tie.Need-is-valid-cover-requires
-is-valid-cover-requires c κs = tt
-
 returns-2 : tie.Need-returns-2
 unfolding sound
 returns-2 c = simp (said-yes (c .before .before .before .product-right .ensures) (c .before .before .if1 .left), said-no (c .before .is-valid-cover .ensures) (c .if2 .taken))
-
-is-clean-requires : tie.Need-is-clean-requires
-is-clean-requires c κs = tt
 
 returns-3 : tie.Need-returns-3
 unfolding sound
@@ -28,9 +21,6 @@ returns-3 c =
     let at-if1 = at-is-valid-cover .before in
     let at-product-right = at-if1 .before in
     simp (said-yes (at-product-right .product-right .ensures) (at-if1 .if1 .left), said-yes (at-is-valid-cover .is-valid-cover .ensures) (c .before .before .if2 .left), said-no (c .before .is-clean .ensures) (c .if3 .taken))
-
-every-week-trades-requires : tie.Need-every-week-trades-requires
-every-week-trades-requires c κs = tt
 
 returns-4 : tie.Need-returns-4
 unfolding sound
@@ -42,9 +32,7 @@ returns-4 c =
     let at-product-right = at-if1 .before in
     simp (said-yes (at-product-right .product-right .ensures) (at-if1 .if1 .left), said-yes (at-is-valid-cover .is-valid-cover .ensures) (at-if2 .if2 .left), said-yes (at-is-clean .is-clean .ensures) (c .before .before .if3 .left), said-no (c .before .every-week-trades .ensures) (c .if4 .taken))
 
-in-cover-requires : tie.Need-in-cover-requires
-in-cover-requires c κs = tt
-
+-- ---- the date
 returns-5 : tie.Need-returns-5
 unfolding sound
 returns-5 c =
@@ -56,9 +44,6 @@ returns-5 c =
     let at-if1 = at-is-valid-cover .before in
     let at-product-right = at-if1 .before in
     simp (said-yes (at-product-right .product-right .ensures) (at-if1 .if1 .left), said-yes (at-is-valid-cover .is-valid-cover .ensures) (at-if2 .if2 .left), said-yes (at-is-clean .is-clean .ensures) (at-if3 .if3 .left), said-yes (at-every-week-trades .every-week-trades .ensures) (c .before .before .if4 .left), said-no (c .before .in-cover .ensures) (c .if5 .taken))
-
-is-week-into-cover-requires : tie.Need-is-week-into-cover-requires
-is-week-into-cover-requires c κs = tt
 
 returns-6 : tie.Need-returns-6
 unfolding sound
@@ -76,9 +61,7 @@ returns-6 c =
     let at-product-right = at-if1 .before in
     simp (said-yes (at-product-right .product-right .ensures) (at-if1 .if1 .left), said-yes (at-is-valid-cover .is-valid-cover .ensures) (at-if2 .if2 .left), said-yes (at-is-clean .is-clean .ensures) (at-if3 .if3 .left), said-yes (at-every-week-trades .every-week-trades .ensures) (at-if4 .if4 .left), said-yes (at-in-cover .in-cover .ensures) (at-if5 .if5 .left), said-no (at-week .is-week-into-cover .ensures) (c .if6 .taken))
 
-is-listing-sound-requires : tie.Need-is-listing-sound-requires
-is-listing-sound-requires c κs = tt
-
+-- ---- the maturities
 returns-7 : tie.Need-returns-7
 unfolding sound
 returns-7 c =
@@ -100,17 +83,17 @@ pub is-sound-spec : {M : Type 1} → statement M
 is-sound-spec =
     tie.close
     (tie.spec
-    product-right-requires
+    (λ c κs. tt)
     returns
-    is-valid-cover-requires
+    (λ c κs. tt)
     returns-2
-    is-clean-requires
+    (λ c κs. tt)
     returns-3
-    every-week-trades-requires
+    (λ c κs. tt)
     returns-4
-    in-cover-requires
+    (λ c κs. tt)
     returns-5
-    is-week-into-cover-requires
+    (λ c κs. tt)
     returns-6
-    is-listing-sound-requires
+    (λ c κs. tt)
     returns-7)

@@ -1,9 +1,10 @@
+-- Shown: yes exactly where no maturity of the fifteen places ends on the day.
+-- The loop keeps: i is at most 15, and no place before i ends on the day. A place that does ends it with no
+-- (`none-found`); after the last one i is 15 (`none-all`).
 use native.Mathlib.Omega.{arith}
-use mathlib.Core.Path.{_≡_, refl, sym}
-use mathlib.Core.Bool.{true, not}
+use mathlib.Core.Path.{_≡_}
 use Prim.Native.Nat.{_-_, _≤_}
 use lib.ListN.{length}
-use Rattle.table.specs.Table.{noneEndsOn}
 use Rattle.table.proofs.Unmoved.{NoneEnds, none-begins, none-more, none-found, none-all}
 use Rattle.table.proofs.none_ends_on.Statement.{statement}
 use Rattle.table.proofs.none_ends_on.Tie as tie

@@ -1,3 +1,6 @@
+-- Shown: the answer is the least n below 7 with a trading day n days before the day, else 7.
+-- The loop keeps: n is from 1 to 7, and the search from n on finds what the search from 1 finds. A day below n has no
+-- earlier day left (`back-none`); a trading day is found (`search-at`), another is passed (`search-on`).
 use native.Mathlib.Omega.{arith}
 use mathlib.Core.Path.{sym, _∙_}
 use Prim.Native.Nat.{_-_, _≤_}
@@ -8,12 +11,14 @@ use Rattle.table.proofs.Around.{Searching, backTest, back-starts, back-
 use Rattle.table.proofs.steps_back.Statement.{statement}
 use Rattle.table.proofs.steps_back.Tie as tie
 
+-- ---- what the loop keeps
 abbrev Inv-loop : tie.InvT-loop
 Inv-loop cover closed day n₀ n = (1 ≤ n) × (n ≤ 7) × Searching (backTest (calendarWith cover closed) day) n (stepsBack (calendarWith cover closed) day)
 
 abbrev μ-loop : tie.MeasureT-loop
 μ-loop cover closed day n₀ n = 7 - n
 
+-- ---- the loop
 loop-holds : tie.Need-loop-holds Inv-loop μ-loop
 loop-holds c = (omega arith, omega arith, back-starts _ _)
 
@@ -41,6 +46,7 @@ loop-again c =
     let at-loop-test = at-if1 .before in
     (omega arith, omega arith, search-on _ _ _ (at-loop-test .loop-test .taken) (at-loop-test .before .loop .inv .2) (rw (le-leb _ _ (at-if1 .if1 .left)) (sym (c .before .is-trading-day-in .ensures) ∙ c .if2 .left)))
 
+-- ---- after the loop
 returns-3 : tie.Need-returns-3 Inv-loop μ-loop
 returns-3 c = search-end _ _ _ (c .loop-test .left) (c .before .loop .inv .2)
 

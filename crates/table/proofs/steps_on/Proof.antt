@@ -1,3 +1,6 @@
+-- Shown: the answer is the least n below 7 with a trading day n days after the day, else 7; of a day after 2099 it is 7.
+-- The loop keeps: n is from 1 to 7, the day is below 36,525, so the sum fits, and the search from n on finds what the
+-- search from 1 finds. A trading day is found (`search-at`), another is passed (`search-on`).
 use native.Mathlib.Omega.{arith}
 use mathlib.Core.Path.{sym, _∙_}
 use Prim.Native.Nat.{_-_, _≤_, _<_}
@@ -13,9 +16,11 @@ Inv-loop cover closed day n₀ n = (1 ≤ n) × (n ≤ 7) × (day < 36525) × Se
 abbrev μ-loop : tie.MeasureT-loop
 μ-loop cover closed day n₀ n = 7 - n
 
+-- ---- a day after 2099
 returns : tie.Need-returns Inv-loop μ-loop
 returns c = on-late _ _ (c .if1 .taken)
 
+-- ---- the loop
 loop-holds : tie.Need-loop-holds Inv-loop μ-loop
 loop-holds c = (omega arith, omega arith, omega arith, on-starts _ _ (c .if1 .left))
 
@@ -41,6 +46,7 @@ loop-again c =
     let at-loop-test = c .before .before in
     (omega arith, omega arith, omega arith, search-on _ _ _ (at-loop-test .loop-test .taken) (at-loop-test .before .loop .inv .3) (sym (c .before .is-trading-day-in .ensures) ∙ c .if2 .left))
 
+-- ---- after the loop
 returns-3 : tie.Need-returns-3 Inv-loop μ-loop
 returns-3 c = search-end _ _ _ (c .loop-test .left) (c .before .loop .inv .3)
 

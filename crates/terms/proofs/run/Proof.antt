@@ -1,17 +1,19 @@
+-- `run` writes the whole text of the session, where the output stays open. The loop keeps: both buffers have 65,536 bytes, the verdict is the file's
+-- own, and a run that goes on from here is one from the start (`Came`). Each part leads on (`came-more`), and the last line ends it (`came-all`).
 use native.Mathlib.Omega.{arith}
 use mathlib.Core.Path.{_≡_, sym, _∙_}
-use Prim.Native.Nat.{_-_}
 use lib.ListN.{length}
 use borrow.Author.Needs.{needs}
 use mathlib.Core.Bool.{true≢false}
 use Rattle.questions.proofs.Bools.{said-no, said-yes}
-use Rattle.years.specs.Calendars.{calendarAnswer}
-use Rattle.master.specs.Load.{judgeCall}
+use Rattle.file_calendar.specs.Calendars.{calendarAnswer}
+use Rattle.file_load.specs.Load.{judgeCall}
 use Rattle.table.specs.Table.{openIn}
-use Rattle.sessions.proofs.Runs.{Came, came-none, came-more, came-all, ran-own}
+use Rattle.session_parts.proofs.TermsRuns.{Came, came-none, came-more, came-all, ran-own}
 use Rattle.terms.proofs.run.Statement.{statement}
 use Rattle.terms.proofs.run.Tie as tie
 
+-- ---- the loop's invariant and its measure
 abbrev Inv-loop : tie.InvT-loop
 Inv-loop file judged part₀ out₀ k₀ turns₀ part out k turns = (length part ≡ 65536) × (length out ≡ 65536) × (calendarAnswer judged ≡ judgeCall file) × Came (openIn (calendarAnswer judged) file) (k .kept) (k .line) (k .text .sent .bytes)
 
@@ -33,6 +35,7 @@ nothing-kept-requires c κs = tt
 empty-line-requires : tie.Need-empty-line-requires Inv-loop μ-loop
 empty-line-requires c κs = tt
 
+-- ---- before the loop
 loop-holds : tie.Need-loop-holds Inv-loop μ-loop
 loop-holds c =
     let at-large-buffer2 = c .before .before .before in
@@ -56,6 +59,7 @@ slice-aggregate-write-part c = search needs
 slice-aggregate-write-part-2 : tie.Need-slice-aggregate-write-part-2 Inv-loop μ-loop
 slice-aggregate-write-part-2 c = search needs
 
+-- ---- a turn
 write-part-requires : tie.Need-write-part-requires Inv-loop μ-loop
 write-part-requires c κs =
     let at-loop = c .before .before .before .before .before .before .before in
@@ -86,6 +90,7 @@ loop-again c =
 slice-aggregate-write-last : tie.Need-slice-aggregate-write-last Inv-loop μ-loop
 slice-aggregate-write-last c = search needs
 
+-- ---- the end: the last line
 write-last-requires : tie.Need-write-last-requires Inv-loop μ-loop
 write-last-requires c κs = omega (arith, c .before .before .loop .inv .1)
 

@@ -1,12 +1,11 @@
+-- `write_last` writes the answer to a last line that no line feed ends: it is what comes
+-- next of the text (`last`), and the bytes sent grow by its length (`last-count`).
 use native.Mathlib.Omega.{arith}
 use borrow.Author.Needs.{needs}
-use Rattle.sessions.specs.Parts.{last}
-use Rattle.sessions.proofs.Runs.{last-count}
+use Rattle.session_parts.specs.TermsParts.{last}
+use Rattle.session_parts.proofs.TermsRuns.{last-count}
 use Rattle.terms.proofs.write_last.Statement.{statement}
 use Rattle.terms.proofs.write_last.Tie as tie
-
-answer-last-requires : tie.Need-answer-last-requires
-answer-last-requires c κs = tt
 
 write-out-requires : tie.Need-write-out-requires
 write-out-requires c κs =
@@ -24,4 +23,4 @@ returns c = λ e.
     last-count _ _ _ _ _ _ _ _ (start .pre) (at-answer-last .answer-last .ensures) (c .write-out .ensures e)
 
 pub write-last-spec : {M : Type 1} → statement M
-write-last-spec = tie.close (tie.spec answer-last-requires write-out-requires same-length returns)
+write-last-spec = tie.close (tie.spec (λ c κs. tt) write-out-requires same-length returns)

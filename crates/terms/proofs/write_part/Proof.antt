@@ -1,3 +1,6 @@
+-- `write_part` writes the answers to all lines that end in a part, where the output stays open. The loop keeps:
+-- the buffer has its length of 512 or more, and what was sent, then the answers to the part from `s.at` on, are
+-- those to all of it (`Handed`). Each turn leads on (`handed-more`); at the end nothing is left (`handed-all`).
 use native.Mathlib.Omega.{arith}
 use Prim.Native.Nat.{_-_, _≤_}
 use mathlib.Core.Path.{_≡_, refl, sym, _∙_}
@@ -5,13 +8,14 @@ use mathlib.Core.Bool.{true≢false}
 use lib.ListN.{length, drop}
 use borrow.Author.Needs.{needs}
 use Rattle.questions.proofs.Bools.{said-no, said-yes}
-use Rattle.years.specs.Calendars.{calendarAnswer}
+use Rattle.file_calendar.specs.Calendars.{calendarAnswer}
 use Rattle.table.specs.Table.{openIn}
-use Rattle.sessions.specs.Parts.{Handed, answers}
-use Rattle.sessions.proofs.Runs.{handed-none, handed-more, handed-all}
+use Rattle.session_parts.specs.TermsParts.{Handed, answers}
+use Rattle.session_parts.proofs.TermsRuns.{handed-none, handed-more, handed-all}
 use Rattle.terms.proofs.write_part.Statement.{statement}
 use Rattle.terms.proofs.write_part.Tie as tie
 
+-- ---- the loop's invariant and its measure
 abbrev Inv-loop : tie.InvT-loop
 Inv-loop file judged part out₀ kept line text₀ s₀ out text s =
     (512 ≤ length out₀) × (length out ≡ length out₀) × Handed (openIn (calendarAnswer judged) file) (s₀ .kept) (s₀ .line) part (text₀ .sent .bytes) (s .kept) (s .line) (drop (s .at) part) (text .sent .bytes)
@@ -19,12 +23,14 @@ Inv-loop file judged part out₀ kept line text₀ s₀ out text s =
 abbrev μ-loop : tie.MeasureT-loop
 μ-loop file judged part out₀ kept line text₀ s₀ out text s = length part - s .at
 
+-- ---- before the loop
 loop-holds : tie.Need-loop-holds Inv-loop μ-loop
 loop-holds c = (omega arith, refl, handed-none _ _ _ _ _ (search needs))
 
 answer-part-requires : tie.Need-answer-part-requires Inv-loop μ-loop
 answer-part-requires c κs = tt
 
+-- ---- a turn: what is written, and an output that is shut
 write-out-requires : tie.Need-write-out-requires Inv-loop μ-loop
 write-out-requires c κs =
     let a = c .before .before .before .answer-part .ensures in
@@ -41,6 +47,7 @@ same-length c =
 returns : tie.Need-returns Inv-loop μ-loop
 returns c = λ e. absurd (true≢false (sym e ∙ said-no (c .before .is-open .ensures) (c .if2 .taken)))
 
+-- ---- the invariant after it
 loop-less : tie.Need-loop-less Inv-loop μ-loop
 loop-less c =
     let at-answer-part = c .before .before .before .before .before .before in
@@ -58,6 +65,7 @@ loop-again c =
     let w = at-write-out .write-out .ensures (said-yes (at-is-open .is-open .ensures) (c .if2 .left)) in
     (v .0, a .long ∙ v .1, handed-more _ _ _ _ _ _ _ _ _ _ _ _ _ (v .2) a w)
 
+-- ---- the end
 same-length-2 : tie.Need-same-length-2 Inv-loop μ-loop
 same-length-2 c = c .before .before .before .before .loop .inv .1
 

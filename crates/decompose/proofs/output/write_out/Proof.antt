@@ -3,7 +3,7 @@ use mathlib.Core.Path.{sym}
 use native.Mathlib.Omega.{arith}
 use lib.Seq.{length-take-le}
 use borrow.Author.Needs.{needs}
-use Rattle.contents.proofs.Whole.{text-short}
+use Rattle.file_text_print.proofs.WholeText.{text-short}
 use Rattle.decompose.proofs.output.write_out.Statement.{statement}
 use Rattle.decompose.proofs.output.write_out.Tie as tie
 
@@ -12,9 +12,6 @@ slice-aggregate-write-next c = search needs
 
 slice-aggregate-write-next-2 : tie.Need-slice-aggregate-write-next-2
 slice-aggregate-write-next-2 c = sym (length-take-le _ _ (c .before .before .before .before .pre .0))
-
-write-next-requires : tie.Need-write-next-requires
-write-next-requires c κs = tt
 
 returns : tie.Need-returns
 returns c = λ e.
@@ -31,4 +28,4 @@ returns c = λ e.
 
 pub write-out-spec : {M : Type 1} → statement M
 write-out-spec =
-    tie.close (tie.spec slice-aggregate-write-next slice-aggregate-write-next-2 write-next-requires returns)
+    tie.close (tie.spec slice-aggregate-write-next slice-aggregate-write-next-2 (λ c κs. tt) returns)

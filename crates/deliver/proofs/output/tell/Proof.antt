@@ -1,5 +1,5 @@
 -- All bytes of the line are handed to the library, and counted.
-use mathlib.Core.Path.{_≡_, refl, sym}
+use mathlib.Core.Path.{_≡_, sym}
 use Prim.Native.Nat.{_≤_}
 use lib.ListN.{length, length-map}
 use lib.Seq.{length-take-le}
@@ -25,9 +25,6 @@ slice-aggregate-tell c =
     let h : start .args .line .length ≤ length (start .args .line .bytes) = omega (arith, l, start .pre .0) in
     sym (length-take-le _ _ h)
 
-tell-requires : tie.Need-tell-requires
-tell-requires c κs = tt
-
 add-t12 : tie.Need-add-t12
 add-t12 c = search needs
 
@@ -41,6 +38,6 @@ tell-spec =
     returns
     array-share-prefix-bytes
     slice-aggregate-tell
-    tell-requires
+    (λ c κs. tt)
     add-t12
     returns-2)

@@ -13,9 +13,6 @@ slice-aggregate-write-next c = search needs
 slice-aggregate-write-next-2 : tie.Need-slice-aggregate-write-next-2
 slice-aggregate-write-next-2 c = sym (length-take-le _ _ (c .before .before .before .before .before .pre .0))
 
-write-next-requires : tie.Need-write-next-requires
-write-next-requires c κs = tt
-
 returns : tie.Need-returns
 returns c =
     let start = c .before .before .before .before .before .before in
@@ -25,4 +22,4 @@ returns c =
 pub write-out-spec : {M : Type 1} → statement M
 write-out-spec =
     tie.close
-    (tie.spec slice-aggregate-write-next slice-aggregate-write-next-2 write-next-requires returns)
+    (tie.spec slice-aggregate-write-next slice-aggregate-write-next-2 (λ c κs. tt) returns)

@@ -1,15 +1,19 @@
+-- `number_of` reads decimal digits without overflow: nothing is promised of the number. The loop keeps: i is at most the
+-- text's length; a number of more than 999 ends it before the next digit, so 16 bits hold it. Each need is found by search.
 use Prim.Native.Nat.{_-_, _≤_}
 use lib.ListN.{length}
 use borrow.Author.Needs.{needs}
 use Rattle.gateway.proofs.input.number_of.Statement.{statement}
 use Rattle.gateway.proofs.input.number_of.Tie as tie
 
+-- ---- the loop's invariant and its measure
 abbrev Inv-loop : tie.InvT-loop
 Inv-loop text number₀ i₀ number i = i ≤ length text
 
 abbrev μ-loop : tie.MeasureT-loop
 μ-loop text number₀ i₀ number i = length text - i
 
+-- ---- the needs
 loop-holds : tie.Need-loop-holds Inv-loop μ-loop
 loop-holds c = search needs
 

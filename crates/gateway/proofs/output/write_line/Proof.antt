@@ -1,12 +1,9 @@
 -- Each piece is the next of the line, and the last ends it.
 use native.Mathlib.Omega.{arith}
-use Rattle.intake_texts.proofs.Pieces.{no-word, no-number, no-feed, no-all, ok-word, ok-years, ok-space, ok-records, ok-feed, ok-all}
+use Rattle.file_intake_text.proofs.Pieces.{no-word, no-number, no-feed, no-all, ok-word, ok-years, ok-space, ok-records, ok-feed, ok-all}
 use borrow.Author.Needs.{needs}
 use Rattle.gateway.proofs.output.write_line.Statement.{statement}
 use Rattle.gateway.proofs.output.write_line.Tie as tie
-
-nothing-sent-requires : tie.Need-nothing-sent-requires
-nothing-sent-requires c κs = tt
 
 slice-aggregate-write-piece : tie.Need-slice-aggregate-write-piece
 slice-aggregate-write-piece c = search needs
@@ -95,7 +92,7 @@ pub write-line-spec : {M : Type 1} → statement M
 write-line-spec =
     tie.close
     (tie.spec
-    nothing-sent-requires
+    (λ c κs. tt)
     slice-aggregate-write-piece
     write-piece-requires
     cast-write-number

@@ -1,13 +1,13 @@
 -- The last of the five digits are the number in decimal.
 use mathlib.Core.Path.{_≡_, refl, ap, _∙_}
 use mathlib.Core.List.{List}
-use Prim.Native.Nat.{ℕ, _+_, _-_, _≤_}
+use Prim.Native.Nat.{ℕ, _+_, _-_}
 use native.Mathlib.Omega.{arith}
 use lib.ListN.{length, take, drop, length-drop}
 use lib.Seq.{take-all}
-use Rattle.printing.specs.Text.{inTwoDigits, inFourDigits, decimal}
-use Rattle.intake_texts.specs.Texts.{fiveDigits, digitCount}
-use Rattle.intake_texts.proofs.Digits.{digits-are}
+use Rattle.session_text.specs.TermsText.{inTwoDigits, inFourDigits, decimal}
+use Rattle.file_intake_text.specs.GatewayTexts.{fiveDigits, digitCount}
+use Rattle.file_intake_text.proofs.Digits.{digits-are}
 use borrow.Author.Needs.{needs}
 use Rattle.gateway.proofs.output.write_number.Statement.{statement}
 use Rattle.gateway.proofs.output.write_number.Tie as tie
@@ -17,12 +17,6 @@ unfolding fiveDigits inFourDigits inTwoDigits
 slice-is n k digits e q =
     let l : length (fiveDigits n) ≡ 5 = refl in
     rw e (take-all (5 - (5 - k)) (drop (5 - k) (fiveDigits n)) (omega (arith, length-drop (5 - k) (fiveDigits n))) ∙ digits-are n k q)
-
-five-digits-requires : tie.Need-five-digits-requires
-five-digits-requires c κs = tt
-
-digit-count-requires : tie.Need-digit-count-requires
-digit-count-requires c κs = tt
 
 sub-from : tie.Need-sub-from
 sub-from c = search needs
@@ -52,8 +46,8 @@ pub write-number-spec : {M : Type 1} → statement M
 write-number-spec =
     tie.close
     (tie.spec
-    five-digits-requires
-    digit-count-requires
+    (λ c κs. tt)
+    (λ c κs. tt)
     sub-from
     sub-write-piece
     part-write-piece-start

@@ -3,7 +3,7 @@ use mathlib.Core.Path.{refl, sym}
 use mathlib.Core.Bool.{true≢false}
 use native.Mathlib.Omega.{arith}
 use borrow.Author.Tests.{not-false}
-use Rattle.intake_texts.proofs.Digits.{ended-short}
+use Rattle.file_intake_text.proofs.Digits.{ended-short}
 use Rattle.gateway.proofs.output.write_piece.Statement.{statement}
 use Rattle.gateway.proofs.output.write_piece.Tie as tie
 
@@ -13,11 +13,8 @@ add-bytes c = omega (arith, c .before .before .pre .within, ended-short (c .befo
 returns : tie.Need-returns
 returns c = (refl, λ e. absurd (true≢false (sym e)))
 
-put-requires : tie.Need-put-requires
-put-requires c κs = tt
-
 returns-2 : tie.Need-returns-2
 returns-2 c = (refl, λ e. not-false _ (c .before .if1 .left))
 
 pub write-piece-spec : {M : Type 1} → statement M
-write-piece-spec = tie.close (tie.spec add-bytes returns put-requires returns-2)
+write-piece-spec = tie.close (tie.spec add-bytes returns (λ c κs. tt) returns-2)

@@ -3,7 +3,7 @@ use mathlib.Core.Path.{sym}
 use native.Mathlib.Omega.{arith}
 use lib.Seq.{length-take-le}
 use Rattle.delivery_queries.specs.Queries.{queryTold}
-use Rattle.query.proofs.Whole.{told-fits}
+use Rattle.query.proofs.WholeRun.{told-fits}
 use borrow.Author.Needs.{needs}
 use Rattle.query.proofs.output.tell.Statement.{statement}
 use Rattle.query.proofs.output.tell.Tie as tie
@@ -20,9 +20,6 @@ slice-aggregate-tell c =
     let f = told-fits (queryTold (start .args .file .now) (start .args .text .now)) (start .args .line) (start .pre) in
     sym (length-take-le (start .args .line .length) (start .args .line .bytes) (omega (arith, f .0, f .1)))
 
-tell-requires : tie.Need-tell-requires
-tell-requires c κs = tt
-
 returns : tie.Need-returns
 returns c = search needs
 
@@ -32,5 +29,5 @@ tell-spec =
     (tie.spec
     array-share-prefix-bytes
     slice-aggregate-tell
-    tell-requires
+    (λ c κs. tt)
     returns)

@@ -1,7 +1,7 @@
 -- All bytes at the start of the buffer are written, or the output is no longer open.
 use mathlib.Core.Path.{sym, _∙_, ap}
 use lib.Seq.{length-take-le}
-use Rattle.sessions.specs.Parts.{counted}
+use Rattle.session_parts.specs.TermsParts.{counted}
 use borrow.Author.Needs.{needs}
 use Rattle.query.proofs.output.write_out.Statement.{statement}
 use Rattle.query.proofs.output.write_out.Tie as tie
@@ -11,9 +11,6 @@ slice-aggregate-write-next c = search needs
 
 slice-aggregate-write-next-2 : tie.Need-slice-aggregate-write-next-2
 slice-aggregate-write-next-2 c = sym (length-take-le _ _ (c .before .before .before .before .before .before .before .pre .0))
-
-write-next-requires : tie.Need-write-next-requires
-write-next-requires c κs = tt
 
 returns : tie.Need-returns
 returns c = λ e.
@@ -27,5 +24,5 @@ write-out-spec =
     (tie.spec
     slice-aggregate-write-next
     slice-aggregate-write-next-2
-    write-next-requires
+    (λ c κs. tt)
     returns)

@@ -1,30 +1,20 @@
+-- Shown: the answer is the definition's call of the round. Refusal 10 has its no, 30 a b below 1 or above 200 after the yes
+-- to 10. A right queue has at most 200 tables (`right-count`), so `first_to_end` can be called, and it is the rest.
 use Rattle.rounds.proofs.Queues.{right-count}
-use Rattle.rounds.proofs.Calls.{handle-10, handle-small, handle-large, handle-done}
+use Rattle.rounds.proofs.QueueQuestions.{handle-10, handle-small, handle-large, handle-done}
 use Rattle.questions.proofs.Bools.{said-no, said-yes}
 use borrow.Author.Tests.{le-leb, lt-leb}
 use mathlib.Core.Path.{_∙_, sym}
 use Rattle.rounds.proofs.Queue.handle.Statement.{statement}
 use Rattle.rounds.proofs.Queue.handle.Tie as tie
 
-is-right-requires : tie.Need-is-right-requires
-is-right-requires c κs = tt
-
-none-taken-requires : tie.Need-none-taken-requires
-none-taken-requires c κs = tt
-
 returns : tie.Need-returns
 returns c = c .none-taken .ensures ∙ sym (handle-10 _ _ (said-no (c .before .before .is-right .ensures) (c .before .if1 .taken)))
-
-none-taken-requires-2 : tie.Need-none-taken-requires-2
-none-taken-requires-2 c κs = tt
 
 returns-2 : tie.Need-returns-2
 returns-2 c =
     let r = said-yes (c .before .before .before .is-right .ensures) (c .before .before .if1 .left) in
     c .none-taken2 .ensures ∙ sym (handle-small _ _ r (lt-leb _ _ (c .before .if2 .taken)))
-
-none-taken-requires-3 : tie.Need-none-taken-requires-3
-none-taken-requires-3 c κs = tt
 
 returns-3 : tie.Need-returns-3
 returns-3 c =
@@ -43,12 +33,12 @@ pub handle-spec : {M : Type 1} → statement M
 handle-spec =
     tie.close
     (tie.spec
-    is-right-requires
-    none-taken-requires
+    (λ c κs. tt)
+    (λ c κs. tt)
     returns
-    none-taken-requires-2
+    (λ c κs. tt)
     returns-2
-    none-taken-requires-3
+    (λ c κs. tt)
     returns-3
     first-to-end-requires
     returns-4)

@@ -1,5 +1,8 @@
+-- Shown: the answer is the definition's joining. Refusals 10, 30 and 31 cite the yeses before them and their own no: an index
+-- below the count says that the table is queued already. If it is not, the queue has fewer than 200 tables, since its
+-- numbers are distinct and below 200 (`join-room`), and the table is put at the end.
 use Rattle.rounds.proofs.Queues.{right-count}
-use Rattle.rounds.proofs.Calls.{join-10, join-30, join-31, join-done, join-room}
+use Rattle.rounds.proofs.QueueQuestions.{join-10, join-30, join-31, join-done, join-room}
 use Rattle.questions.proofs.Bools.{said-no, said-yes}
 use borrow.Author.Tests.{le-leb, lt-leb}
 use borrow.Author.Needs.{needs}
@@ -15,6 +18,7 @@ is-right-requires c κs = search needs
 unchanged-requires : tie.Need-unchanged-requires
 unchanged-requires c κs = search needs
 
+-- ---- the refusals
 returns : tie.Need-returns
 returns c = c .unchanged .ensures ∙ sym (join-10 _ _ (said-no (c .before .before .is-right .ensures) (c .before .if1 .taken)))
 
@@ -45,6 +49,7 @@ returns-3 c =
     let e = c .before .before .index-of .ensures in
     c .unchanged3 .ensures ∙ sym (join-31 (start .args .self) (start .args .table) r s (omega (arith, l, right-count (start .args .self) r)) (rw (← e .0) (c .before .if3 .taken)))
 
+-- ---- there is room, and the table joins
 with-last-requires : tie.Need-with-last-requires
 with-last-requires c κs =
     let at-if1 = c .before .before .before .before .before in

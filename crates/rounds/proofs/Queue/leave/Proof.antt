@@ -1,5 +1,8 @@
+-- Shown: the answer is the definition's leaving. Refusals 10, 30 and 31 cite the yeses before them and their own no: an index
+-- that is not below the count says that the table is not queued. A right queue has it once, so the queue without that
+-- index is the queue without the table (`leave-done`).
 use Rattle.rounds.proofs.Queues.{right-count}
-use Rattle.rounds.proofs.Calls.{leave-10, leave-30, leave-31, leave-done}
+use Rattle.rounds.proofs.QueueQuestions.{leave-10, leave-30, leave-31, leave-done}
 use Rattle.questions.proofs.Bools.{said-no, said-yes}
 use borrow.Author.Tests.{le-leb, lt-leb}
 use borrow.Author.Needs.{needs}
@@ -15,6 +18,7 @@ is-right-requires c κs = search needs
 unchanged-requires : tie.Need-unchanged-requires
 unchanged-requires c κs = search needs
 
+-- ---- the refusals
 returns : tie.Need-returns
 returns c = c .unchanged .ensures ∙ sym (leave-10 _ _ (said-no (c .before .before .is-right .ensures) (c .before .if1 .taken)))
 
@@ -45,6 +49,7 @@ returns-3 c =
     let e = c .before .before .index-of .ensures in
     c .unchanged3 .ensures ∙ sym (leave-31 (start .args .self) (start .args .table) r s (omega (arith, l, right-count (start .args .self) r)) (rw (← e .0) (c .before .if3 .taken)))
 
+-- ---- the table leaves
 without-index-requires : tie.Need-without-index-requires
 without-index-requires c κs =
     let at-if1 = c .before .before .before .before .before in

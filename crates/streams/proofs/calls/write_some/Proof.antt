@@ -1,7 +1,5 @@
 -- What is answered is the last call's answer, which lies within the bytes; each turn uses up one try.
-use mathlib.Core.Path.{_≡_}
-use lib.ListN.{length}
-use Rattle.streams.proofs.Answers.{answer-within, none-within}
+use Rattle.streams.proofs.TransferAnswers.{answer-within, none-within}
 use borrow.Author.Needs.{needs}
 use Rattle.streams.proofs.calls.write_some.Statement.{statement}
 use Rattle.streams.proofs.calls.write_some.Tie as tie

@@ -1,10 +1,9 @@
 -- The bytes so far lie within the buffer, and every turn that does not end the loop leaves less of it.
-use native.Mathlib.Omega.{arith}
 use Prim.Native.Nat.{_-_, _≤_}
 use mathlib.Core.Path.{_≡_}
 use lib.ListN.{length}
 use borrow.Author.Needs.{needs}
-use Rattle.streams.proofs.Answers.{none-within, moved-within}
+use Rattle.streams.proofs.TransferAnswers.{none-within, moved-within}
 use Rattle.streams.proofs.input.read_all.Statement.{statement}
 use Rattle.streams.proofs.input.read_all.Tie as tie
 

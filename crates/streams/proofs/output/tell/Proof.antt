@@ -1,7 +1,5 @@
 -- Every turn that does not end the loop leaves fewer bytes.
-use native.Mathlib.Omega.{arith}
 use Prim.Native.Nat.{_-_, _≤_}
-use mathlib.Core.Path.{_≡_}
 use lib.ListN.{length}
 use borrow.Author.Needs.{needs}
 use Rattle.streams.proofs.output.tell.Statement.{statement}

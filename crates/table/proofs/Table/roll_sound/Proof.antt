@@ -1,4 +1,7 @@
-use Rattle.table.proofs.Calls.{roll-11, roll-12, roll-16, given-most}
+-- Shown: of a sound table the answer is the definition's roll. A refusal (11, 12) cites the yeses before it and its own no;
+-- a count above 60,000 no sound table has. Where the front on the date is the key in the first place, the listing is the
+-- same (`stays`), so the table that is kept is the one the definition relists; else it is relisted.
+use Rattle.table.proofs.TableQuestions.{roll-11, roll-12, roll-16, given-most}
 use Rattle.table.proofs.Staying.{stays}
 use Rattle.table.specs.declared.Table.{Table}
 use Rattle.table.specs.Table.{sound, moved, refusedWith, rollCall}
@@ -6,29 +9,18 @@ use Rattle.listing.specs.Months.{allInCover}
 use Rattle.questions.proofs.Bools.{said-no, said-yes}
 use borrow.Author.Tests.{le-leb, lt-leb}
 use native.Mathlib.Omega.{arith}
-use Prim.Native.Nat.{ℕ, _-_}
+use Prim.Native.Nat.{ℕ}
 use mathlib.Core.Bool.{true, cond}
 use mathlib.Core.Path.{_≡_, _∙_, sym}
 use Rattle.table.proofs.Table.roll_sound.Statement.{statement}
 use Rattle.table.proofs.Table.roll_sound.Tie as tie
 
-refused-requires : tie.Need-refused-requires
-refused-requires c κs = tt
-
+-- ---- the refusals
 returns : tie.Need-returns
 returns c = λ s. absurd (omega (arith, c .before .if1 .taken, given-most _ s))
 
-in-cover-requires : tie.Need-in-cover-requires
-in-cover-requires c κs = tt
-
-refused-requires-2 : tie.Need-refused-requires-2
-refused-requires-2 c κs = tt
-
 returns-2 : tie.Need-returns-2
 returns-2 c = λ s. c .refused2 .ensures ∙ sym (roll-11 _ _ s (said-no (c .before .before .in-cover .ensures) (c .before .if2 .taken)))
-
-refused-requires-3 : tie.Need-refused-requires-3
-refused-requires-3 c κs = tt
 
 returns-3 : tie.Need-returns-3
 returns-3 c = λ s.
@@ -37,12 +29,7 @@ returns-3 c = λ s.
     let yes-in-cover = said-yes (at-in-cover .in-cover .ensures) (at-if2 .if2 .left) in
     c .refused3 .ensures ∙ sym (roll-12 _ _ s yes-in-cover (lt-leb _ _ (c .before .if3 .taken)))
 
-front-stays-requires : tie.Need-front-stays-requires
-front-stays-requires c κs = tt
-
-kept-requires : tie.Need-kept-requires
-kept-requires c κs = tt
-
+-- ---- after the refusals: what is left of the definition's roll
 abbrev table-at : tie.After-front-stays → Table
 table-at c = c .before .before .before .before .before .before .before .args .self
 
@@ -57,12 +44,14 @@ asked c s =
     let yes-in-cover = said-yes (at-in-cover .in-cover .ensures) (at-if2 .if2 .left) in
     roll-16 _ _ s yes-in-cover (le-leb _ _ (c .before .if3 .left))
 
+-- ---- the front stays
 returns-4 : tie.Need-returns-4
 returns-4 c = λ s.
     let at-front-stays = c .before .before in
     c .kept .ensures .0 ∙
     sym (asked at-front-stays s ∙ stays _ s (c .kept .ensures .1) _ (sym (at-front-stays .front-stays .ensures) ∙ c .before .if4 .taken))
 
+-- ---- the front moves
 relisted-requires : tie.Need-relisted-requires
 relisted-requires c κs = omega arith
 
@@ -73,15 +62,15 @@ pub roll-sound-spec : {M : Type 1} → statement M
 roll-sound-spec =
     tie.close
     (tie.spec
-    refused-requires
+    (λ c κs. tt)
     returns
-    in-cover-requires
-    refused-requires-2
+    (λ c κs. tt)
+    (λ c κs. tt)
     returns-2
-    refused-requires-3
+    (λ c κs. tt)
     returns-3
-    front-stays-requires
-    kept-requires
+    (λ c κs. tt)
+    (λ c κs. tt)
     returns-4
     relisted-requires
     returns-5)

@@ -3,7 +3,7 @@ use mathlib.Core.Path.{sym, ap, _∙_}
 use Prim.Native.Nat.{ℕ}
 use lib.Seq.{length-take-le}
 use borrow.Author.Needs.{needs}
-use Rattle.sessions.specs.Parts.{counted}
+use Rattle.session_parts.specs.TermsParts.{counted}
 use Rattle.terms.proofs.output.write_out.Statement.{statement}
 use Rattle.terms.proofs.output.write_out.Tie as tie
 
@@ -13,9 +13,6 @@ slice-aggregate-write-next c = search needs
 slice-aggregate-write-next-2 : tie.Need-slice-aggregate-write-next-2
 slice-aggregate-write-next-2 c = sym (length-take-le _ _ (c .before .before .before .before .before .pre .0))
 
-write-next-requires : tie.Need-write-next-requires
-write-next-requires c κs = tt
-
 returns : tie.Need-returns
 returns c = λ e.
     let start = c .before .before .before .before .before .before in
@@ -23,4 +20,4 @@ returns c = λ e.
 
 pub write-out-spec : {M : Type 1} → statement M
 write-out-spec =
-    tie.close (tie.spec slice-aggregate-write-next slice-aggregate-write-next-2 write-next-requires returns)
+    tie.close (tie.spec slice-aggregate-write-next slice-aggregate-write-next-2 (λ c κs. tt) returns)

@@ -1,0 +1,1 @@
+"""Benchmarks: what the programs cost. Nothing here passes or fails."""

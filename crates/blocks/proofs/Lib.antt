@@ -1,3 +1,0 @@
-pub mod Files
-pub mod Counting
-pub mod Zeros

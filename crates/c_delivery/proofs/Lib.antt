@@ -1,0 +1,4 @@
+mod NoticesSaid
+mod Delivering
+pub mod DemandAfterNotices
+pub mod RefusedOpening

@@ -1,0 +1,3 @@
+mod NextRow
+mod ProductDifferences
+pub mod RowsOfText

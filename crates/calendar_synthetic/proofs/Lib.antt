@@ -1,0 +1,2 @@
+mod EachDay
+pub mod CleanCalendars

@@ -1,0 +1,4 @@
+pub mod DayWords
+pub mod Equations
+pub mod Windows
+pub mod MapBytes

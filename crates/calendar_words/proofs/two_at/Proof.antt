@@ -1,0 +1,42 @@
+-- Two bytes of the maps as one number, below 2^16: the first times 256 and the second, by `bytes-join`. The sizes are found by search.
+use Rattle.calendar_words.proofs.DayWords.{bytes-join, one-byte}
+use Prim.Native.Nat.{_+_}
+use native.Mathlib.Omega.{arith}
+use borrow.Author.Needs.{needs}
+use Rattle.calendar_words.proofs.two_at.Statement.{statement}
+use Rattle.calendar_words.proofs.two_at.Tie as tie
+
+element-copy-out-wide : tie.Need-element-copy-out-wide
+element-copy-out-wide c = search needs
+
+mul-result : tie.Need-mul-result
+mul-result c = search needs
+
+add-wide : tie.Need-add-wide
+add-wide c = search needs
+
+element-copy-out-wide-2 : tie.Need-element-copy-out-wide-2
+element-copy-out-wide-2 c = search needs
+
+add-result : tie.Need-add-result
+add-result c = search needs
+
+returns : tie.Need-returns
+returns c =
+    let start = c .before .before .before .before in
+    let b = start .args .maps .now in
+    let j = bytes-join b (start .args .at) 1 1 in
+    (omega (arith, j, one-byte b (start .args .at), one-byte b (start .args .at + 1)), omega arith)
+
+pub two-at-spec : {M : Type 1} → statement M
+two-at-spec =
+    tie.close
+    (tie.spec
+    element-copy-out-wide
+    (λ c κs. tt)
+    mul-result
+    add-wide
+    element-copy-out-wide-2
+    (λ c κs. tt)
+    add-result
+    returns)

@@ -1,0 +1,4 @@
+pub mod VerdictTexts
+pub mod EntryLines
+pub mod InputLines
+pub mod VerdictLength

@@ -1,0 +1,2 @@
+pub mod ConfirmInputs
+pub mod InputReading

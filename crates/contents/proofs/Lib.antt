@@ -1,4 +1,0 @@
-pub mod Building
-pub mod Lengths
-pub mod Going
-pub mod Whole

@@ -1,4 +1,0 @@
-pub mod Words
-pub mod Equations
-pub mod Windows
-pub mod Bytes

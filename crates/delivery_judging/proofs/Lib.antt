@@ -1,0 +1,3 @@
+mod Keys
+mod Places
+mod Rows

@@ -1,0 +1,25 @@
+-- The bytes at the start of the buffer are counted.
+use mathlib.Core.Path.{sym}
+use native.Mathlib.Omega.{arith}
+use lib.Seq.{length-take-le}
+use borrow.Author.Needs.{needs}
+use Rattle.delivery_judging.proofs.write_strangers.Statement.{statement}
+use Rattle.delivery_judging.proofs.write_strangers.Tie as tie
+
+slice-aggregate-write-next : tie.Need-slice-aggregate-write-next
+slice-aggregate-write-next c = search needs
+
+slice-aggregate-write-next-2 : tie.Need-slice-aggregate-write-next-2
+slice-aggregate-write-next-2 c = sym (length-take-le _ _ (search needs))
+
+returns : tie.Need-returns
+returns c = λ o. let w = c .write-next .ensures o in (w .0, omega (arith, w .1, length-take-le (c .before .before .before .before .before .before .args .p .length) (c .before .before .before .before .before .before .args .out .now) (c .before .before .before .before .before .before .pre .0)))
+
+pub write-strangers-spec : {M : Type 1} → statement M
+write-strangers-spec =
+    tie.close
+    (tie.spec
+    slice-aggregate-write-next
+    slice-aggregate-write-next-2
+    (λ c κs. tt)
+    returns)

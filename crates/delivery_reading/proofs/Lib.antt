@@ -1,0 +1,2 @@
+mod Fetches
+mod Comes

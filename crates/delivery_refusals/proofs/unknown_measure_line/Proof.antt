@@ -1,0 +1,24 @@
+-- `unknown_measure_line` tells the measure of an id that the file has not: `refusal_text`
+-- of the notice's line, its unknown refusal and its id, joined by `unknown-told`.
+use borrow.Author.Needs.{needs}
+use Rattle.delivery_refusals.proofs.RefusalsTold.{unknown-told}
+use Rattle.delivery_refusals.proofs.unknown_measure_line.Statement.{statement}
+use Rattle.delivery_refusals.proofs.unknown_measure_line.Tie as tie
+
+mul-call-number : tie.Need-mul-call-number
+mul-call-number c = search needs
+
+returns : tie.Need-returns
+returns c =
+    unknown-told (c .before .before .before .before .before .before .before .args .file .now) (c .before .before .before .before .before .before .before .args .calls .now) (c .before .before .before .before .before .before .before .args .ids .now) (c .before .before .before .before .before .before .before .args .i) _ _ _ _ (c .before .before .before .unknown-refusal .ensures) (c .before .before .call-number .ensures) (c .before .id-in .ensures) (c .refusal-text .ensures)
+
+pub unknown-measure-line-spec : {M : Type 1} → statement M
+unknown-measure-line-spec =
+    tie.close
+    (tie.spec
+    (λ c κs. tt)
+    mul-call-number
+    (λ c κs. tt)
+    (λ c κs. tt)
+    (λ c κs. tt)
+    returns)

@@ -1,0 +1,175 @@
+-- All that a run of the program writes is the text of the definition, however its input arrives, and so many bytes were counted.
+-- Assumes nothing.
+use mathlib.Core.Path.{_≡_, refl, sym, ap, _∙_, subst, fun-ext}
+use mathlib.Core.Bool.{Bool, true, false, _&&_, cond}
+use mathlib.Core.List.{List, [], _∷_, _++_, append-nil, append-assoc}
+use Prim.Native.Nat.{ℕ, _+_, _^_, _≤_, _<_}
+use native.Mathlib.Omega.{arith}
+use lib.Dec.{eqb}
+use lib.ListN.{length, getD, take, drop, drop-of-length-le, length-append, List·getD-append}
+use lib.Seq.{length-take-le, drop-append-le}
+use borrow.Author.Tests.{eq-eqb}
+use Rattle.questions.specs.Questions.{firstNo}
+use Rattle.file_load.specs.Load.{loadAsks}
+use Rattle.session_parts.specs.TermsParts.{counted, inOne}
+use Rattle.session_parts.proofs.TermsRuns.{counted-none}
+use Rattle.delivery_lines.specs.NoticeLines.{markLength, unmarked}
+use Rattle.delivery_notices.specs.Notices.{textTold}
+use Rattle.delivery_items.specs.declared.LongLine.{LongLine}
+use Rattle.delivery_items.specs.Items.{emptyLong}
+use Rattle.delivery_answers.specs.declared.Standing.{Standing}
+use Rattle.delivery_queries.specs.Queries.{standingOf, repliesText, queryText}
+use Rattle.session_lines.specs.CommandLines.{linesFrom}
+use Rattle.delivery_sessions.specs.declared.QueryProgress.{QueryProgress}
+use Rattle.delivery_sessions.specs.QueryParts.{queryRest, QueryAnswers, QueryLastAnswer}
+use Rattle.delivery_sessions.specs.QueryRuns.{QueryHanded, QueryRun, ended, goes-on, QueryRan, Came, RanOn}
+use Rattle.delivery_sessions.proofs.QueryLinesFed.{whole-input}
+
+-- counted twice
+counted-twice : (n a b : ℕ) → counted (counted n a) b ≡ counted n (a + b)
+counted-twice n a b = omega arith
+
+module _ (of : List ℕ → Standing) (k : ℕ) (l : LongLine) (part : List ℕ) (n : ℕ) where
+  -- a part before its first byte
+  pub handed-none : n < 2 ^ 64 → QueryHanded of k l part n k l (drop 0 part) n
+  handed-none b = record { text = []; is = λ rest. refl; count = counted-none n b }
+
+  -- the answers to some more of its lines
+  pub handed-more : (k′ : ℕ) (l′ : LongLine) (at m n′ : ℕ) (before after : List ℕ) (r : QueryProgress) → QueryHanded of k l part n k′ l′ (drop at part) m
+      → QueryAnswers of k′ l′ part at before after r → n′ ≡ counted m (r .length) → QueryHanded of k l part n (r .number) (r .line) (drop (r .at) part) n′
+  handed-more k′ l′ at m n′ before after r d a c =
+      record {
+        text = d .text ++ take (r .length) after;
+        is = λ rest. d .is rest ∙ ap (λ (t : List ℕ). d .text ++ t) (a .text rest)
+            ∙ sym (append-assoc (d .text) (take (r .length) after) (queryRest of (r .number) (r .line) (drop (r .at) part ++ rest)));
+        count = c ∙ ap (λ (x : ℕ). counted x (r .length)) (d .count) ∙ counted-twice n (length (d .text)) (r .length) ∙ ap (counted n) (sym long);
+      }
+    where
+      long : length (d .text ++ take (r .length) after) ≡ length (d .text) + r .length
+      long = length-append (d .text) (take (r .length) after) ∙ ap (λ (x : ℕ). length (d .text) + x) (length-take-le (r .length) after (a .fits))
+
+  -- it is used up
+  pub handed-all : (k′ : ℕ) (l′ : LongLine) (at m : ℕ) → length part ≤ at → QueryHanded of k l part n k′ l′ (drop at part) m → QueryHanded of k l part n k′ l′ [] m
+  handed-all k′ l′ at m h d = rw (drop-of-length-le part h) at d
+
+-- the count after the last line
+pub last-count : (of : List ℕ → Standing) (k : ℕ) (l : LongLine) (before after : List ℕ) (n n′ r : ℕ) → 512 ≤ length before
+    → QueryLastAnswer of k l before after r → n′ ≡ counted n r → n′ ≡ counted n (length (queryRest of k l []))
+last-count of k l before after n n′ r room a c = c ∙ ap (counted n) (sym (length-take-le r after (a .fits)) ∙ ap length (sym (a .text room)))
+
+-- ---- the mark
+
+-- it is told by the first three bytes
+mark-same : (p rest : List ℕ) → 3 ≤ length p → markLength (p ++ rest) ≡ markLength p
+unfolding markLength
+mark-same p rest h =
+    rw (List·getD-append p rest 0 0 (omega arith), List·getD-append p rest 0 1 (omega arith), List·getD-append p rest 0 2 (omega arith)) refl
+
+mark-most : (p : List ℕ) → 3 ≤ length p → markLength p ≤ length p
+unfolding markLength
+mark-most p h = go (eqb (getD p 0 0) 239 && (eqb (getD p 1 0) 187 && eqb (getD p 2 0) 191))
+  where
+    go : (b : Bool) → cond b 3 0 ≤ length p
+    go true = h
+    go false = omega arith
+
+-- a first part of three bytes or more loses its mark as the whole input does
+pub unmarked-more : (p rest : List ℕ) → 3 ≤ length p → unmarked p ++ rest ≡ unmarked (p ++ rest)
+unfolding unmarked
+unmarked-more p rest h = sym (ap (λ (n : ℕ). drop n (p ++ rest)) (mark-same p rest h) ∙ drop-append-le (markLength p) p rest (mark-most p h))
+
+-- ---- from part to part
+
+in-one : (part : List ℕ) (parts : List (List ℕ)) → inOne (part ∷ parts) ≡ part ++ inOne parts
+unfolding inOne
+in-one part parts = refl
+
+-- after a first part of three bytes or more, which is taken without its mark
+pub came-first : (of : List ℕ → Standing) (k : ℕ) (l : LongLine) (n : ℕ) (part : List ℕ) → 3 ≤ length part
+    → QueryHanded of 1 emptyLong (unmarked part) 0 k l [] n → Came of k l n
+came-first of k l n part h d =
+    record {
+      input = part;
+      parts = unmarked part ∷ [];
+      cut = λ later. in-one (unmarked part) later ∙ unmarked-more part (inOne later) h;
+      text = d .text;
+      on = λ later t n′ r. goes-on d r;
+    }
+
+-- after one more part is used up, the run is still the rest of a run from the first line on
+pub came-more : (of : List ℕ → Standing) (k k′ : ℕ) (l l′ : LongLine) (n m : ℕ) (part : List ℕ) → Came of k l n → QueryHanded of k l part n k′ l′ [] m
+    → Came of k′ l′ m
+came-more of k k′ l l′ n m part c d =
+    record {
+      input = c .input ++ part;
+      parts = c .parts ++ (part ∷ []);
+      cut = λ later.
+          ap inOne (append-assoc (c .parts) (part ∷ []) later) ∙ c .cut (part ∷ later)
+          ∙ ap unmarked (ap (λ (x : List ℕ). c .input ++ x) (in-one part later) ∙ sym (append-assoc (c .input) part (inOne later)));
+      text = c .text ++ d .text;
+      on = λ later t n′ r. rw (append-assoc (c .parts) (part ∷ []) later, append-assoc (c .text) (d .text) t) (c .on (part ∷ later) (d .text ++ t) n′
+          (goes-on d r));
+    }
+
+none-left : inOne [] ≡ []
+unfolding inOne
+none-left = refl
+
+-- after the answer to the last line there is an input whose whole run writes the bytes counted
+pub came-all : (of : List ℕ → Standing) (k : ℕ) (l : LongLine) (n n′ : ℕ) → Came of k l n → n′ ≡ counted n (length (queryRest of k l [])) → QueryRan of n′
+came-all of k l n n′ c e =
+    record {
+      input = c .input;
+      parts = c .parts ++ [];
+      cut = c .cut [] ∙ ap unmarked (ap (λ (x : List ℕ). c .input ++ x) none-left ∙ append-nil (c .input));
+      text = c .text ++ queryRest of k l [];
+      run = c .on [] (queryRest of k l []) n′ (ended e);
+    }
+
+-- an input of fewer bytes is one part
+pub came-short : (of : List ℕ → Standing) (k : ℕ) (l : LongLine) (n n′ : ℕ) (part : List ℕ) → QueryHanded of 1 emptyLong (unmarked part) 0 k l [] n → n′
+    ≡ counted n (length (queryRest of k l [])) → QueryRan of n′
+came-short of k l n n′ part d e =
+    record {
+      input = part;
+      parts = unmarked part ∷ [];
+      cut = in-one (unmarked part) [] ∙ ap (λ (x : List ℕ). unmarked part ++ x) none-left ∙ append-nil (unmarked part);
+      text = d .text ++ queryRest of k l [];
+      run = goes-on d (ended e);
+    }
+
+-- a run by what is known is one by what is known of the file and the notices
+pub ran-own : (of known : List ℕ → Standing) (n : ℕ) → ((id : List ℕ) → of id ≡ known id) → QueryRan of n → QueryRan known n
+ran-own of known n e r = subst (λ (x : List ℕ → Standing). QueryRan x n) (fun-ext e) r
+
+-- ---- what a run writes, and the count of its bytes
+
+-- all that a run writes is what is answered for its parts in one
+pub run-text : {of : List ℕ → Standing} {k : ℕ} {l : LongLine} {n n′ : ℕ} {parts : List (List ℕ)} {text : List ℕ} → QueryRun of k l n parts text n′
+    → queryRest of k l (inOne parts) ≡ text
+unfolding inOne
+run-text (ended e) = refl
+run-text (goes-on {parts = parts} d r) = d .is (inOne parts) ∙ ap (λ (t : List ℕ). d .text ++ t) (run-text r)
+
+run-count : {of : List ℕ → Standing} {k : ℕ} {l : LongLine} {n n′ : ℕ} {parts : List (List ℕ)} {text : List ℕ} → QueryRun of k l n parts text n′ → n′
+    ≡ counted n (length text)
+run-count (ended e) = e
+run-count {n = n} (goes-on {m = m} {text = text} d r) =
+    run-count r ∙ ap (λ (k : ℕ). counted k (length text)) (d .count) ∙ counted-twice n (length (d .text)) (length text)
+    ∙ ap (counted n) (sym (length-append (d .text) text))
+
+accepted-text : (f notices input : List ℕ) → firstNo (loadAsks f) ≡ 0 → textTold notices .bad ≡ 0
+    → repliesText (standingOf f (textTold notices .date) (textTold notices .notices)) 1 (linesFrom [] (unmarked input)) ≡ queryText f notices input
+unfolding queryText
+accepted-text f notices input a b = rw (eq-eqb (firstNo (loadAsks f)) 0 a, eq-eqb (textTold notices .bad) 0 b) refl
+
+-- for every file that is accepted, all notices without a bad line, every input and every way in which it arrives in parts, it is the text of the definition
+pub query-text : (f notices : List ℕ) (n : ℕ) (r : RanOn f notices n) → r .ran .text ≡ queryText f notices (r .ran .input)
+query-text f notices n r =
+    sym (run-text (r .ran .run)) ∙ ap (queryRest (standingOf f (textTold notices .date) (textTold notices .notices)) 1 emptyLong) (r .ran .cut)
+    ∙ whole-input (standingOf f (textTold notices .date) (textTold notices .notices)) (unmarked (r .ran .input))
+    ∙ accepted-text f notices (r .ran .input) (r .accepted) (r .good)
+
+-- and so many bytes were written
+pub query-count : (f notices : List ℕ) (n : ℕ) (r : RanOn f notices n) → n ≡ counted 0 (length (queryText f notices (r .ran .input)))
+query-count f notices n r = run-count (r .ran .run) ∙ ap (λ (t : List ℕ). counted 0 (length t)) (query-text f notices n r)

@@ -1,0 +1,65 @@
+-- The text of `query`, part by part of its input (docs/DELIVERY.md, `query`, from which the quotations are).
+-- Assumes nothing.
+use Prim.Native.Nat.{ℕ, _+_, _≤_, _<_}
+use mathlib.Core.Path.{_≡_}
+use mathlib.Core.Bool.{true, false, cond}
+use mathlib.Core.List.{List, [], _∷_, _++_}
+use mathlib.Core.Logic.{_⊎_}
+use lib.Dec.{eqb}
+use lib.ListN.{length, take, drop}
+use Rattle.delivery_items.specs.declared.LongLine.{LongLine}
+use Rattle.delivery_items.specs.Items.{emptyLong, lengthened}
+use Rattle.delivery_answers.specs.declared.Standing.{Standing}
+use Rattle.delivery_queries.specs.Queries.{nextNumber, longText}
+use Rattle.delivery_sessions.specs.declared.LineEnd.{LineEnd}
+use Rattle.delivery_sessions.specs.declared.QueryProgress.{QueryProgress}
+
+-- what is still answered for the rest of an input, with the number of the line that is begun, and its bytes so far;
+-- from an empty line with the number 1 this is `linesText` (proofs, Feeding: `whole-input`)
+unfoldable pub queryRest : (List ℕ → Standing) → ℕ → LongLine → List ℕ → List ℕ
+queryRest of k l [] = cond (eqb (l .length) 0) [] (longText of k l)
+queryRest of k l (byte ∷ rest) =
+    cond (eqb byte 10) (longText of k l ++ queryRest of (nextNumber k) emptyLong rest) (queryRest of k (lengthened l byte) rest)
+
+-- of a line begun, a part of the input and a place in it: the line's bytes up to its line feed, or to the part's end
+pub record LineFed (l : LongLine) (part : List ℕ) (from : ℕ) (r : LineEnd) : Type 0 where
+  pub ended : r .ended ≡ true → (of : List ℕ → Standing) (k : ℕ) (rest : List ℕ)
+      → queryRest of k l (drop from part ++ rest) ≡ longText of k (r .line) ++ queryRest of (nextNumber k) emptyLong (drop (r .next) part ++ rest)
+  pub begun : r .ended ≡ false → (of : List ℕ → Standing) (k : ℕ) (rest : List ℕ)
+      → queryRest of k l (drop from part ++ rest) ≡ queryRest of k (r .line) (drop (r .next) part ++ rest)
+  pub on : from < length part → from < r .next
+  pub within : from ≤ length part → r .next ≤ length part
+
+-- one line, or the rest of the part: a piece of text stands after what stood in the buffer, and for every rest of the input it is what comes next
+pub record QueryNext (of : List ℕ → Standing) (part before after : List ℕ) (s r : QueryProgress) : Type 0 where
+  pub piece : List ℕ
+  pub text : (rest : List ℕ) → queryRest of (s .number) (s .line) (drop (s .at) part ++ rest) ≡ piece ++ queryRest of (r .number) (r .line) (drop (r .at) part ++ rest)
+  pub is : take (r .length) after ≡ take (s .length) before ++ piece
+  pub unchanged : drop (r .length) after ≡ drop (r .length) before
+  pub long : length after ≡ length before
+  pub fits : (s .length ≤ r .length) × (r .length ≤ length after)
+  pub on : (s .at < r .at) × (r .at ≤ length part)
+
+-- the answers to the lines that end in a part from a place on
+pub record QueryAnswers (of : List ℕ → Standing) (k : ℕ) (l : LongLine) (part : List ℕ) (from : ℕ) (before after : List ℕ) (r : QueryProgress) : Type 0 where
+  -- for every rest of the input, what was written followed by the text of what remains is the text of the whole
+  pub text : (rest : List ℕ) → queryRest of k l (drop from part ++ rest) ≡ take (r .length) after ++ queryRest of (r .number) (r .line) (drop (r .at) part ++ rest)
+  -- it stands at the buffer's start, and nothing else is changed
+  pub fits : r .length ≤ length after
+  pub unchanged : drop (r .length) after ≡ drop (r .length) before
+  pub long : length after ≡ length before
+  -- with room for an answer and a place inside the part the place moves on, and stays in the part
+  pub moves : 512 ≤ length before → from < length part → from < r .at
+  pub within : from ≤ length part → r .at ≤ length part
+  -- where the part is not used up, the buffer has no room for another answer
+  pub full : r .at < length part → length before < r .length + 512
+  -- without room for an answer, or at a place past the part, all stays as it is
+  pub idle : (length before < 512) ⊎ (length part ≤ from) → (r ≡ record { number = k; line = l; at = from; length = 0 }) × (after ≡ before)
+
+-- the answer to a last line that no line feed ends: where there is room, what is answered for an input that has ended
+pub record QueryLastAnswer (of : List ℕ → Standing) (k : ℕ) (l : LongLine) (before after : List ℕ) (r : ℕ) : Type 0 where
+  pub text : 512 ≤ length before → queryRest of k l [] ≡ take r after
+  pub fits : r ≤ length after
+  pub unchanged : drop r after ≡ drop r before
+  pub long : length after ≡ length before
+  pub idle : length before < 512 → (r ≡ 0) × (after ≡ before)

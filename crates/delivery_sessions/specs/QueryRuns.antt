@@ -1,0 +1,66 @@
+-- A run of `query`: what it writes, and how many bytes that is (docs/DELIVERY.md, `query`).
+-- Assumes nothing.
+use Prim.Native.Nat.{ℕ}
+use mathlib.Core.Path.{_≡_}
+use mathlib.Core.List.{List, [], _∷_, _++_}
+use lib.ListN.{length, drop}
+use Rattle.questions.specs.Questions.{firstNo}
+use Rattle.file_load.specs.Load.{loadAsks}
+use Rattle.session_parts.specs.TermsParts.{counted, inOne}
+use Rattle.delivery_lines.specs.NoticeLines.{unmarked}
+use Rattle.delivery_notices.specs.Notices.{textTold}
+use Rattle.delivery_items.specs.declared.LongLine.{LongLine}
+use Rattle.delivery_items.specs.Items.{emptyLong}
+use Rattle.delivery_answers.specs.declared.Standing.{Standing}
+use Rattle.delivery_queries.specs.Queries.{standingOf}
+use Rattle.delivery_sessions.specs.declared.QueryProgress.{QueryProgress}
+use Rattle.delivery_sessions.specs.QueryParts.{queryRest}
+
+-- at a write, the bytes that stand in the lent buffer are what comes next of the answers from the state s:
+-- those to the lines that end in the part between the places of s and r; or the answer to the line of s as the last one;
+-- that s is the state which the run has reached, and that `last` is used where the input has ended, is seen where it is used, not said here
+pub data QueryComesNext (of : List ℕ → Standing) (part : List ℕ) (s r : QueryProgress) (bytes : List ℕ) : Type 0 where
+  answers : ((rest : List ℕ) → queryRest of (s .number) (s .line) (drop (s .at) part ++ rest) ≡ bytes ++ queryRest of (r .number) (r .line) (drop (r .at) part ++ rest))
+      → QueryComesNext of part s r bytes
+  last : queryRest of (s .number) (s .line) [] ≡ bytes → QueryComesNext of part s r bytes
+
+-- a part of the input is used up but for what is left of it:
+-- there is a text which for every rest of the input is what comes next, and the count that the writing function gave back grew by its length;
+-- that these bytes went out is said at each write (`QueryComesNext`), not here
+pub record QueryHanded (of : List ℕ → Standing) (k : ℕ) (l : LongLine) (part : List ℕ) (n k′ : ℕ) (l′ : LongLine) (left : List ℕ) (n′ : ℕ) : Type 0 where
+  pub text : List ℕ
+  pub is : (rest : List ℕ) → queryRest of k l (part ++ rest) ≡ text ++ queryRest of k′ l′ (left ++ rest)
+  pub count : n′ ≡ counted n (length text)
+
+-- a run of the program from a line begun, its number and a count of bytes:
+-- one part of the input after the other, then the last line; all that it writes, and the count at its end
+pub data QueryRun (of : List ℕ → Standing) : ℕ → LongLine → ℕ → List (List ℕ) → List ℕ → ℕ → Type 0 where
+  ended : {k : ℕ} {l : LongLine} {n n′ : ℕ} → n′ ≡ counted n (length (queryRest of k l [])) → QueryRun of k l n [] (queryRest of k l []) n′
+  goes-on : {k k′ : ℕ} {l l′ : LongLine} {n m n′ : ℕ} {part : List ℕ} {parts : List (List ℕ)} {text : List ℕ}
+      → (d : QueryHanded of k l part n k′ l′ [] m)
+      → QueryRun of k′ l′ m parts text n′
+      → QueryRun of k l n (part ∷ parts) (d .text ++ text) n′
+
+-- there is an input, which is in parts without its mark, whose whole run, from line 1 on, writes so many bytes, modulo 2^64;
+-- that it is the input that was read is not said
+pub record QueryRan (of : List ℕ → Standing) (n : ℕ) : Type 0 where
+  pub input : List ℕ
+  pub parts : List (List ℕ)
+  pub cut : inOne parts ≡ unmarked input
+  pub text : List ℕ
+  pub run : QueryRun of 1 emptyLong 0 parts text n
+
+-- only the code needs it: between two reads, whatever a run from here writes, it is the rest of a run from the first line on
+pub record Came (of : List ℕ → Standing) (k : ℕ) (l : LongLine) (n : ℕ) : Type 0 where
+  pub input : List ℕ
+  pub parts : List (List ℕ)
+  pub cut : (later : List (List ℕ)) → inOne (parts ++ later) ≡ unmarked (input ++ inOne later)
+  pub text : List ℕ
+  pub on : (later : List (List ℕ)) (t : List ℕ) (n′ : ℕ) → QueryRun of k l n later t n′ → QueryRun of 1 emptyLong 0 (parts ++ later) (text ++ t) n′
+
+-- a run on a file and a text of notices: the file is accepted, no notice is bad, and so many bytes were written for an input;
+-- then they are `queryText` of the three (proofs, Runs: `query-text`, `query-count`), and nothing is told
+pub record RanOn (f notices : List ℕ) (n : ℕ) : Type 0 where
+  pub accepted : firstNo (loadAsks f) ≡ 0
+  pub good : textTold notices .bad ≡ 0
+  pub ran : QueryRan (standingOf f (textTold notices .date) (textTold notices .notices)) n

@@ -1,6 +1,0 @@
-pub mod Blocks
-pub mod Headers
-pub mod Cover
-pub mod Calendars
-pub mod Records
-pub mod Answers

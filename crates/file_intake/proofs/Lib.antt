@@ -1,0 +1,9 @@
+pub mod Steps
+pub mod Lowest
+pub mod Order
+pub mod IdleRuns
+pub mod WeeksByBlock
+pub mod BlockRecords
+pub mod IdsByBlock
+pub mod Result
+pub mod BlockByBlock

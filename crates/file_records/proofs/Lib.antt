@@ -1,0 +1,2 @@
+pub mod RecordParts
+pub mod RecordPlaces

@@ -1,0 +1,12 @@
+pub mod LinesParted
+pub mod LinesAgain
+pub mod RecordAgain
+pub mod ProductLines
+pub mod LinesSaid
+pub mod Text
+pub mod FileText
+pub mod PlacedRecords
+pub mod Days
+pub mod TextBytes
+pub mod CalendarAgain
+pub mod Again

@@ -1,0 +1,2 @@
+pub mod FirstIdleRun
+pub mod First

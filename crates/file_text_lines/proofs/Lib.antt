@@ -1,0 +1,3 @@
+pub mod LineWords
+pub mod NumberWords
+pub mod EntryForms

@@ -1,0 +1,4 @@
+pub mod Building
+pub mod TextLengths
+pub mod PrintedLines
+pub mod WholeText

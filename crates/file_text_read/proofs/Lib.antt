@@ -1,0 +1,4 @@
+pub mod RecordsStored
+pub mod ListLines
+pub mod Seeds
+pub mod Where

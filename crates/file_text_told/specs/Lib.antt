@@ -1,0 +1,2 @@
+pub mod ComposeTexts
+pub mod Whole

@@ -1,4 +1,0 @@
-mod Reading
-mod Delivering
-pub mod Demand
-pub mod Refused

@@ -1,3 +1,0 @@
-mod Rows
-mod Finding
-pub mod Whole

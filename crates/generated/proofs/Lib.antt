@@ -1,2 +1,0 @@
-mod EachDay
-pub mod Passing

@@ -1,0 +1,3 @@
+pub mod FrontMoves
+pub mod Twice
+pub mod Closures

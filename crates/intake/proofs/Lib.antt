@@ -1,9 +1,0 @@
-pub mod Steps
-pub mod Lowest
-pub mod Order
-pub mod Idle
-pub mod Weeks
-pub mod Records
-pub mod Ids
-pub mod Result
-pub mod Handing

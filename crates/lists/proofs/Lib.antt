@@ -1,4 +1,0 @@
-pub mod Storing
-pub mod Taking
-pub mod Seeds
-pub mod Where

@@ -1,0 +1,105 @@
+-- The first part of an input without its mark, the lines that are told, and the run as a whole.
+-- Assumes nothing.
+use mathlib.Core.Path.{_≡_, refl, _∙_, sym, ap}
+use mathlib.Core.Bool.{Bool, true, false, not, _||_}
+use mathlib.Core.Logic.{_⊎_, inl, inr}
+use mathlib.Core.List.{List, []}
+use Prim.Native.Nat.{ℕ, _-_, _≤_}
+use native.Mathlib.Omega.{arith}
+use lib.ListN.{length, take, drop, length-drop}
+use lib.Seq.{take-all, length-take-le}
+use Rattle.questions.specs.Questions.{Answer, answer, firstNo}
+use Rattle.questions.proofs.Bools.{and-both, clash}
+use Rattle.calendar.specs.declared.Calendar.{Calendar}
+use Rattle.file_calendar.specs.declared.FileCalendar.{FileCalendar}
+use Rattle.file_calendar.specs.Calendars.{calendarAnswer}
+use Rattle.file_load.specs.Load.{loadAsks, judgeCall}
+use Rattle.session_lines.specs.declared.Line.{Line}
+use Rattle.session_lines.specs.CommandLines.{emptyLine, fed}
+use Rattle.session_lines.proofs.LineFeeding.{Fed, fed-holds}
+use Rattle.file_text_print.specs.Contents.{LineWith}
+use Rattle.delivery_lines.specs.NoticeLines.{markLength, unmarked}
+use Rattle.delivery_notices.specs.declared.NoticesTaken.{NoticesTaken}
+use Rattle.delivery_notices.specs.Notices.{textTold}
+use Rattle.delivery_notices.specs.NoticeLists.{TextIn}
+use Rattle.delivery_refusals.specs.Refusals.{masterText, badNoticeText}
+use Rattle.delivery_items.specs.declared.LongLine.{LongLine}
+use Rattle.delivery_items.specs.Items.{emptyLong}
+use Rattle.delivery_answers.specs.declared.Standing.{Standing}
+use Rattle.delivery_queries.specs.Queries.{standingIn, standingOf, queryTold}
+use Rattle.delivery_queries.proofs.NoticeCounts.{told-own, told-bad, told-master, told-line}
+use Rattle.delivery_sessions.specs.QueryRuns.{QueryHanded, QueryRan, RanOn}
+use Rattle.delivery_sessions.proofs.QueryRuns.{ran-own}
+use borrow.Author.Tests.{le-leb}
+
+-- ---- the mark
+
+without-mark : (part : List ℕ) (mark : ℕ) → mark ≡ markLength part → take (length part - mark) (drop mark part) ≡ unmarked part
+unfolding unmarked
+without-mark part mark m = take-all (length part - mark) (drop mark part) (omega (arith, length-drop mark part)) ∙ ap (λ (n : ℕ). drop n part) m
+
+-- the run over the first part after its mark is the run over the input without its mark, from an empty line and line 0
+pub first-handed : (of : List ℕ → Standing) (line : LongLine) (n : ℕ) (part : List ℕ) (mark k : ℕ) (l : LongLine) (m : ℕ) → line ≡ emptyLong → n ≡ 0
+    → mark ≡ markLength part
+    → QueryHanded of 1 line (take (length part - mark) (drop mark part)) n k l [] m → QueryHanded of 1 emptyLong (unmarked part) 0 k l [] m
+first-handed of line n part mark k l m e z q h = rw (e, z, without-mark part mark q) at h
+
+-- a first part of three bytes or more
+pub three : (n : ℕ) (part : List ℕ) → 3 ≤ n → n ≤ length part → 3 ≤ length (take n part)
+three n part h l = omega (arith, length-take-le n part l)
+
+-- where it is not so that the first holds or the second does not, the second holds
+pub neither : (a b : Bool) → (a || not b) ≡ false → b ≡ true
+neither true b e = clash refl e
+neither false true e = refl
+neither false false e = clash refl e
+
+-- ---- what is told
+
+-- a line fits into its bytes
+pub told-fits : (text : List ℕ) (l : Line) → LineWith emptyLine text l → (l .length ≤ 64) × (length (l .bytes) ≡ 64)
+told-fits text l made = rw (made .is) (few (fed-holds text .holds), fed-holds text .room)
+  where
+    m : Line
+    m = fed emptyLine text
+
+    few : Fed m text ⊎ ((64 ≤ length text) × (m .length ≡ 64)) → m .length ≤ 64
+    few (inl f) = omega (arith, f .count, f .short)
+    few (inr f) = omega (arith, f .1)
+
+number-is : (judged : FileCalendar) (f : List ℕ) → calendarAnswer judged ≡ judgeCall f → judged .refusal ≡ firstNo (loadAsks f)
+unfolding judgeCall answer
+number-is judged f e = ap (λ (a : Answer Calendar). a .refusal) e
+
+-- a file that is refused
+pub master-told : (judged : FileCalendar) (f text : List ℕ) (l : Line) → calendarAnswer judged ≡ judgeCall f → (judged .refusal ≡ 0 → ⊥)
+    → LineWith emptyLine (masterText (judged .refusal)) l → LineWith emptyLine (queryTold f text) l
+master-told judged f text l e n made =
+    let z : judged .refusal ≡ firstNo (loadAsks f) = number-is judged f e in
+    rw (← told-master f text (λ q. n (z ∙ q)), ← z) made
+
+module _ (judged : FileCalendar) (f text calls calls′ ids ids′ : List ℕ) (t : NoticesTaken) (m : TextIn text calls calls′ ids ids′ t)
+    (e : calendarAnswer judged ≡ judgeCall f) (z : judged .refusal ≡ 0) (a : 32770 ≤ length calls) (b : 26216 ≤ length ids) where
+  fits : t .fits ≡ true
+  fits = m .fits ∙ and-both (le-leb 32770 (length calls) a) (le-leb 26216 (length ids) b)
+
+  accepted : firstNo (loadAsks f) ≡ 0
+  accepted = sym (number-is judged f e) ∙ z
+
+  bad-is : t .bad ≡ textTold text .bad
+  bad-is = told-bad judged f text calls calls′ ids ids′ t m fits
+
+  -- the first bad line
+  pub line-told : (l : Line) → (t .bad ≡ 0 → ⊥) → LineWith emptyLine (badNoticeText (t .bad)) l → LineWith emptyLine (queryTold f text) l
+  line-told l n made = rw (← told-line f text accepted (λ q. n (bad-is ∙ q)), ← bad-is) made
+
+  -- a run on the lists is one on the file and the notices
+  pub all-answered : t .bad ≡ 0 → (room n : ℕ) → 65538 ≤ room → QueryRan (standingIn judged f t calls′ ids′ room) n → RanOn f text n
+  all-answered g room n h r =
+      record {
+        accepted = accepted;
+        good = sym bad-is ∙ g;
+        ran =
+            ran-own (standingIn judged f t calls′ ids′ room) (standingOf f (textTold text .date) (textTold text .notices)) n
+            (told-own judged f text calls calls′ ids ids′ t m fits e room h) r;
+      }

@@ -1,0 +1,2 @@
+pub mod CommandAnswers
+pub mod Session

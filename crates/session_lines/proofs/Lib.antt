@@ -1,0 +1,2 @@
+pub mod LineFeeding
+pub mod CommandForms

@@ -1,0 +1,27 @@
+-- The date from a place of the line on. After place 54 the ten bytes do not all fit the 64, so there is no date
+-- (`date-beyond`); else it is what `date_at` says.
+use mathlib.Core.Path.{_≡_}
+use lib.ListN.{length, length-map}
+use Rattle.session_lines.proofs.CommandForms.{date-beyond}
+use native.Mathlib.Omega.{arith}
+use Rattle.session_lines.proofs.date_in.Statement.{statement}
+use Rattle.session_lines.proofs.date_in.Tie as tie
+
+returns : tie.Need-returns
+returns c =
+    let l : length (c .before .args .line .bytes) ≡ 64 = simp length-map at (c .before .good .0 .1 .1 .0 .1 .0 .1) in
+    date-beyond (c .before .args .line .bytes) _ l (c .if1 .taken)
+
+date-at-requires : tie.Need-date-at-requires
+date-at-requires c κs = omega arith
+
+returns-2 : tie.Need-returns-2
+returns-2 c = c .date-at .ensures
+
+pub date-in-spec : {M : Type 1} → statement M
+date-in-spec =
+    tie.close
+    (tie.spec
+    returns
+    date-at-requires
+    returns-2)

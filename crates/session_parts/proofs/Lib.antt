@@ -1,0 +1,2 @@
+pub mod TermsPassing
+pub mod TermsRuns

@@ -1,0 +1,2 @@
+pub mod TextsInBuffer
+pub mod TermsTexts

@@ -1,0 +1,47 @@
+-- Shown: the first line of an accepted call is written, at most 31 bytes. Its seven parts, the letter, a space, the date,
+-- three numbers with a space each and the line's end, go one after the other (`then`); the room for each is found by search.
+use native.Mathlib.Omega.{arith}
+use Rattle.session_text.proofs.TextsInBuffer.{then}
+use Rattle.session_text.specs.TermsText.{headingText}
+use borrow.Author.Needs.{needs}
+use Rattle.session_text.proofs.put_heading.Statement.{statement}
+use Rattle.session_text.proofs.put_heading.Tie as tie
+
+put-requires : tie.Need-put-requires
+put-requires c κs = search needs
+
+put-requires-2 : tie.Need-put-requires-2
+put-requires-2 c κs = search needs
+
+put-day-requires : tie.Need-put-day-requires
+put-day-requires c κs = search needs
+
+put-spaced-requires : tie.Need-put-spaced-requires
+put-spaced-requires c κs = search needs
+
+put-spaced-requires-2 : tie.Need-put-spaced-requires-2
+put-spaced-requires-2 c κs = search needs
+
+put-spaced-requires-3 : tie.Need-put-spaced-requires-3
+put-spaced-requires-3 c κs = search needs
+
+put-requires-3 : tie.Need-put-requires-3
+put-requires-3 c κs = search needs
+
+same-length : tie.Need-same-length
+same-length c = search needs
+
+returns : tie.Need-returns
+unfolding headingText
+returns c =
+    let at-put-spaced3 = c .before .before .before .before .before .before in
+    let at-put-spaced2 = at-put-spaced3 .before .before .before .before in
+    let at-put-spaced = at-put-spaced2 .before .before .before .before in
+    let at-put-day = at-put-spaced .before .before .before .before in
+    let at-put2 = at-put-day .before .before .before .before in
+    let at-put = at-put2 .before .before .before .before in
+    (then (at-put .put .ensures .0) (then (at-put2 .put2 .ensures .0) (then (at-put-day .put-day .ensures .0) (then (at-put-spaced .put-spaced .ensures .0) (then (at-put-spaced2 .put-spaced2 .ensures .0) (then (at-put-spaced3 .put-spaced3 .ensures .0) (c .before .before .put3 .ensures .0)))))), omega (arith, at-put .put .ensures .1, at-put2 .put2 .ensures .1, at-put-day .put-day .ensures .1, at-put-spaced .put-spaced .ensures .1, at-put-spaced2 .put-spaced2 .ensures .1, at-put-spaced3 .put-spaced3 .ensures .1, c .before .before .put3 .ensures .1))
+
+pub put-heading-spec : {M : Type 1} → statement M
+put-heading-spec =
+    tie.close (tie.spec put-requires put-requires-2 put-day-requires put-spaced-requires put-spaced-requires-2 put-spaced-requires-3 put-requires-3 same-length returns)

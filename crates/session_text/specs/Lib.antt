@@ -1,0 +1,2 @@
+pub mod TermsText
+pub mod Buffer

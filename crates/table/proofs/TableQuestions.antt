@@ -1,0 +1,235 @@
+-- What the calls on a table come to, question by question.
+-- Assumes nothing.
+use mathlib.Core.Path.{_≡_, refl, _∙_, sym}
+use mathlib.Core.Bool.{Bool, true, false, _&&_, cond}
+use mathlib.Core.List.{List}
+use Prim.Native.Nat.{ℕ, suc, _-_, _≤_, _<_}
+use native.Mathlib.Omega.{arith}
+use lib.Dec.{leb, ltb, eqb·suc-zero}
+use lib.ListN.{take}
+use borrow.Author.Tests.{leb-true, le-leb, lt-leb}
+use Rattle.questions.specs.Questions.{Ask, firstNo}
+use Rattle.questions.specs.Search.{every}
+use Rattle.questions.proofs.Bools.{both}
+use Rattle.calendar.specs.declared.Calendar.{Calendar}
+use Rattle.calendar.specs.Trading.{validCover, clean, everyWeek, inCover, tradingDay, closeDay}
+use Rattle.product.specs.Fields.{productRight}
+use Rattle.listing.specs.Rules.{complete, keysBefore}
+use Rattle.listing.specs.declared.Listing.{Listing}
+use Rattle.listing.specs.Months.{placesOfKind, ruleOf, listingOf, allInCover, weekIntoCover}
+use Rattle.listing.proofs.OfKinds.{rule-before}
+use Rattle.listing.proofs.Fresh.{places-most, complete-is, places-is, fresh-listed}
+use Rattle.table.specs.declared.Table.{Table}
+use Rattle.table.specs.declared.Outcome.{Outcome}
+use Rattle.table_numbering.specs.Numbering.{placeRight, numbersRight}
+use Rattle.table.specs.Table.{listsFresh, listingSound, sound, movedTo, moved, refusedWith, answered, rollAsks, rollCall, closeAsks, closeCall}
+
+-- the first question answered no
+pub answered-no : (t : Table) (asks : List Ask) (o : Outcome) (n : ℕ) → firstNo asks ≡ suc n → answered t asks o ≡ refusedWith t (suc n)
+unfolding answered
+answered-no t asks o n e = rw (e, eqb·suc-zero n)
+
+-- a call that no question refuses gives its outcome
+pub answered-yes : (t : Table) (asks : List Ask) (o : Outcome) → firstNo asks ≡ 0 → answered t asks o ≡ o
+unfolding answered
+answered-yes t asks o e = rw e
+
+-- the last question decides where all others are answered yes
+pub answered-last : (t : Table) (asks : List Ask) (o : Outcome) (n : ℕ) (last : Bool) → (last ≡ true → firstNo asks ≡ 0) → (last ≡ false → firstNo asks ≡ suc n) → answered t asks o ≡ cond last o (refusedWith t (suc n))
+answered-last t asks o n true y z = answered-yes t asks o (y refl)
+answered-last t asks o n false y z = answered-no t asks o n (z refl)
+
+-- the parts of soundness, one after the other
+pub record Sound (t : Table) : Type 0 where
+  -- the fields of the product are right
+  pub fields : productRight (t .product) ≡ true
+  -- the cover is valid
+  pub cover : validCover (t .calendar .cover) ≡ true
+  -- the calendar is clean
+  pub clean-days : clean (t .calendar) ≡ true
+  -- every seven days of the cover have a trading day
+  pub weeks : everyWeek (t .calendar) ≡ true
+  -- the table's date is in the cover
+  pub dated : inCover (t .calendar .cover) (t .date) ≡ true
+  -- the table's date passes question 24
+  pub week : weekIntoCover (t .product .kind) (t .calendar .cover) (t .date) ≡ true
+  -- the fresh listing is all in the cover
+  pub whole : allInCover (t .calendar) (t .product .kind) (t .product .group) (t .date) ≡ true
+  -- the places hold the fresh listing
+  pub listed : listsFresh t ≡ true
+  -- the listing numbers are distinct, from 1 to the count given
+  pub numbers : numbersRight (t .maturities) (placesOfKind (t .product .kind)) (t .given) ≡ true
+  -- the count given is at least the number of places of the kind
+  pub least : placesOfKind (t .product .kind) ≤ t .given
+  -- the count given less the places of the kind is at most the number of keys before the front
+  pub most : t .given - placesOfKind (t .product .kind) ≤ keysBefore (ruleOf (t .calendar) (t .product .kind) (t .product .group)) (t .calendar) (t .date)
+
+-- a sound table has each part of soundness
+pub sound-parts : (t : Table) → sound t ≡ true → Sound t
+unfolding sound
+sound-parts t e =
+    let e1 = both (productRight (t .product)) after1 e in
+    let e2 = both (validCover (t .calendar .cover)) after2 (e1 .1) in
+    let e3 = both (clean (t .calendar)) after3 (e2 .1) in
+    let e4 = both (everyWeek (t .calendar)) after4 (e3 .1) in
+    let e5 = both (inCover (t .calendar .cover) (t .date)) after5 (e4 .1) in
+    let w = both (weekIntoCover (t .product .kind) (t .calendar .cover) (t .date)) (listingSound t) (e5 .1) in
+    let e6 = both (allInCover (t .calendar) (t .product .kind) (t .product .group) (t .date)) after6 (w .1) in
+    let e7 = both (listsFresh t) after7 (e6 .1) in
+    let e8 = both (numbersRight (t .maturities) (placesOfKind (t .product .kind)) (t .given)) after8 (e7 .1) in
+    let e9 = both (leb (placesOfKind (t .product .kind)) (t .given)) within (e8 .1) in
+    record {
+      fields = e1 .0;
+      cover = e2 .0;
+      clean-days = e3 .0;
+      weeks = e4 .0;
+      dated = e5 .0;
+      week = w .0;
+      whole = e6 .0;
+      listed = e7 .0;
+      numbers = e8 .0;
+      least = leb-true _ _ (e9 .0);
+      most = leb-true _ _ (e9 .1);
+    }
+  where
+    within : Bool
+    within = leb (t .given - placesOfKind (t .product .kind)) (keysBefore (ruleOf (t .calendar) (t .product .kind) (t .product .group)) (t .calendar) (t .date))
+
+    after8 : Bool
+    after8 = leb (placesOfKind (t .product .kind)) (t .given) && within
+
+    after7 : Bool
+    after7 = numbersRight (t .maturities) (placesOfKind (t .product .kind)) (t .given) && after8
+
+    after6 : Bool
+    after6 = listsFresh t && after7
+
+    after5 : Bool
+    after5 = weekIntoCover (t .product .kind) (t .calendar .cover) (t .date) && listingSound t
+
+    after4 : Bool
+    after4 = inCover (t .calendar .cover) (t .date) && after5
+
+    after3 : Bool
+    after3 = everyWeek (t .calendar) && after4
+
+    after2 : Bool
+    after2 = clean (t .calendar) && after3
+
+    after1 : Bool
+    after1 = validCover (t .calendar .cover) && after2
+
+-- the count given of a sound table is small
+pub given-most : (t : Table) → sound t ≡ true → t .given ≤ 60000
+given-most t e =
+    let s = sound-parts t e in
+    omega (arith, s .most, rule-before (t .calendar .cover) (t .product .kind) (t .product .group) (t .calendar) (t .date), places-most (t .product .kind))
+
+-- roll, by its first question answered no
+module _ (t : Table) (date : ℕ) where
+  -- a roll of an unsound table gives refusal 10
+  pub roll-10 : sound t ≡ false → rollCall t date ≡ refusedWith t 10
+  unfolding rollCall firstNo
+  roll-10 a = answered-no t (rollAsks t date) _ 9 (rw a)
+
+  module _ (a : sound t ≡ true) where
+    -- a roll to a date outside the cover gives refusal 11
+    pub roll-11 : inCover (t .calendar .cover) date ≡ false → rollCall t date ≡ refusedWith t 11
+    unfolding rollCall firstNo
+    roll-11 b = answered-no t (rollAsks t date) _ 10 (rw (a, b))
+
+    module _ (b : inCover (t .calendar .cover) date ≡ true) where
+      -- a roll to a date before the table's date gives refusal 12
+      pub roll-12 : leb (t .date) date ≡ false → rollCall t date ≡ refusedWith t 12
+      unfolding rollCall firstNo
+      roll-12 d = answered-no t (rollAsks t date) _ 11 (rw (a, b, d))
+
+      module _ (d : leb (t .date) date ≡ true) where
+        -- any other roll gives the table moved to the date, or 16 if the fresh listing is not all in the cover
+        pub roll-16 : rollCall t date ≡ cond (allInCover (t .calendar) (t .product .kind) (t .product .group) date) (moved t (t .calendar) date) (refusedWith t 16)
+        unfolding rollCall firstNo
+        roll-16 = answered-last t (rollAsks t date) _ 15 (allInCover (t .calendar) (t .product .kind) (t .product .group) date) (λ e. rw (a, b, d, e)) (λ e. rw (a, b, d, e))
+
+-- close, by its first question answered no
+module _ (t : Table) (day : ℕ) where
+  -- closing a day of an unsound table gives refusal 10
+  pub close-10 : sound t ≡ false → closeCall t day ≡ refusedWith t 10
+  unfolding closeCall firstNo
+  close-10 a = answered-no t (closeAsks t day) _ 9 (rw a)
+
+  module _ (a : sound t ≡ true) where
+    -- closing a day outside the cover gives refusal 11
+    pub close-11 : inCover (t .calendar .cover) day ≡ false → closeCall t day ≡ refusedWith t 11
+    unfolding closeCall firstNo
+    close-11 b = answered-no t (closeAsks t day) _ 10 (rw (a, b))
+
+    module _ (b : inCover (t .calendar .cover) day ≡ true) where
+      -- closing a day that is not after the table's date gives refusal 13
+      pub close-13 : ltb (t .date) day ≡ false → closeCall t day ≡ refusedWith t 13
+      unfolding closeCall firstNo
+      close-13 d = answered-no t (closeAsks t day) _ 12 (rw (a, b, d))
+
+      module _ (d : ltb (t .date) day ≡ true) where
+        -- closing a day that is not a trading day gives refusal 14
+        pub close-14 : tradingDay (t .calendar) day ≡ false → closeCall t day ≡ refusedWith t 14
+        unfolding closeCall firstNo
+        close-14 f = answered-no t (closeAsks t day) _ 13 (rw (a, b, d, f))
+
+        module _ (f : tradingDay (t .calendar) day ≡ true) where
+          -- closing a day that leaves seven days of the cover without a trading day gives refusal 15
+          pub close-15 : everyWeek (closeDay (t .calendar) day) ≡ false → closeCall t day ≡ refusedWith t 15
+          unfolding closeCall firstNo
+          close-15 g = answered-no t (closeAsks t day) _ 14 (rw (a, b, d, f, g))
+
+          module _ (g : everyWeek (closeDay (t .calendar) day) ≡ true) where
+            -- any other closing gives the table moved to the new calendar, or 16 if the fresh listing is not all in the cover
+            pub close-16 : closeCall t day ≡ cond (allInCover (closeDay (t .calendar) day) (t .product .kind) (t .product .group) (t .date)) (moved t (closeDay (t .calendar) day) (t .date)) (refusedWith t 16)
+            unfolding closeCall firstNo
+            close-16 = answered-last t (closeAsks t day) _ 15 (allInCover (closeDay (t .calendar) day) (t .product .kind) (t .product .group) (t .date)) (λ h. rw (a, b, d, f, g, h)) (λ h. rw (a, b, d, f, g, h))
+
+-- the move with the code's listing
+pub moved-is : (t : Table) (cal : Calendar) (date : ℕ) (l : Listing) → l ≡ listingOf cal (t .product .kind) (t .product .group) date → l .complete ≡ true
+    → movedTo t cal date (take (placesOfKind (t .product .kind)) (l .maturities)) ≡ moved t cal date
+unfolding moved
+moved-is t cal date l e w =
+    let k = t .product .kind in
+    let g = t .product .group in
+    rw (places-is cal k g date l e, fresh-listed cal k g date (placesOfKind (t .product .kind)) refl (sym (complete-is cal k g date l e) ∙ w))
+
+-- the code's test of the places is the definition's
+pub lists-is : (t : Table) (l : Listing) (b : Bool) → l ≡ listingOf (t .calendar) (t .product .kind) (t .product .group) (t .date)
+    → b ≡ every 15 (placeRight (t .maturities) (l .maturities) (placesOfKind (t .product .kind))) → b ≡ listsFresh t
+unfolding listsFresh
+lists-is t l b e r =
+    r ∙ rw (places-is (t .calendar) (t .product .kind) (t .product .group) (t .date) l e)
+
+no-both : (a b c : Bool) → (a && b) ≡ false → (a && (b && c)) ≡ false
+no-both true b c e = rw e
+no-both false b c e = refl
+
+-- what is said of the maturities, question by question
+module _ (t : Table) where
+  -- a listing that is not all in the cover or not the fresh one is not sound
+  pub listing-unlike : (allInCover (t .calendar) (t .product .kind) (t .product .group) (t .date) && listsFresh t) ≡ false → listingSound t ≡ false
+  listing-unlike e = no-both (allInCover (t .calendar) (t .product .kind) (t .product .group) (t .date)) (listsFresh t) _ e
+
+  module _ (e : (allInCover (t .calendar) (t .product .kind) (t .product .group) (t .date) && listsFresh t) ≡ true) where
+    w : allInCover (t .calendar) (t .product .kind) (t .product .group) (t .date) ≡ true
+    w = both (allInCover (t .calendar) (t .product .kind) (t .product .group) (t .date)) (listsFresh t) e .0
+
+    a : listsFresh t ≡ true
+    a = both (allInCover (t .calendar) (t .product .kind) (t .product .group) (t .date)) (listsFresh t) e .1
+
+    -- a listing whose numbers are not distinct, from 1 to the count given, is not sound
+    pub listing-numbers : numbersRight (t .maturities) (placesOfKind (t .product .kind)) (t .given) ≡ false → listingSound t ≡ false
+    listing-numbers b = rw (w, a, b)
+
+    module _ (b : numbersRight (t .maturities) (placesOfKind (t .product .kind)) (t .given) ≡ true) (n : ℕ) (q : n ≡ placesOfKind (t .product .kind)) where
+      -- a listing with fewer numbers given than places is not sound
+      pub listing-few : t .given < n → listingSound t ≡ false
+      listing-few l = rw (w, a, b, lt-leb (placesOfKind (t .product .kind)) (t .given) (omega (arith, q)))
+
+      -- any other listing is sound exactly where the count given less the places is at most the keys before the front
+      pub listing-rest : (m : ℕ) → n ≤ t .given → m ≡ keysBefore (ruleOf (t .calendar) (t .product .kind) (t .product .group)) (t .calendar) (t .date) → leb (t .given - n) m ≡ listingSound t
+      listing-rest m l k =
+          sym (rw (w, a, b, le-leb (placesOfKind (t .product .kind)) (t .given) (omega (arith, q))) (rw (← k, ← q)))

@@ -1,0 +1,2 @@
+pub mod MeasureQuestions
+pub mod ValueKept

@@ -1,0 +1,4 @@
+pub mod MonthsRise
+pub mod FirstMaturities
+pub mod Renumbering
+pub mod Unique

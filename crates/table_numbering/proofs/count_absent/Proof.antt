@@ -1,0 +1,70 @@
+-- Shown: the count is how many of the first n maturities have a month that the first n of others have not, at most 15.
+-- The loop keeps: the count is at most i, i at most n, and the count with the missing among the places from i on is the
+-- number of all that are missing. Place i adds 0 or 1 (`missing-next`); from n on none are missing (`missing-none`).
+use Rattle.table_numbering.proofs.FirstMaturities.{missing-next, missing-none, cond-most}
+use Rattle.table_numbering.specs.Numbering.{isListed, missing}
+use Rattle.listing.specs.Rules.{unused}
+use lib.ListN.{length, getD, take, drop}
+use Prim.Native.Nat.{_+_, _-_, _≤_}
+use native.Mathlib.Nat.{zero-add}
+use native.Mathlib.Omega.{arith}
+use mathlib.Core.Path.{_≡_}
+use Rattle.table_numbering.proofs.count_absent.Statement.{statement}
+use Rattle.table_numbering.proofs.count_absent.Tie as tie
+
+-- ---- what the loop keeps
+abbrev Inv-loop : tie.InvT-loop
+Inv-loop others n maturities count₀ i₀ count i = (n ≤ length maturities) × (n ≤ 15) × (count ≤ i) × (i ≤ n) × (count + length (missing (drop i (take n maturities)) (take n others)) ≡ length (missing (take n maturities) (take n others)))
+
+abbrev μ-loop : tie.MeasureT-loop
+μ-loop others n maturities count₀ i₀ count i = n - i
+
+-- ---- the loop
+loop-holds : tie.Need-loop-holds Inv-loop μ-loop
+loop-holds c = (omega (arith, c .good .0 .1 .0 .1), omega arith, omega arith, omega arith, zero-add _)
+
+mul-m : tie.Need-mul-m Inv-loop μ-loop
+mul-m c = omega arith
+
+array-copy-out-m : tie.Need-array-copy-out-m Inv-loop μ-loop
+array-copy-out-m c = omega arith
+
+absent-requires : tie.Need-absent-requires Inv-loop μ-loop
+absent-requires c κs = omega arith
+
+add-count : tie.Need-add-count Inv-loop μ-loop
+add-count c = omega (arith, c .absent .ensures, cond-most (isListed (take (c .before .before .before .before .args .n) (c .before .before .before .before .args .others)) (getD (c .before .before .before .before .args .t1) (c .before .before .before .loop .i) unused .key)))
+
+add-i : tie.Need-add-i Inv-loop μ-loop
+add-i c = omega arith
+
+loop-less : tie.Need-loop-less Inv-loop μ-loop
+loop-less c = omega arith
+
+loop-again : tie.Need-loop-again Inv-loop μ-loop
+loop-again c =
+    let v = c .before .before .before .loop .inv in
+    let e = missing-next (c .before .before .before .before .args .t1) (c .before .before .before .before .args .n) (c .before .before .before .loop .i) (c .before .before .before .loop .inv .0) (take (c .before .before .before .before .args .n) (c .before .before .before .before .args .others)) (c .before .before .loop-test .taken) in
+    (v .0, v .1, omega (arith, c .absent .ensures, cond-most (isListed (take (c .before .before .before .before .args .n) (c .before .before .before .before .args .others)) (getD (c .before .before .before .before .args .t1) (c .before .before .before .loop .i) unused .key))), omega arith, omega (arith, c .absent .ensures, e, v .4))
+
+-- ---- after the loop
+returns : tie.Need-returns Inv-loop μ-loop
+returns c =
+    let v = c .before .loop .inv in
+    (omega (arith, v .4, missing-none (c .before .before .args .t1) (c .before .before .args .n) (c .before .loop .i) (v .0) (take (c .before .before .args .n) (c .before .before .args .others)) (c .loop-test .left)), omega arith)
+
+pub count-absent-spec : {M : Type 1} → statement M
+count-absent-spec =
+    tie.close
+    (tie.spec
+    Inv-loop
+    μ-loop
+    loop-holds
+    mul-m
+    array-copy-out-m
+    absent-requires
+    add-count
+    add-i
+    loop-less
+    loop-again
+    returns)

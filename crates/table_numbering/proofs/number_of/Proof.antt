@@ -1,0 +1,56 @@
+-- Shown: the number of the month among the first n maturities, 0 where it is not there.
+-- The loop keeps: n places are there, and the month's number among the places from i to n is its number among the first n.
+-- `number-here` is the `return` with a number, `number-next` a turn; from n on no place is left (`number-none`).
+use Rattle.table_numbering.proofs.FirstMaturities.{number-here, number-next, number-none}
+use Rattle.table_numbering.specs.Numbering.{numberOf}
+use lib.ListN.{length, take, drop}
+use Prim.Native.Nat.{_-_, _≤_}
+use native.Mathlib.Omega.{arith}
+use mathlib.Core.Path.{_≡_, refl, _∙_, sym}
+use Rattle.table_numbering.proofs.number_of.Statement.{statement}
+use Rattle.table_numbering.proofs.number_of.Tie as tie
+
+abbrev Inv-loop : tie.InvT-loop
+Inv-loop n key maturities i₀ i = (n ≤ length maturities) × (numberOf (drop i (take n maturities)) key ≡ numberOf (take n maturities) key)
+
+abbrev μ-loop : tie.MeasureT-loop
+μ-loop n key maturities i₀ i = n - i
+
+loop-holds : tie.Need-loop-holds Inv-loop μ-loop
+loop-holds c = (omega (arith, c .good .0 .1 .0 .1), refl)
+
+mul-m : tie.Need-mul-m Inv-loop μ-loop
+mul-m c = omega arith
+
+array-copy-out-m : tie.Need-array-copy-out-m Inv-loop μ-loop
+array-copy-out-m c = omega arith
+
+returns : tie.Need-returns Inv-loop μ-loop
+returns c = sym (number-here _ _ _ (c .before .before .before .before .loop .inv .0) _ (c .before .before .before .loop-test .taken) (c .if1 .taken)) ∙ c .before .before .before .before .loop .inv .1
+
+add-i : tie.Need-add-i Inv-loop μ-loop
+add-i c = omega arith
+
+loop-less : tie.Need-loop-less Inv-loop μ-loop
+loop-less c = omega arith
+
+loop-again : tie.Need-loop-again Inv-loop μ-loop
+loop-again c = (c .before .before .before .before .loop .inv .0, number-next _ _ _ (c .before .before .before .before .loop .inv .0) _ (c .before .before .before .loop-test .taken) (c .if1 .left) ∙ c .before .before .before .before .loop .inv .1)
+
+returns-2 : tie.Need-returns-2 Inv-loop μ-loop
+returns-2 c = sym (number-none _ _ _ (c .before .loop .inv .0) _ (c .loop-test .left)) ∙ c .before .loop .inv .1
+
+pub number-of-spec : {M : Type 1} → statement M
+number-of-spec =
+    tie.close
+    (tie.spec
+    Inv-loop
+    μ-loop
+    loop-holds
+    mul-m
+    array-copy-out-m
+    returns
+    add-i
+    loop-less
+    loop-again
+    returns-2)

@@ -1,0 +1,2 @@
+pub mod DayQuestions
+pub mod Before

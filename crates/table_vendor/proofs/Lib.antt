@@ -1,0 +1,5 @@
+pub mod Judging
+mod ListEntries
+pub mod VendorPasses
+pub mod FreshEntries
+mod WorkedLists

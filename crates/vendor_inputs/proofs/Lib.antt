@@ -1,4 +1,0 @@
-pub mod Texts
-pub mod Entries
-pub mod Going
-pub mod Lengths

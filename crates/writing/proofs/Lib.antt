@@ -1,7 +1,0 @@
-pub mod Buffers
-pub mod Answers
-pub mod Bytes
-pub mod Products
-pub mod Shapes
-pub mod Holding
-pub mod Same

@@ -1,0 +1,1 @@
+"""Comparisons of built programs with the second program."""

@@ -1,0 +1,1 @@
+"""Makers of inputs: what both programs are run on."""

@@ -1,0 +1,1 @@
+"""Tests of the second program, of the comparisons and of the tools, without a built program."""

@@ -1,0 +1,1 @@
+"""The pictures of docs/pictures, drawn from the answers of the second program."""
