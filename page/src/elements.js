@@ -36,6 +36,27 @@ export function table(caption, titles, rows, attributes = {}) {
 /** A part that may be wider than the page: it is scrolled by itself, with the keyboard too. */
 export const scrolled = (label, ...children) => html('div', { class: 'scrolled', tabindex: '0', role: 'region', 'aria-label': label }, ...children);
 
+const PAUSE = 250; // milliseconds after the last key before a text is read
+
+/** A call that waits until no key was pressed for a while: `now` makes one that waits at once, `stop` gives it up. */
+export function after_pause(call) {
+  let waiting = null;
+  const stop = () => {
+    clearTimeout(waiting);
+    waiting = null;
+  };
+  const now = () => {
+    if (waiting === null) return;
+    stop();
+    call();
+  };
+  const begin = () => {
+    stop();
+    waiting = setTimeout(now, PAUSE);
+  };
+  return { begin, now, stop };
+}
+
 /** `3 rows`, `1 row`. */
 export const counted = (number, one, many = `${one}s`) => `${number.toLocaleString('en')} ${number === 1 ? one : many}`;
 

@@ -1,8 +1,8 @@
 // The part of the page on the delivery: what the page takes it to be, what it asks, the verdict and the differences.
 
 import { iso, read_date } from './dates.js';
-import { by_id, counted, fill, html, listed, scrolled, table } from './elements.js';
-import { bytes_of, taken } from './files.js';
+import { after_pause, by_id, counted, fill, html, listed, scrolled, table } from './elements.js';
+import { taken } from './files.js';
 import { WHY, differences_of, pace } from './judge.js';
 import { COLUMNS, ROWS_AT_MOST, TEXT_AT_MOST, guess, line_of, lines_of, order_of, row_of, text_of } from './rows.js';
 
@@ -11,7 +11,6 @@ const SEPARATORS = { ',': 'comma', ';': 'semicolon', '\t': 'tab', '|': 'bar', ' 
 const TITLES = ['Product', 'Maturity', 'Delivered', 'Right', 'Why'];
 const FIELDS = ['product', 'maturity', 'delivered', 'right', 'why'];
 const SHOWN_AT_MOST = 500, UNREAD_AT_MOST = 200; // rows of a table, as long as not all are asked for
-const PAUSE = 250; // milliseconds after the last key before a text is read
 const PASTED = 'Pasted rows';
 
 // ---- What it is taken to be ----
@@ -235,8 +234,11 @@ function show_found(state) {
 
 // ---- What comes in ----
 
+let typing = null; // what was pasted last, and is read after a pause
+
 /** Takes the text of a delivery. One that is none leaves the one before. */
 export function take_text(state, name, text, notes = []) {
+  typing.stop();
   state.delivery = { name, text, plan: guess(text, state.file?.kinds ?? new Map()), asked: null, order: null, waits: false, changed: false };
   const beside = name !== PASTED && by_id('delivery-text').value.trim() !== '' ? ['The rows that are pasted are not judged now.'] : [];
   fill(by_id('delivery-said'), html('p', {}, html('strong', {}, name)), [...notes, ...beside].map(note => html('p', { class: 'said ask' }, note)));
@@ -259,10 +261,13 @@ function take_bytes(state, { name, size, cut, bytes }) {
 }
 
 export function set_up(state) {
-  taken('part-delivery', 'delivery-file', async file => take_bytes(state, await bytes_of(file, TEXT_AT_MOST)));
-  let waiting = 0;
-  by_id('delivery-text').addEventListener('input', event => {
-    clearTimeout(waiting);
-    if (event.target.value.trim() !== '') waiting = setTimeout(() => take_text(state, PASTED, event.target.value.slice(0, TEXT_AT_MOST)), PAUSE);
+  const pasted = by_id('delivery-text');
+  typing = after_pause(() => {
+    if (pasted.value.trim() !== '') take_text(state, PASTED, pasted.value.slice(0, TEXT_AT_MOST));
   });
+  taken('part-delivery', 'delivery-file', TEXT_AT_MOST, file => {
+    typing.now();
+    take_bytes(state, file);
+  });
+  pasted.addEventListener('input', typing.begin);
 }

@@ -2,7 +2,7 @@
 
 import { FILE_AT_MOST } from '../../bindings/js/scullpouch.js';
 import { by_id, counted, fill, html, listed } from './elements.js';
-import { bytes_of, taken } from './files.js';
+import { taken } from './files.js';
 import { open_file } from './judge.js';
 import { KINDS, where } from './master.js';
 import { refusal } from './words.js';
@@ -30,5 +30,5 @@ export function take_file(state, { name, bytes }) {
 }
 
 export function set_up(state) {
-  taken('part-file', 'file', async file => take_file(state, await bytes_of(file, FILE_AT_MOST + 1)));
+  taken('part-file', 'file', FILE_AT_MOST + 1, file => take_file(state, file));
 }

@@ -2,14 +2,12 @@
 
 import { date } from '../../bindings/js/scullpouch.js';
 import { iso, read_date } from './dates.js';
-import { by_id, counted, fill, html, listed, scrolled, table } from './elements.js';
-import { bytes_of, taken } from './files.js';
+import { after_pause, by_id, counted, fill, html, listed, scrolled, table } from './elements.js';
+import { taken } from './files.js';
 import { notices_of } from './judge.js';
 import { TEXT_AT_MOST, line_of, words_of } from './notices.js';
 import { text_of } from './rows.js';
 import { meaning, price_of, ten_thousandths } from './words.js';
-
-const PAUSE = 250; // milliseconds after the last key before a text is read
 
 // What a notice did, in words.
 function effect({ kind, id, moved, refused, after, size }) {
@@ -32,8 +30,11 @@ export function show_done(done) {
   fill(by_id('notices-done'), scrolled('What each notice did', table('What each notice did', ['Line', 'Notice', 'What it did'], rows)));
 }
 
+let typing = null; // what was typed last, and is read after a pause
+
 /** Reads the text of the notices. A bad line is told; the text stays. */
 export function read(state) {
+  typing.stop();
   const text = by_id('notices').value, said = by_id('notices-said');
   state.notices = null;
   if (text.trim() === '') {
@@ -94,17 +95,14 @@ function unused({ name, cut }, { text, binary }) {
 }
 
 export function set_up(state) {
-  taken('part-notices', 'notices-file', async file => {
-    const read_bytes = await bytes_of(file, TEXT_AT_MOST + 1), said = by_id('notices-said');
-    const as_text = text_of(read_bytes.bytes), why = unused(read_bytes, as_text);
+  typing = after_pause(() => read(state));
+  taken('part-notices', 'notices-file', TEXT_AT_MOST + 1, file => {
+    typing.now();
+    const said = by_id('notices-said'), as_text = text_of(file.bytes), why = unused(file, as_text);
     if (why) fill(said, html('div', { class: 'said no' }, html('p', {}, why)), said.querySelector('.yes'));
     else take_text(state, as_text.text);
   });
-  let waiting = 0;
-  by_id('notices').addEventListener('input', () => {
-    clearTimeout(waiting);
-    waiting = setTimeout(() => read(state), PAUSE);
-  });
+  by_id('notices').addEventListener('input', typing.begin);
   by_id('kind').addEventListener('change', () => {
     const measure = by_id('kind').value === 'M';
     for (const one of document.querySelectorAll('.for-measure')) one.hidden = !measure;

@@ -313,6 +313,23 @@ class TheParts(Page):
             self.settle()
             self.assertEqual(self.found(), THREE)
 
+    # What is typed just before a file is chosen does not take the file's place, nor the place of what is said of it.
+    def test_typed_before_a_file(self):
+        self.morning(None)
+        before = self.value("document.getElementById('notices').value")
+        self.put('#notices', before + '# typed\n')
+        self.choose('#notices-file', b'no notice\n', 'rows.txt')
+        self.wait("document.querySelector('#notices-said .no') !== null")
+        time.sleep(0.6)
+        self.assertIn('rows.txt is not used: line 1 is not a notice', self.text('#notices-said'))
+        self.assertIn('27 notices', self.text('#notices-said'))
+        self.put('#delivery-text', 'AXA,1,2008-04,2008-04-18')
+        self.deliver(MORNING / 'delivery.csv')
+        time.sleep(0.6)
+        self.settle()
+        self.assertIn('delivery.csv', self.text('#delivery-said'))
+        self.assertIn('The delivery is right', self.text('.verdict'))
+
     # Notices that are clicked together, and what is missing of one.
     def test_clicked(self):
         self.choose('#file', MORNING / 'master.bin')
