@@ -2,14 +2,15 @@
 -- Assumes nothing.
 use mathlib.Core.Path.{_≡_, refl, _∙_, sym}
 use mathlib.Core.Bool.{Bool, true, false, _&&_, cond}
-use mathlib.Core.List.{List}
+use mathlib.Core.List.{List, [], _∷_}
 use Prim.Native.Nat.{ℕ, suc, _-_, _≤_, _<_}
 use native.Mathlib.Omega.{arith}
 use lib.Dec.{leb, ltb, eqb·suc-zero}
-use lib.ListN.{take}
+use lib.ListN.{take, drop}
 use borrow.Author.Tests.{leb-true, le-leb, lt-leb}
-use Rattle.questions.specs.Questions.{Ask, firstNo}
+use Rattle.questions.specs.Questions.{Ask, ask, firstNo}
 use Rattle.questions.specs.Search.{every}
+use Rattle.questions.proofs.Asks.{first-yes, first-no}
 use Rattle.questions.proofs.Bools.{both}
 use Rattle.calendar.specs.declared.Calendar.{Calendar}
 use Rattle.calendar.specs.Trading.{validCover, clean, everyWeek, inCover, tradingDay, closeDay}
@@ -35,9 +36,11 @@ unfolding answered
 answered-yes t asks o e = rw e
 
 -- the last question decides where all others are answered yes
-pub answered-last : (t : Table) (asks : List Ask) (o : Outcome) (n : ℕ) (last : Bool) → (last ≡ true → firstNo asks ≡ 0) → (last ≡ false → firstNo asks ≡ suc n) → answered t asks o ≡ cond last o (refusedWith t (suc n))
-answered-last t asks o n true y z = answered-yes t asks o (y refl)
-answered-last t asks o n false y z = answered-no t asks o n (z refl)
+pub answered-last : (t : Table) (asks : List Ask) (o : Outcome) (n : ℕ) (last : Bool) → firstNo asks ≡ firstNo (ask (suc n) last ∷ [])
+    → answered t asks o ≡ cond last o (refusedWith t (suc n))
+unfolding firstNo
+answered-last t asks o n true e = answered-yes t asks o e
+answered-last t asks o n false e = answered-no t asks o n e
 
 -- the parts of soundness, one after the other
 pub record Sound (t : Table) : Type 0 where
@@ -125,67 +128,52 @@ given-most t e =
     let s = sound-parts t e in
     omega (arith, s .most, rule-before (t .calendar .cover) (t .product .kind) (t .product .group) (t .calendar) (t .date), places-most (t .product .kind))
 
+-- the table moved to a calendar and a date, or refusal 16 where the fresh listing is not all in the cover
+abbrev pub movedOr16 : Table → Calendar → ℕ → Outcome
+movedOr16 t cal date = cond (allInCover cal (t .product .kind) (t .product .group) date) (moved t cal date) (refusedWith t 16)
+
 -- roll, by its first question answered no
 module _ (t : Table) (date : ℕ) where
+  -- where the first of the questions left is answered no, its number is the refusal
+  pub roll-no : (n : ℕ) {b : Bool} (rest : List Ask) → firstNo (rollAsks t date) ≡ firstNo (ask (suc n) b ∷ rest) → b ≡ false
+      → refusedWith t (suc n) ≡ rollCall t date
+  unfolding rollCall
+  roll-no n rest e f = sym (answered-no t (rollAsks t date) _ n (e ∙ first-no (suc n) rest f))
+
   -- a roll of an unsound table gives refusal 10
   pub roll-10 : sound t ≡ false → rollCall t date ≡ refusedWith t 10
-  unfolding rollCall firstNo
-  roll-10 a = answered-no t (rollAsks t date) _ 9 (rw a)
+  roll-10 a = sym (roll-no 9 _ refl a)
 
-  module _ (a : sound t ≡ true) where
-    -- a roll to a date outside the cover gives refusal 11
-    pub roll-11 : inCover (t .calendar .cover) date ≡ false → rollCall t date ≡ refusedWith t 11
-    unfolding rollCall firstNo
-    roll-11 b = answered-no t (rollAsks t date) _ 10 (rw (a, b))
+  -- a roll with only 16 left gives the table moved to the date, or 16
+  pub roll-last : firstNo (rollAsks t date) ≡ firstNo (drop 3 (rollAsks t date)) → movedOr16 t (t .calendar) date ≡ rollCall t date
+  unfolding rollCall
+  roll-last e = sym (answered-last t (rollAsks t date) _ 15 _ e)
 
-    module _ (b : inCover (t .calendar .cover) date ≡ true) where
-      -- a roll to a date before the table's date gives refusal 12
-      pub roll-12 : leb (t .date) date ≡ false → rollCall t date ≡ refusedWith t 12
-      unfolding rollCall firstNo
-      roll-12 d = answered-no t (rollAsks t date) _ 11 (rw (a, b, d))
-
-      module _ (d : leb (t .date) date ≡ true) where
-        -- any other roll gives the table moved to the date, or 16 if the fresh listing is not all in the cover
-        pub roll-16 : rollCall t date ≡ cond (allInCover (t .calendar) (t .product .kind) (t .product .group) date) (moved t (t .calendar) date) (refusedWith t 16)
-        unfolding rollCall firstNo
-        roll-16 = answered-last t (rollAsks t date) _ 15 (allInCover (t .calendar) (t .product .kind) (t .product .group) date) (λ e. rw (a, b, d, e)) (λ e. rw (a, b, d, e))
+  -- the same, from the three yeses
+  pub roll-16 : sound t ≡ true → inCover (t .calendar .cover) date ≡ true → leb (t .date) date ≡ true → rollCall t date ≡ movedOr16 t (t .calendar) date
+  roll-16 a b d = sym (roll-last (first-yes 10 _ a ∙ first-yes 11 _ b ∙ first-yes 12 _ d))
 
 -- close, by its first question answered no
 module _ (t : Table) (day : ℕ) where
+  -- where the first of the questions left is answered no, its number is the refusal
+  pub close-no : (n : ℕ) {b : Bool} (rest : List Ask) → firstNo (closeAsks t day) ≡ firstNo (ask (suc n) b ∷ rest) → b ≡ false
+      → refusedWith t (suc n) ≡ closeCall t day
+  unfolding closeCall
+  close-no n rest e f = sym (answered-no t (closeAsks t day) _ n (e ∙ first-no (suc n) rest f))
+
   -- closing a day of an unsound table gives refusal 10
   pub close-10 : sound t ≡ false → closeCall t day ≡ refusedWith t 10
-  unfolding closeCall firstNo
-  close-10 a = answered-no t (closeAsks t day) _ 9 (rw a)
+  close-10 a = sym (close-no 9 _ refl a)
 
-  module _ (a : sound t ≡ true) where
-    -- closing a day outside the cover gives refusal 11
-    pub close-11 : inCover (t .calendar .cover) day ≡ false → closeCall t day ≡ refusedWith t 11
-    unfolding closeCall firstNo
-    close-11 b = answered-no t (closeAsks t day) _ 10 (rw (a, b))
+  -- a closing with only 16 left gives the table moved to the new calendar, or 16
+  pub close-last : firstNo (closeAsks t day) ≡ firstNo (drop 5 (closeAsks t day)) → movedOr16 t (closeDay (t .calendar) day) (t .date) ≡ closeCall t day
+  unfolding closeCall
+  close-last e = sym (answered-last t (closeAsks t day) _ 15 _ e)
 
-    module _ (b : inCover (t .calendar .cover) day ≡ true) where
-      -- closing a day that is not after the table's date gives refusal 13
-      pub close-13 : ltb (t .date) day ≡ false → closeCall t day ≡ refusedWith t 13
-      unfolding closeCall firstNo
-      close-13 d = answered-no t (closeAsks t day) _ 12 (rw (a, b, d))
-
-      module _ (d : ltb (t .date) day ≡ true) where
-        -- closing a day that is not a trading day gives refusal 14
-        pub close-14 : tradingDay (t .calendar) day ≡ false → closeCall t day ≡ refusedWith t 14
-        unfolding closeCall firstNo
-        close-14 f = answered-no t (closeAsks t day) _ 13 (rw (a, b, d, f))
-
-        module _ (f : tradingDay (t .calendar) day ≡ true) where
-          -- closing a day that leaves seven days of the cover without a trading day gives refusal 15
-          pub close-15 : everyWeek (closeDay (t .calendar) day) ≡ false → closeCall t day ≡ refusedWith t 15
-          unfolding closeCall firstNo
-          close-15 g = answered-no t (closeAsks t day) _ 14 (rw (a, b, d, f, g))
-
-          module _ (g : everyWeek (closeDay (t .calendar) day) ≡ true) where
-            -- any other closing gives the table moved to the new calendar, or 16 if the fresh listing is not all in the cover
-            pub close-16 : closeCall t day ≡ cond (allInCover (closeDay (t .calendar) day) (t .product .kind) (t .product .group) (t .date)) (moved t (closeDay (t .calendar) day) (t .date)) (refusedWith t 16)
-            unfolding closeCall firstNo
-            close-16 = answered-last t (closeAsks t day) _ 15 (allInCover (closeDay (t .calendar) day) (t .product .kind) (t .product .group) (t .date)) (λ h. rw (a, b, d, f, g, h)) (λ h. rw (a, b, d, f, g, h))
+  -- the same, from the five yeses
+  pub close-16 : sound t ≡ true → inCover (t .calendar .cover) day ≡ true → ltb (t .date) day ≡ true → tradingDay (t .calendar) day ≡ true
+      → everyWeek (closeDay (t .calendar) day) ≡ true → closeCall t day ≡ movedOr16 t (closeDay (t .calendar) day) (t .date)
+  close-16 a b d f g = sym (close-last (first-yes 10 _ a ∙ first-yes 11 _ b ∙ first-yes 13 _ d ∙ first-yes 14 _ f ∙ first-yes 15 _ g))
 
 -- the move with the code's listing
 pub moved-is : (t : Table) (cal : Calendar) (date : ℕ) (l : Listing) → l ≡ listingOf cal (t .product .kind) (t .product .group) date → l .complete ≡ true
