@@ -1,13 +1,14 @@
 -- What a measure comes to, question by question.
 -- Assumes nothing.
-use mathlib.Core.Path.{_≡_, sym, ap}
-use mathlib.Core.Bool.{true, false}
+use mathlib.Core.Path.{_≡_, refl, _∙_, sym, ap}
+use mathlib.Core.Bool.{Bool, true, false}
+use mathlib.Core.List.{List, _∷_}
 use Prim.Native.Nat.{ℕ, suc, _<_}
 use native.Mathlib.Omega.{arith}
 use lib.Dec.{eqb·suc-zero}
-use Rattle.questions.specs.Questions.{firstNo}
-use Rattle.product.specs.Fields.{isFuture}
-use Rattle.amounts.specs.Prices.{priceRight, newSize, newPrice, ratioRight, measureRight}
+use Rattle.questions.specs.Questions.{Ask, ask, firstNo}
+use Rattle.questions.proofs.Asks.{first-no}
+use Rattle.amounts.specs.Prices.{newSize, newPrice, measureRight}
 use Rattle.amounts.proofs.Rounding.{in-range}
 use Rattle.table.specs.declared.Table.{Table}
 use Rattle.table.specs.Table.{sound}
@@ -25,40 +26,21 @@ module _ (t : Table) (p q price : ℕ) where
   unfolding measureCall
   accepted-is e = rw e
 
+  -- where the first of the questions left is answered no, its number is the refusal
+  pub measure-no : (n : ℕ) {b : Bool} (rest : List Ask) → firstNo (measureAsks t p q price) ≡ firstNo (ask (suc n) b ∷ rest) → b ≡ false
+      → unmeasured t (suc n) ≡ measureCall t p q price
+  measure-no n rest e f = refused-is n (e ∙ first-no (suc n) rest f)
+
   -- a measure of an unsound table gives refusal 10
   pub measure-10 : sound t ≡ false → unmeasured t 10 ≡ measureCall t p q price
-  unfolding measureAsks firstNo
-  measure-10 a = refused-is 9 (rw a)
+  unfolding measureAsks
+  measure-10 a = measure-no 9 _ refl a
 
-  module _ (a : sound t ≡ true) where
-    -- a measure with a price out of range gives refusal 19
-    pub measure-19 : priceRight price ≡ false → unmeasured t 19 ≡ measureCall t p q price
-    unfolding measureAsks firstNo
-    measure-19 b = refused-is 18 (rw (a, b))
-
-    module _ (b : priceRight price ≡ true) where
-      -- a measure of a product that is not a future gives refusal 21
-      pub measure-21 : isFuture (t .product .kind) ≡ false → unmeasured t 21 ≡ measureCall t p q price
-      unfolding measureAsks firstNo
-      measure-21 c = refused-is 20 (rw (a, b, c))
-
-      module _ (c : isFuture (t .product .kind) ≡ true) where
-        -- a measure with a ratio whose two numbers are not from 1 to 1000 gives refusal 28
-        pub measure-28 : ratioRight p q ≡ false → unmeasured t 28 ≡ measureCall t p q price
-        unfolding measureAsks firstNo
-        measure-28 d = refused-is 27 (rw (a, b, c, d))
-
-        module _ (d : ratioRight p q ≡ true) where
-          -- a measure whose new size or new price is out of range gives refusal 29
-          pub measure-29 : measureRight (t .product .size) p q price ≡ false → unmeasured t 29 ≡ measureCall t p q price
-          unfolding measureAsks firstNo
-          measure-29 e = refused-is 28 (rw (a, b, c, d, e))
-
-          -- the code's new size, table and new price
-          pub measure-yes : (changed moved : ℕ) (t′ : Table) → measureRight (t .product .size) p q price ≡ true → changed ≡ newSize (t .product .size) p q → t′ ≡ resized t changed
-              → moved ≡ newPrice price (t .product .size) changed → _≡_ {A = Measured} (record { refusal = 0; table = t′; price = moved }) (measureCall t p q price)
-          unfolding measureAsks firstNo
-          measure-yes changed moved t′ e x y z = rw (z, y, x) (sym (accepted-is (rw (a, b, c, d, e))))
+  -- where no question refuses: the code's new size, table and new price
+  pub measure-yes : (changed moved : ℕ) (t′ : Table) → firstNo (measureAsks t p q price) ≡ 0 → changed ≡ newSize (t .product .size) p q
+      → t′ ≡ resized t changed → moved ≡ newPrice price (t .product .size) changed
+      → _≡_ {A = Measured} (record { refusal = 0; table = t′; price = moved }) (measureCall t p q price)
+  measure-yes changed moved t′ e x y z = rw (z, y, x) (sym (accepted-is e))
 
 -- the new size and the new price fit 32 bits
 module _ (size p q price : ℕ) (e : measureRight size p q price ≡ true) where

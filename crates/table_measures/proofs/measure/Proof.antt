@@ -1,61 +1,70 @@
--- Shown: the answer is the definition's measure. Each refusal (10, 19, 21, 28, 29) cites the yeses before it and its own no.
--- The yes to 29 says that the new size and the new price fit their types (`size-fits`, `price-fits`); with five yeses the
--- table with the new size and the new price is the definition's (`measure-yes`).
+-- Shown: the answer is the definition's measure. A question answered yes leaves those after it (`yes-10` ..), and a refusal is the
+-- first no among those left. The yes to 29 says that the new size and the new price fit their types (`size-fits`, `price-fits`);
+-- with five yeses the table with the new size and the new price is the definition's (`measure-yes`).
+use Rattle.questions.specs.Questions.{Ask, firstNo}
+use Rattle.questions.proofs.Asks.{no-asks, first-yes}
 use Rattle.questions.proofs.Bools.{said-no, said-yes}
-use Rattle.table_measures.proofs.MeasureQuestions.{measure-10, measure-19, measure-21, measure-28, measure-29, measure-yes, size-fits, price-fits}
-use mathlib.Core.Path.{_∙_}
+use Rattle.table_measures.specs.Measures.{measureAsks}
+use Rattle.table_measures.proofs.MeasureQuestions.{measure-no, measure-yes, size-fits, price-fits}
+use Prim.Native.Nat.{ℕ}
+use lib.ListN.{drop}
+use mathlib.Core.List.{List}
+use mathlib.Core.Path.{_≡_, refl, _∙_}
 use Rattle.table_measures.proofs.measure.Statement.{statement}
 use Rattle.table_measures.proofs.measure.Tie as tie
 
+-- ---- the yeses
+abbrev asks : tie.Start → List Ask
+asks s = measureAsks (s .args .t) (s .args .p) (s .args .q) (s .args .price)
+
+-- the first k questions are answered yes: the refusal is that of the others
+abbrev Passed : ℕ → tie.Start → Type 0
+Passed k s = firstNo (asks s) ≡ firstNo (drop k (asks s))
+
+yes-10 : (c : tie.Else1) → Passed 1 (c .before .before)
+unfolding measureAsks
+yes-10 c = first-yes 10 _ (said-yes (c .before .is-sound .ensures) (c .if1 .left))
+
+yes-19 : (c : tie.Else2) → Passed 2 (c .before .before .before .before)
+unfolding measureAsks
+yes-19 c = yes-10 (c .before .before) ∙ first-yes 19 _ (said-yes (c .before .price-right .ensures) (c .if2 .left))
+
+yes-21 : (c : tie.Else3) → Passed 3 (c .before .before .before .before .before .before .before)
+unfolding measureAsks
+yes-21 c = yes-19 (c .before .before .before) ∙ first-yes 21 _ (said-yes (c .before .is-future .ensures) (c .if3 .left))
+
+yes-28 : (c : tie.Else4) → Passed 4 (c .before .before .before .before .before .before .before .before .before)
+unfolding measureAsks
+yes-28 c = yes-21 (c .before .before) ∙ first-yes 28 _ (said-yes (c .before .ratio-right .ensures) (c .if4 .left))
+
 -- ---- the refusals
 returns : tie.Need-returns
-returns c = c .refused .ensures ∙ measure-10 _ _ _ _ (said-no (c .before .before .is-sound .ensures) (c .before .if1 .taken))
+unfolding measureAsks
+returns c = c .refused .ensures ∙ measure-no _ _ _ _ 9 _ refl (said-no (c .before .before .is-sound .ensures) (c .before .if1 .taken))
 
 returns-2 : tie.Need-returns-2
+unfolding measureAsks
 returns-2 c =
-    let at-price-right = c .before .before in
-    let at-if1 = at-price-right .before in
-    let yes-sound = said-yes (at-if1 .before .is-sound .ensures) (at-if1 .if1 .left) in
-    c .refused2 .ensures ∙ measure-19 _ _ _ _ yes-sound (said-no (at-price-right .price-right .ensures) (c .before .if2 .taken))
+    c .refused2 .ensures ∙
+    measure-no _ _ _ _ 18 _ (yes-10 (c .before .before .before)) (said-no (c .before .before .price-right .ensures) (c .before .if2 .taken))
 
 returns-3 : tie.Need-returns-3
+unfolding measureAsks
 returns-3 c =
-    let at-is-future = c .before .before in
-    let at-if2 = at-is-future .before .before in
-    let at-price-right = at-if2 .before in
-    let at-if1 = at-price-right .before in
-    let yes-sound = said-yes (at-if1 .before .is-sound .ensures) (at-if1 .if1 .left) in
-    let yes-price = said-yes (at-price-right .price-right .ensures) (at-if2 .if2 .left) in
-    c .refused3 .ensures ∙ measure-21 _ _ _ _ yes-sound yes-price (said-no (at-is-future .is-future .ensures) (c .before .if3 .taken))
+    c .refused3 .ensures ∙
+    measure-no _ _ _ _ 20 _ (yes-19 (c .before .before .before .before)) (said-no (c .before .before .is-future .ensures) (c .before .if3 .taken))
 
 returns-4 : tie.Need-returns-4
+unfolding measureAsks
 returns-4 c =
-    let at-ratio-right = c .before .before in
-    let at-if3 = at-ratio-right .before in
-    let at-is-future = at-if3 .before in
-    let at-if2 = at-is-future .before .before in
-    let at-price-right = at-if2 .before in
-    let at-if1 = at-price-right .before in
-    let yes-sound = said-yes (at-if1 .before .is-sound .ensures) (at-if1 .if1 .left) in
-    let yes-price = said-yes (at-price-right .price-right .ensures) (at-if2 .if2 .left) in
-    let yes-future = said-yes (at-is-future .is-future .ensures) (at-if3 .if3 .left) in
-    c .refused4 .ensures ∙ measure-28 _ _ _ _ yes-sound yes-price yes-future (said-no (at-ratio-right .ratio-right .ensures) (c .before .if4 .taken))
+    c .refused4 .ensures ∙
+    measure-no _ _ _ _ 27 _ (yes-21 (c .before .before .before)) (said-no (c .before .before .ratio-right .ensures) (c .before .if4 .taken))
 
 returns-5 : tie.Need-returns-5
+unfolding measureAsks
 returns-5 c =
-    let at-measure-right = c .before .before in
-    let at-if4 = at-measure-right .before in
-    let at-ratio-right = at-if4 .before in
-    let at-if3 = at-ratio-right .before in
-    let at-is-future = at-if3 .before in
-    let at-if2 = at-is-future .before .before in
-    let at-price-right = at-if2 .before in
-    let at-if1 = at-price-right .before in
-    let yes-sound = said-yes (at-if1 .before .is-sound .ensures) (at-if1 .if1 .left) in
-    let yes-price = said-yes (at-price-right .price-right .ensures) (at-if2 .if2 .left) in
-    let yes-future = said-yes (at-is-future .is-future .ensures) (at-if3 .if3 .left) in
-    let yes-ratio = said-yes (at-ratio-right .ratio-right .ensures) (at-if4 .if4 .left) in
-    c .refused5 .ensures ∙ measure-29 _ _ _ _ yes-sound yes-price yes-future yes-ratio (said-no (at-measure-right .measure-right .ensures) (c .before .if5 .taken))
+    c .refused5 .ensures ∙
+    measure-no _ _ _ _ 28 _ (yes-28 (c .before .before .before)) (said-no (c .before .before .measure-right .ensures) (c .before .if5 .taken))
 
 -- ---- the new size and the new price fit
 cast-changed : tie.Need-cast-changed
@@ -73,23 +82,13 @@ cast-moved c =
 
 -- ---- the answer
 returns-6 : tie.Need-returns-6
+unfolding measureAsks
 returns-6 c =
     let at-new-size = c .before .before in
     let at-if5 = at-new-size .before in
-    let at-measure-right = at-if5 .before in
-    let at-if4 = at-measure-right .before in
-    let at-ratio-right = at-if4 .before in
-    let at-if3 = at-ratio-right .before in
-    let at-is-future = at-if3 .before in
-    let at-if2 = at-is-future .before .before in
-    let at-price-right = at-if2 .before in
-    let at-if1 = at-price-right .before in
-    let yes-sound = said-yes (at-if1 .before .is-sound .ensures) (at-if1 .if1 .left) in
-    let yes-price = said-yes (at-price-right .price-right .ensures) (at-if2 .if2 .left) in
-    let yes-future = said-yes (at-is-future .is-future .ensures) (at-if3 .if3 .left) in
-    let yes-ratio = said-yes (at-ratio-right .ratio-right .ensures) (at-if4 .if4 .left) in
-    let yes-measure = said-yes (at-measure-right .measure-right .ensures) (at-if5 .if5 .left) in
-    measure-yes _ _ _ _ yes-sound yes-price yes-future yes-ratio _ _ _ yes-measure (at-new-size .new-size .ensures) (c .resize .ensures) (c .before .new-price .ensures)
+    let yes-measure = said-yes (at-if5 .before .measure-right .ensures) (at-if5 .if5 .left) in
+    let asked = yes-28 (at-if5 .before .before) ∙ first-yes 29 _ yes-measure ∙ no-asks in
+    measure-yes _ _ _ _ _ _ _ asked (at-new-size .new-size .ensures) (c .resize .ensures) (c .before .new-price .ensures)
 
 pub measure-spec : {M : Type 1} → statement M
 measure-spec =
