@@ -9,7 +9,7 @@ use native.Mathlib.Omega.{arith}
 use lib.Dec.{eqb, leb, ltb}
 use lib.ListN.{length}
 use borrow.Author.Tests.{leb-true, lt-ltb, le-ltb}
-use Rattle.questions.specs.Questions.{ask, firstNo, Answer, answer}
+use Rattle.questions.specs.Questions.{Ask, ask, firstNo, Answer, answer}
 use Rattle.questions.proofs.Asks.{no-asks, first-yes, first-no, none-no, accepted, refused}
 use Rattle.questions.proofs.Bools.{and-snd, is-false, lt-or-ge}
 use Rattle.questions.specs.Search.{every}
@@ -88,10 +88,11 @@ module _ (f : List ℕ) (r : FileCalendar) (e : calendarAnswer r ≡ orderCall f
       ap (λ (a : Answer Calendar). a .value)
       (e ∙ accepted (ask 4 (orderRight f) ∷ []) zeroCalendar (calendarOf f) (sym order-refusal ∙ z))
 
--- a file that load refuses is answered with the number of the refusal and no calendar
-pub judge-refused : (f : List ℕ) (n : ℕ) → firstNo (loadAsks f) ≡ suc n → calendarAnswer (refusedFile (suc n)) ≡ judgeCall f
+-- where the first of the questions left is answered no, the file is answered with its number and no calendar
+pub judge-refused : (f : List ℕ) (n : ℕ) {b : Bool} (rest : List Ask) → firstNo (loadAsks f) ≡ firstNo (ask (suc n) b ∷ rest) → b ≡ false
+    → calendarAnswer (refusedFile (suc n)) ≡ judgeCall f
 unfolding judgeCall
-judge-refused f n e = sym (refused (loadAsks f) zeroCalendar (calendarOf f) n e)
+judge-refused f n rest e h = sym (refused (loadAsks f) zeroCalendar (calendarOf f) n (e ∙ first-no (suc n) rest h))
 
 -- a file that load accepts is answered with refusal 0 and the file's calendar
 pub judge-accepted : (f : List ℕ) → firstNo (loadAsks f) ≡ 0 → judgeCall f ≡ record { refusal = 0; value = calendarOf f }
