@@ -2,28 +2,27 @@
 -- Assumes nothing.
 use Prim.Native.Nat.{ℕ, _+_, _-_, _*_, _%_, _≤_}
 use mathlib.Core.Path.{_≡_, _∙_, sym}
-use mathlib.Core.Bool.{Bool, true, false, _&&_}
+use mathlib.Core.Bool.{true, false, _&&_}
 use mathlib.Core.List.{List}
 use native.Mathlib.Omega.{arith}
 use lib.Dec.{eqb, leb}
-use lib.ListN.{length, drop}
+use lib.ListN.{length}
 use borrow.Author.Tests.{ne-eqb, eqb-true, leb-true}
-use Rattle.questions.specs.Questions.{Ask, firstNo}
-use Rattle.questions.proofs.Asks.{no-asks, first-yes, first-no, none-no}
+use Rattle.questions.specs.Questions.{firstNo}
+use Rattle.questions.proofs.Asks.{first-yes, first-no, none-no}
 use Rattle.questions.proofs.Bools.{both}
 use Rattle.questions.proofs.Search.{every-at}
 use Rattle.calendar.specs.declared.Cover.{Cover}
 use Rattle.calendar.specs.declared.Calendar.{Calendar}
-use Rattle.calendar.specs.Trading.{clean, everyWeek}
 use Rattle.file_blocks.specs.Blocks.{headersRight}
 use Rattle.file_records.specs.Records.{productsRight}
 use Rattle.file_ids.specs.Ids.{idsRise}
 use Rattle.file_calendar.specs.Calendars.{orderRight, calendarsClean, weeksRight}
-use Rattle.file_draft.specs.Drafts.{blocksIn, fileOf, recordsWritten, fits, writeAsks, yearsRight, countsRight, withinCover, listRight, listRises}
+use Rattle.file_draft.specs.Drafts.{blocksIn, fileOf, recordsWritten, fits, writeAsks, yearsRight, countsRight, listRight}
 use Rattle.file_draft.proofs.DraftBlocks.{file-length}
 use Rattle.file_draft.proofs.Headers.{headers-written}
-use Rattle.file_draft.proofs.DraftCalendars.{order-written, clean-written, weeks-written}
-use Rattle.file_draft.proofs.DraftRecords.{products-written, rises-written}
+use Rattle.file_draft.proofs.DraftCalendars.{order-written}
+use Rattle.file_draft.proofs.DraftRecords.{products-written}
 
 -- a cover whose counts question 4 passes has at most 16 years
 pub years-few : (c : Cover) (records : List ℕ) → countsRight c records ≡ true → c .years ≤ 16
@@ -31,105 +30,26 @@ years-few c records e =
     let (a, r) = both (leb 1 (c .years)) (leb (c .years) 16 && leb 1 (length records)) e in
     leb-true (c .years) 16 (both (leb (c .years) 16) (leb 1 (length records)) r .0)
 
-module _ (cal : Calendar) (records : List ℕ) (room : ℕ) where
-  abbrev asks : List Ask
-  asks = writeAsks cal records room
-
-  -- 7 by the list
-  whole-written : length records % 32 ≡ 0 → recordsWritten cal records ≡ listRight records
+module _ (cal : Calendar) (records : List ℕ) where
+  -- 7 by the list, where it ends with a whole record
+  pub whole-written : length records % 32 ≡ 0 → recordsWritten cal records ≡ listRight records
   unfolding recordsWritten
   whole-written w = rw (w, products-written cal records w)
 
-  part-written : (length records % 32 ≡ 0 → ⊥) → recordsWritten cal records ≡ false
+  -- a list that ends within a record does not pass 7
+  pub part-written : (length records % 32 ≡ 0 → ⊥) → recordsWritten cal records ≡ false
   unfolding recordsWritten
   part-written h = rw (ne-eqb (length records % 32) 0 h)
 
   -- 25 by the count of blocks
-  abbrev blocksFit : Bool
-  blocksFit = leb (512 * blocksIn cal records) room && leb (512 * blocksIn cal records) 65536
-
-  fits-is : fits cal records room ≡ blocksFit
+  pub fits-is : (room : ℕ) → fits cal records room ≡ (leb (512 * blocksIn cal records) room && leb (512 * blocksIn cal records) 65536)
   unfolding fits
-  fits-is = rw (file-length cal records)
+  fits-is room = rw (file-length cal records)
 
-  -- a year of the cover that is not from 2000 to 2099 gets refusal 3
-  pub no-3 : yearsRight (cal .cover) ≡ false → 3 ≡ firstNo asks
+  -- a count of years that is not 1 to 16, or an empty list of records, gets refusal 4 where 3 is passed
+  pub no-4 : (room : ℕ) → yearsRight (cal .cover) ≡ true → countsRight (cal .cover) records ≡ false → 4 ≡ firstNo (writeAsks cal records room)
   unfolding writeAsks
-  no-3 e = sym (first-no 3 _ (headers-written cal records ∙ e))
-
-  module _ (yes3 : yearsRight (cal .cover) ≡ true) where
-    after-3 : firstNo asks ≡ firstNo (drop 1 asks)
-    unfolding writeAsks
-    after-3 = first-yes 3 _ (headers-written cal records ∙ yes3)
-
-    -- a count of years that is not 1 to 16, or an empty list of records, gets refusal 4 where 3 is passed
-    pub no-4 : countsRight (cal .cover) records ≡ false → 4 ≡ firstNo asks
-    unfolding writeAsks
-    no-4 e = sym (after-3 ∙ first-no 4 _ (order-written cal records ∙ e))
-
-    module _ (yes4 : countsRight (cal .cover) records ≡ true) where
-      in-order : orderRight (fileOf cal records) ≡ true
-      in-order = order-written cal records ∙ yes4
-
-      after-4 : firstNo asks ≡ firstNo (drop 2 asks)
-      unfolding writeAsks
-      after-4 = after-3 ∙ first-yes 4 _ in-order
-
-      -- a calendar that is not clean within its cover gets refusal 5 where 3 and 4 are passed
-      pub no-5 : clean (withinCover cal) ≡ false → 5 ≡ firstNo asks
-      unfolding writeAsks
-      no-5 e = sym (after-4 ∙ first-no 5 _ (clean-written cal records in-order ∙ e))
-
-      module _ (yes5 : clean (withinCover cal) ≡ true) where
-        after-5 : firstNo asks ≡ firstNo (drop 3 asks)
-        unfolding writeAsks
-        after-5 = after-4 ∙ first-yes 5 _ (clean-written cal records in-order ∙ yes5)
-
-        -- seven days of the cover without a trading day get refusal 6 where 3 to 5 are passed
-        pub no-6 : everyWeek (withinCover cal) ≡ false → 6 ≡ firstNo asks
-        unfolding writeAsks
-        no-6 e = sym (after-5 ∙ first-no 6 _ (weeks-written cal records in-order ∙ e))
-
-        module _ (yes6 : everyWeek (withinCover cal) ≡ true) where
-          after-6 : firstNo asks ≡ firstNo (drop 4 asks)
-          unfolding writeAsks
-          after-6 = after-5 ∙ first-yes 6 _ (weeks-written cal records in-order ∙ yes6)
-
-          -- a list of records that ends within a record gets refusal 7 where 3 to 6 are passed
-          pub part-7 : (length records % 32 ≡ 0 → ⊥) → 7 ≡ firstNo asks
-          unfolding writeAsks
-          part-7 h = sym (after-6 ∙ first-no 7 _ (part-written h))
-
-          module _ (whole : length records % 32 ≡ 0) where
-            -- a record of the list that is not as stated gets refusal 7 where 3 to 6 are passed
-            pub no-7 : listRight records ≡ false → 7 ≡ firstNo asks
-            unfolding writeAsks
-            no-7 e = sym (after-6 ∙ first-no 7 _ (whole-written whole ∙ e))
-
-            module _ (yes7 : listRight records ≡ true) where
-              after-7 : firstNo asks ≡ firstNo (drop 5 asks)
-              unfolding writeAsks
-              after-7 = after-6 ∙ first-yes 7 _ (whole-written whole ∙ yes7)
-
-              -- ids of the list that do not rise get refusal 8 where 3 to 7 are passed
-              pub no-8 : listRises records ≡ false → 8 ≡ firstNo asks
-              unfolding writeAsks
-              no-8 e = sym (after-7 ∙ first-no 8 _ (rises-written cal records whole ∙ e))
-
-              module _ (yes8 : listRises records ≡ true) where
-                after-8 : firstNo asks ≡ firstNo (drop 6 asks)
-                unfolding writeAsks
-                after-8 = after-7 ∙ first-yes 8 _ (rises-written cal records whole ∙ yes8)
-
-                -- a file that is longer than the buffer or than 65,536 bytes gets refusal 25 where 3 to 8 are passed
-                pub no-25 : blocksFit ≡ false → 25 ≡ firstNo asks
-                unfolding writeAsks
-                no-25 e = sym (after-8 ∙ first-no 25 _ (fits-is ∙ e))
-
-                -- where 3 to 8 are passed, a file with room in the buffer and at most 65,536 bytes gets no refusal
-                pub all-yes : blocksFit ≡ true → 0 ≡ firstNo asks
-                unfolding writeAsks
-                all-yes e = sym (after-8 ∙ first-yes 25 _ (fits-is ∙ e) ∙ no-asks)
+  no-4 room y e = sym (first-yes 3 _ (headers-written cal records ∙ y) ∙ first-no 4 _ (order-written cal records ∙ e))
 
 -- each question is answered yes
 pub record Writable (cal : Calendar) (records : List ℕ) (room : ℕ) : Type 0 where
