@@ -94,11 +94,6 @@ module _ (verdict : Answer Calendar) (f id : List ℕ) (date : ℕ) where
   unfolding asksIn firstNo
   first-in n e = rw (e, eqb·suc-zero n) refl
 
-  -- a refused verdict gives an opening refused with the same number
-  pub in-refused : (q : ℕ) → verdict .refusal ≡ q → (q ≡ 0 → ⊥) → refusedOpening q ≡ openingIn verdict f id date
-  in-refused zero e h = absurd (h refl)
-  in-refused (suc n) e h = sym (in-no n (first-in n e))
-
   module _ (a : verdict .refusal ≡ 0) where
     -- the questions after those of load
     rest-in : firstNo (asksIn verdict f id date)
@@ -106,46 +101,24 @@ module _ (verdict : Answer Calendar) (f id : List ℕ) (date : ℕ) where
     unfolding asksIn firstNo
     rest-in = rw a refl
 
-    -- an accepted file without the id gives refusal 9
-    pub in-9 : foundByHalves f id ≡ false → openingIn verdict f id date ≡ refusedOpening 9
-    unfolding firstNo
-    in-9 b = in-no 8 (rest-in ∙ rw b)
-
-    module _ (b : foundByHalves f id ≡ true) where
-      -- a date outside the cover gives refusal 11
-      pub in-11 : inCover (verdict .value .cover) date ≡ false → openingIn verdict f id date ≡ refusedOpening 11
-      unfolding firstNo
-      in-11 c = in-no 10 (rest-in ∙ rw (b, c))
-
-      module _ (c : inCover (verdict .value .cover) date ≡ true) where
-        -- a date that is not a week into the cover, where the kind asks for it, gives refusal 24
-        pub in-24 : weekIntoCover (productByHalves f id .kind) (verdict .value .cover) date ≡ false → openingIn verdict f id date ≡ refusedOpening 24
-        unfolding firstNo
-        in-24 w = in-no 23 (rest-in ∙ rw (b, c, w))
-
-        module _ (w : weekIntoCover (productByHalves f id .kind) (verdict .value .cover) date ≡ true) where
-          -- a fresh listing that is not all in the cover gives refusal 16
-          pub in-16 : allInCover (verdict .value) (productByHalves f id .kind) (productByHalves f id .group) date ≡ false → openingIn verdict f id date ≡ refusedOpening 16
-          unfolding firstNo
-          in-16 d = in-no 15 (rest-in ∙ rw (b, c, w, d))
-
-          -- where all is in the cover, the opening is accepted with the product, the calendar and the fresh listing
-          pub in-yes : allInCover (verdict .value) (productByHalves f id .kind) (productByHalves f id .group) date ≡ true
-              → openingIn verdict f id date ≡ record { refusal = 0; product = productByHalves f id; calendar = verdict .value; fresh = listingOf (verdict .value) (productByHalves f id .kind) (productByHalves f id .group) date .maturities }
-          unfolding openingIn listingOf firstNo
-          in-yes d = let z : firstNo (asksIn verdict f id date) ≡ 0 = rest-in ∙ rw (b, c, w, d) in rw z
-
-  -- what is listed is the opening but for its calendar
-  pub listed-no : (number : ℕ) → refusedOpening number ≡ openingIn verdict f id date
-      → record { refusal = number; product = zeroProduct; fresh = replicate 15 unused } ≡ listingIn verdict f id date
+  -- what is listed is the opening but for its calendar: refused with the number of the first question answered no
+  pub listed-no : (n : ℕ) → firstNo (asksIn verdict f id date) ≡ suc n
+      → record { refusal = suc n; product = zeroProduct; fresh = replicate 15 unused } ≡ listingIn verdict f id date
   unfolding listingIn
-  listed-no number e = ap (λ (o : Opening). record { refusal = o .refusal; product = o .product; fresh = o .fresh }) e
+  listed-no n e = ap (λ (o : Opening). record { refusal = o .refusal; product = o .product; fresh = o .fresh }) (sym (in-no n e))
 
-  -- an opening without its calendar is what is listed
-  pub listed-yes : {o : Opening} → o ≡ openingIn verdict f id date
-      → record { refusal = o .refusal; product = o .product; fresh = o .fresh } ≡ listingIn verdict f id date
-  unfolding listingIn
-  listed-yes e = ap (λ (o : Opening). record { refusal = o .refusal; product = o .product; fresh = o .fresh }) e
+  -- a refused verdict gives its number
+  pub listed-refused : (q : ℕ) → verdict .refusal ≡ q → (q ≡ 0 → ⊥)
+      → record { refusal = q; product = zeroProduct; fresh = replicate 15 unused } ≡ listingIn verdict f id date
+  listed-refused zero e h = absurd (h refl)
+  listed-refused (suc n) e h = listed-no n (first-in n e)
+
+  -- where no question refuses, the product and the fresh listing are listed
+  pub listed-yes : firstNo (asksIn verdict f id date) ≡ 0
+      → (let p = productByHalves f id in record { refusal = 0; product = p; fresh = listingOf (verdict .value) (p .kind) (p .group) date .maturities })
+      ≡ listingIn verdict f id date
+  unfolding listingIn openingIn listingOf
+  listed-yes e = rw e
 
   -- and with the verdict's calendar it is the opening
   module _ (l : Listed) (is : l ≡ listingIn verdict f id date) where

@@ -1,16 +1,69 @@
--- Each refusal is that of the first question answered no; an accepted one has the product and the listing of the definition.
-use Rattle.table_opening.proofs.Opened.{find-there, find-product, find-none, in-refused, in-9, in-11, in-24, in-16, in-yes, listed-no, listed-yes}
+-- Each refusal is that of the first question answered no: one answered yes leaves those after it (`yes-8` ..). An accepted one has
+-- the product and the listing of the definition.
+use Prim.Native.Nat.{ℕ}
+use mathlib.Core.Path.{_≡_, refl, _∙_}
+use mathlib.Core.List.{List, []}
+use lib.ListN.{drop}
+use denote.Ref.{now}
+use borrow.Author.Needs.{needs}
+use borrow.Author.Tests.{eq-eqb}
+use Rattle.questions.specs.Questions.{Ask, firstNo}
+use Rattle.questions.proofs.Asks.{no-asks, first-yes, first-no}
+use Rattle.questions.proofs.Bools.{said-no, said-yes}
 use Rattle.listing.proofs.Fresh.{complete-is}
 use Rattle.listing.proofs.SecondMap.{listing-second}
-use Rattle.questions.proofs.Bools.{said-no, said-yes}
-use mathlib.Core.Path.{refl, _∙_, sym}
-use mathlib.Core.List.{[]}
-use borrow.Author.Needs.{needs}
+use Rattle.file_calendar.specs.Calendars.{calendarAnswer}
+use Rattle.file_load.specs.Halves.{productByHalves}
+use Rattle.product.specs.declared.Product.{Product}
+use Rattle.table_opening.specs.Opening.{asksIn}
+use Rattle.table_opening.proofs.Opened.{find-there, find-product, find-none, listed-no, listed-refused, listed-yes}
 use Rattle.table_opening.proofs.listed_in.Statement.{statement}
 use Rattle.table_opening.proofs.listed_in.Tie as tie
 
+-- ---- the yeses
+abbrev asks : tie.Start → List Ask
+asks s = asksIn (calendarAnswer (s .args .t2)) (now (s .args .file)) (s .args .id) (s .args .date)
+
+-- the verdict and the first questions after it are answered yes: the refusal is that of the others
+abbrev Passed : ℕ → tie.Start → Type 0
+Passed k s = firstNo (asks s) ≡ firstNo (drop k (asks s))
+
+yes-8 : (c : tie.Else1) → Passed 1 (c .before .before)
+unfolding asksIn
+yes-8 c = first-yes _ _ (eq-eqb _ _ (c .if1 .left))
+
+-- the place after `in_cover` was asked leads back to the start
+abbrev start : tie.After-in-cover → tie.Start
+start c = c .before .before .before .before .before .before .before .before
+
+yes-9 : (c : tie.After-in-cover) → Passed 2 (start c)
+unfolding asksIn
+yes-9 c =
+    let at-find = c .before .before .before .before .before in
+    yes-8 (at-find .before) ∙ first-yes 9 _ (find-there _ _ _ _ (rw (c .before .before .before .block .given .1) at (at-find .find-rising .ensures)))
+
+yes-11 : (c : tie.Else2) → Passed 3 (start (c .before))
+unfolding asksIn
+yes-11 c = yes-9 (c .before) ∙ first-yes 11 _ (said-yes (c .before .in-cover .ensures) (c .if2 .left))
+
+-- the product is that of the place found
+abbrev productAt : tie.Start → Product
+productAt s = productByHalves (now (s .args .file)) (s .args .id)
+
+product : (c : tie.After-product-at) → c .product-at .result ≡ productAt (start (c .before .before))
+product c =
+    let at-block = c .before .before .before .before .before in
+    c .product-at .ensures ∙ find-product _ _ _ _ (rw (at-block .block .given .1) at (at-block .before .before .find-rising .ensures))
+
+yes-24 : (c : tie.Else3) → Passed 4 (start (c .before .before .before .before .before))
+unfolding asksIn
+yes-24 c =
+    let at-product-at = c .before .before .before in
+    yes-11 (at-product-at .before) ∙ first-yes 24 _ (rw (product at-product-at) at (said-yes (c .before .is-week-into-cover .ensures) (c .if3 .left)))
+
+-- ---- the refusals
 returns : tie.Need-returns
-returns c = rw (c .none-listed .ensures) (listed-no _ _ _ _ _ (in-refused _ _ _ _ _ refl (c .before .if1 .taken)))
+returns c = rw (c .none-listed .ensures) (listed-refused _ _ _ _ _ refl (c .before .if1 .taken))
 
 find-rising-requires : tie.Need-find-rising-requires
 find-rising-requires c κs = search needs
@@ -22,82 +75,47 @@ enum-told : tie.Need-enum-told
 enum-told c = search needs
 
 returns-2 : tie.Need-returns-2
+unfolding asksIn
 returns-2 c =
     let at-find = c .before .before .before in
-    let at-if1 = at-find .before in
-    rw (c .none-listed2 .ensures)
-    (listed-no _ _ _ _ _ (sym (in-9 _ _ _ _ (at-if1 .if1 .left) (find-none _ _ (rw (c .before .enum-told .given .1) at (at-find .find-rising .ensures))))))
+    let said = find-none _ _ (rw (c .before .enum-told .given .1) at (at-find .find-rising .ensures)) in
+    rw (c .none-listed2 .ensures) (listed-no _ _ _ _ 8 (yes-8 (at-find .before) ∙ first-no 9 _ said))
 
 returns-3 : tie.Need-returns-3
+unfolding asksIn
 returns-3 c =
     let at-in-cover = c .before .before in
-    let at-calendar = at-in-cover .before in
-    let at-block = at-calendar .before .before in
-    let at-find = at-block .before .before in
-    let at-if1 = at-find .before in
-    let there = find-there _ _ _ _ (rw (at-block .block .given .1) at (at-find .find-rising .ensures)) in
-    rw (c .none-listed3 .ensures)
-    (listed-no _ _ _ _ _ (sym (in-11 _ _ _ _ (at-if1 .if1 .left) there (said-no (at-in-cover .in-cover .ensures) (c .before .if2 .taken)))))
+    let said = said-no (at-in-cover .in-cover .ensures) (c .before .if2 .taken) in
+    rw (c .none-listed3 .ensures) (listed-no _ _ _ _ 10 (yes-9 at-in-cover ∙ first-no 11 _ said))
 
 returns-4 : tie.Need-returns-4
+unfolding asksIn
 returns-4 c =
-    let at-week = c .before .before in
-    let at-product-at = at-week .before .before in
-    let at-if2 = at-product-at .before in
-    let at-in-cover = at-if2 .before in
-    let at-calendar = at-in-cover .before in
-    let at-block = at-calendar .before .before in
-    let at-find = at-block .before .before in
-    let at-if1 = at-find .before in
-    let yes-in-cover = said-yes (at-in-cover .in-cover .ensures) (at-if2 .if2 .left) in
-    let at = rw (at-block .block .given .1) at (at-find .find-rising .ensures) in
-    let there = find-there _ _ _ _ at in
-    let p = at-product-at .product-at .ensures ∙ find-product _ _ _ _ at in
-    let week = said-no (at-week .is-week-into-cover .ensures) (c .before .if3 .taken) in
-    rw (c .none-listed4 .ensures)
-    (listed-no _ _ _ _ _ (sym (in-24 _ _ _ _ (at-if1 .if1 .left) there yes-in-cover (rw p at week))))
+    let at-product-at = c .before .before .before .before in
+    let said = rw (product at-product-at) at (said-no (c .before .before .is-week-into-cover .ensures) (c .before .if3 .taken)) in
+    rw (c .none-listed4 .ensures) (listed-no _ _ _ _ 23 (yes-11 (at-product-at .before) ∙ first-no 24 _ said))
 
+-- ---- the listing
 returns-5 : tie.Need-returns-5
+unfolding asksIn
 returns-5 c =
     let at-list = c .before .before .before in
     let at-if3 = at-list .before .before .before .before in
-    let at-week = at-if3 .before in
-    let at-product-at = at-week .before .before in
-    let at-if2 = at-product-at .before in
-    let at-in-cover = at-if2 .before in
-    let at-calendar = at-in-cover .before in
-    let at-block = at-calendar .before .before in
-    let at-find = at-block .before .before in
-    let at-if1 = at-find .before in
-    let yes-in-cover = said-yes (at-in-cover .in-cover .ensures) (at-if2 .if2 .left) in
-    let at = rw (at-block .block .given .1) at (at-find .find-rising .ensures) in
-    let there = find-there _ _ _ _ at in
-    let p = at-product-at .product-at .ensures ∙ find-product _ _ _ _ at in
-    let l = rw p at (at-list .list-in .ensures ∙ listing-second (at-if1 .before .before .args .t2 .calendar) [] _ _ _) in
-    let week = rw p at (said-yes (at-week .is-week-into-cover .ensures) (at-if3 .if3 .left)) in
-    rw (c .none-listed5 .ensures)
-    (listed-no _ _ _ _ _ (sym (in-16 _ _ _ _ (at-if1 .if1 .left) there yes-in-cover week (said-no (complete-is _ _ _ _ _ l) (c .before .if4 .taken)))))
+    let at-product-at = at-if3 .before .before .before in
+    let s = start (at-product-at .before .before) in
+    let l = rw (product at-product-at) at (at-list .list-in .ensures ∙ listing-second (s .args .t2 .calendar) [] _ _ _) in
+    rw (c .none-listed5 .ensures) (listed-no _ _ _ _ 15 (yes-24 at-if3 ∙ first-no 16 _ (said-no (complete-is _ _ _ _ _ l) (c .before .if4 .taken))))
 
 returns-6 : tie.Need-returns-6
+unfolding asksIn
 returns-6 c =
     let at-list = c .before .before .before in
     let at-if3 = at-list .before .before .before .before in
-    let at-week = at-if3 .before in
-    let at-product-at = at-week .before .before in
-    let at-if2 = at-product-at .before in
-    let at-in-cover = at-if2 .before in
-    let at-calendar = at-in-cover .before in
-    let at-block = at-calendar .before .before in
-    let at-find = at-block .before .before in
-    let at-if1 = at-find .before in
-    let yes-in-cover = said-yes (at-in-cover .in-cover .ensures) (at-if2 .if2 .left) in
-    let at = rw (at-block .block .given .1) at (at-find .find-rising .ensures) in
-    let there = find-there _ _ _ _ at in
-    let p = at-product-at .product-at .ensures ∙ find-product _ _ _ _ at in
-    let l = rw p at (at-list .list-in .ensures ∙ listing-second (at-if1 .before .before .args .t2 .calendar) [] _ _ _) in
-    let week = rw p at (said-yes (at-week .is-week-into-cover .ensures) (at-if3 .if3 .left)) in
-    rw (p, l)
-    (listed-yes _ _ _ _ (sym (in-yes _ _ _ _ (at-if1 .if1 .left) there yes-in-cover week (said-yes (complete-is _ _ _ _ _ l) (c .before .if4 .left)))))
+    let at-product-at = at-if3 .before .before .before in
+    let s = start (at-product-at .before .before) in
+    let p = product at-product-at in
+    let l = rw p at (at-list .list-in .ensures ∙ listing-second (s .args .t2 .calendar) [] _ _ _) in
+    rw (p, l) (listed-yes _ _ _ _ (yes-24 at-if3 ∙ first-yes 16 _ (said-yes (complete-is _ _ _ _ _ l) (c .before .if4 .left)) ∙ no-asks))
 
 pub listed-in-spec : {M : Type 1} → statement M
 listed-in-spec =
