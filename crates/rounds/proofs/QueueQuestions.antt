@@ -1,7 +1,7 @@
 -- What the calls on a queue come to, question by question, and the queue that each fills.
 -- Assumes nothing.
 use mathlib.Core.Path.{_≡_, refl, _∙_, sym, ap}
-use mathlib.Core.Bool.{Bool, true, false, not, _||_, cond}
+use mathlib.Core.Bool.{Bool, true, false, _||_, cond}
 use mathlib.Core.List.{List, [], _∷_, _++_}
 use Prim.Native.Nat.{ℕ, suc, _+_, _-_, _≤_, _<_}
 use native.Mathlib.Numerals.{add-one}
@@ -10,15 +10,16 @@ use lib.Dec.{leb, ltb, eqb}
 use lib.ListN.{length, set, take, drop, length-append, drop-of-length-le}
 use lib.Seq.{length-take-le, length-slice, take-take, take-all}
 use borrow.Author.Tests.{eqb-true, eq-eqb, ne-eqb, eqb-false, ltb-true, ltb-false, leb-true}
-use Rattle.questions.specs.Questions.{Ask, firstNo}
+use Rattle.questions.specs.Questions.{Ask, ask, firstNo}
 use Rattle.questions.specs.Search.{oneOf}
+use Rattle.questions.proofs.Asks.{first-no}
 use Rattle.questions.proofs.Bools.{clash}
 use Rattle.rounds.proofs.QueuePlaces.{put-place, take-places}
 use Rattle.rounds.proofs.Distinct.{times, room-for}
 use Rattle.rounds.proofs.Queues.{distinct-queue}
 use Rattle.rounds.specs.declared.Queue.{Queue}
 use Rattle.rounds.specs.declared.Changed.{Changed}
-use Rattle.rounds.specs.Rounds.{queued, queueRight, places200, queueOf, indexOf, handled, handleCall, tableNumberRight, changed, changeAsks, joinAsks, joinCall, leaveAsks, without, leaveCall}
+use Rattle.rounds.specs.Rounds.{queued, queueRight, places200, queueOf, indexOf, handled, handleCall, changed, without}
 
 -- places filled with a list
 pub placed : (xs ts : List ℕ) (n : ℕ) → ts ≡ places200 xs → length xs ≡ n → ts ≡ places200 (take n ts)
@@ -152,26 +153,6 @@ without-once x (z ∷ xs) h e = go (eqb x z) refl h e (without-once x xs)
         let s : eqb z x ≡ false = ne-eqb z x (λ r. eqb-false x z q (sym r)) in
         rw s (ap (λ (l : List ℕ). z ∷ l) (ih (omega arith) e))
 
--- a joining or leaving asks 10 first, then 30, then 31
-module _ (q : Queue) (table : ℕ) (holds : Bool) where
-  asked-10 : queueRight q ≡ false → firstNo (changeAsks q table holds) ≡ 10
-  unfolding firstNo
-  asked-10 r = rw r
-
-  module _ (r : queueRight q ≡ true) where
-    asked-30 : tableNumberRight table ≡ false → firstNo (changeAsks q table holds) ≡ 30
-    unfolding firstNo
-    asked-30 s = rw (r, s)
-
-    module _ (s : tableNumberRight table ≡ true) where
-      asked-31 : holds ≡ false → firstNo (changeAsks q table holds) ≡ 31
-      unfolding firstNo
-      asked-31 t = rw (r, s, t)
-
-      all-yes : holds ≡ true → firstNo (changeAsks q table holds) ≡ 0
-      unfolding firstNo
-      all-yes t = rw (r, s, t)
-
 module _ (q : Queue) where
   -- the call of the round, by its first question answered no
   module _ (b : ℕ) where
@@ -197,75 +178,39 @@ module _ (q : Queue) where
         unfolding handleCall firstNo
         handle-done t = rw (r, s, t)
 
-  -- a joining or leaving, by what it asks
-  refused : (asks : List Ask) (tables : List ℕ) (n : ℕ) → firstNo asks ≡ suc n → changed q asks tables ≡ record { refusal = suc n; queue = q }
+  -- a joining or leaving: where the first of the questions left is answered no, its number is the refusal
+  pub change-no : (asks : List Ask) (tables : List ℕ) (n : ℕ) {b : Bool} (rest : List Ask) → firstNo asks ≡ firstNo (ask (suc n) b ∷ rest) → b ≡ false
+      → record { refusal = suc n; queue = q } ≡ changed q asks tables
   unfolding changed
-  refused asks tables n e = rw (e, ne-eqb (suc n) 0 (λ z. absurd (omega arith)))
+  change-no asks tables n rest e f =
+      let z : firstNo asks ≡ suc n = e ∙ first-no (suc n) rest f in
+      rw (z, ne-eqb (suc n) 0 (λ z. absurd (omega arith)))
 
-  accepted : (asks : List Ask) (tables : List ℕ) → firstNo asks ≡ 0 → changed q asks tables ≡ record { refusal = 0; queue = queueOf tables }
+  -- where no question refuses, the queue is one of these numbers
+  pub change-yes : (asks : List Ask) (tables : List ℕ) → firstNo asks ≡ 0 → record { refusal = 0; queue = queueOf tables } ≡ changed q asks tables
   unfolding changed
-  accepted asks tables e = rw e
+  change-yes asks tables e = rw e
 
-  module _ (table : ℕ) where
+  module _ (table : ℕ) (fits : q .count ≤ length (q .tables)) where
     abbrev index : ℕ
     index = indexOf (queued q) table
 
-    abbrev joined : List ℕ
-    joined = queued q ++ (table ∷ [])
+    long : length (queued q) ≡ q .count
+    long = length-take-le (q .count) (q .tables) fits
 
-    -- a table that joins a queue that is not right is refused with 10
-    pub join-10 : queueRight q ≡ false → joinCall q table ≡ record { refusal = 10; queue = q }
-    unfolding joinCall
-    join-10 r = refused (joinAsks q table) _ 9 (asked-10 q table _ r)
+    -- a table whose index is below the count is queued
+    pub queued-there : index < q .count → oneOf (queued q) table ≡ true
+    queued-there h = stands (queued q) table (omega (arith, long))
 
-    -- a table that leaves a queue that is not right is refused with 10
-    pub leave-10 : queueRight q ≡ false → leaveCall q table ≡ record { refusal = 10; queue = q }
-    unfolding leaveCall
-    leave-10 r = refused (leaveAsks q table) _ 9 (asked-10 q table _ r)
+    -- a table whose index is not below the count is not queued
+    pub not-queued : q .count ≤ index → oneOf (queued q) table ≡ false
+    not-queued h = stands-not (queued q) table (omega (arith, long))
 
     module _ (r : queueRight q ≡ true) where
-      -- a number above 199 that joins is refused with 30
-      pub join-30 : leb table 199 ≡ false → joinCall q table ≡ record { refusal = 30; queue = q }
-      unfolding joinCall
-      join-30 s = refused (joinAsks q table) _ 29 (asked-30 q table _ r s)
+      -- a joining finds room
+      pub join-room : leb table 199 ≡ true → q .count ≤ index → q .count < 200
+      join-room s h = omega (arith, room-for (queued q) table (distinct-queue q r) (not-queued h) (leb-true table 199 s), long)
 
-      -- a number above 199 that leaves is refused with 30
-      pub leave-30 : leb table 199 ≡ false → leaveCall q table ≡ record { refusal = 30; queue = q }
-      unfolding leaveCall
-      leave-30 s = refused (leaveAsks q table) _ 29 (asked-30 q table _ r s)
-
-      module _ (s : leb table 199 ≡ true) (fits : q .count ≤ length (q .tables)) where
-        long : length (queued q) ≡ q .count
-        long = length-take-le (q .count) (q .tables) fits
-
-        queued-there : index < q .count → oneOf (queued q) table ≡ true
-        queued-there h = stands (queued q) table (omega (arith, long))
-
-        not-queued : q .count ≤ index → oneOf (queued q) table ≡ false
-        not-queued h = stands-not (queued q) table (omega (arith, long))
-
-        -- a table that joins a queue it is in is refused with 31
-        pub join-31 : index < q .count → joinCall q table ≡ record { refusal = 31; queue = q }
-        unfolding joinCall
-        join-31 h = refused (joinAsks q table) _ 30 (asked-31 q table _ r s (ap not (queued-there h)))
-
-        -- a table that joins a queue it is not in is accepted and comes last
-        pub join-done : q .count ≤ index → joinCall q table ≡ record { refusal = 0; queue = queueOf joined }
-        unfolding joinCall
-        join-done h = accepted (joinAsks q table) joined (all-yes q table _ r s (ap not (not-queued h)))
-
-        -- a joining finds room
-        pub join-room : q .count ≤ index → q .count < 200
-        join-room h = omega (arith, room-for (queued q) table (distinct-queue q r) (not-queued h) (leb-true table 199 s), long)
-
-        -- a table that leaves a queue it is not in is refused with 31
-        pub leave-31 : q .count ≤ index → leaveCall q table ≡ record { refusal = 31; queue = q }
-        unfolding leaveCall
-        leave-31 h = refused (leaveAsks q table) _ 30 (asked-31 q table _ r s (not-queued h))
-
-        -- a table that leaves a queue it is in is accepted, the others keep their order
-        pub leave-done : index < q .count → leaveCall q table ≡ record { refusal = 0; queue = queueOf (take index (queued q) ++ drop (index + 1) (queued q)) }
-        unfolding leaveCall
-        leave-done h =
-            let w : without table (queued q) ≡ take index (queued q) ++ drop (index + 1) (queued q) = rw (add-one index) (without-once table (queued q) (distinct-queue q r .once table) (queued-there h)) in
-            accepted (leaveAsks q table) (without table (queued q)) (all-yes q table _ r s (queued-there h)) ∙ ap (λ (l : List ℕ). record { refusal = 0; queue = queueOf l }) w
+      -- the queue without a table is the queue without its index
+      pub left-out : index < q .count → take index (queued q) ++ drop (index + 1) (queued q) ≡ without table (queued q)
+      left-out h = sym (rw (add-one index) (without-once table (queued q) (distinct-queue q r .once table) (queued-there h)))

@@ -1,73 +1,93 @@
--- Shown: the answer is the definition's leaving. Refusals 10, 30 and 31 cite the yeses before them and their own no: an index
--- that is not below the count says that the table is not queued. A right queue has it once, so the queue without that
--- index is the queue without the table (`leave-done`).
+-- Shown: the answer is the definition's leaving. A question answered yes leaves those after it (`yes-10`, `yes-30`), and a refusal is
+-- the first no among those left: an index that is not below the count says that the table is not queued. A right queue has it once,
+-- so the queue without that index is the queue without the table (`left-out`).
+use Rattle.rounds.specs.Rounds.{queueRight, leaveAsks, leaveCall}
 use Rattle.rounds.proofs.Queues.{right-count}
-use Rattle.rounds.proofs.QueueQuestions.{leave-10, leave-30, leave-31, leave-done}
+use Rattle.rounds.proofs.QueueQuestions.{change-no, change-yes, queued-there, not-queued, left-out}
+use Rattle.questions.specs.Questions.{firstNo}
+use Rattle.questions.proofs.Asks.{no-asks, first-yes}
 use Rattle.questions.proofs.Bools.{said-no, said-yes}
 use borrow.Author.Tests.{le-leb, lt-leb}
 use borrow.Author.Needs.{needs}
 use native.Mathlib.Omega.{arith}
-use mathlib.Core.Path.{_≡_, _∙_, sym}
-use lib.ListN.{length, length-map}
+use Prim.Native.Nat.{ℕ, _≤_}
+use mathlib.Core.Path.{_≡_, refl, _∙_}
+use mathlib.Core.Bool.{true}
+use lib.ListN.{length, length-map, drop}
 use Rattle.rounds.proofs.Queue.leave.Statement.{statement}
 use Rattle.rounds.proofs.Queue.leave.Tie as tie
 
+-- ---- the yeses
+-- the first k questions are answered yes: the refusal is that of the others
+abbrev Passed : ℕ → tie.Start → Type 0
+Passed k s = firstNo (leaveAsks (s .args .self) (s .args .table)) ≡ firstNo (drop k (leaveAsks (s .args .self) (s .args .table)))
+
+right : (c : tie.Else1) → queueRight (c .before .before .args .self) ≡ true
+right c = said-yes (c .before .is-right .ensures) (c .if1 .left)
+
+yes-10 : (c : tie.Else1) → Passed 1 (c .before .before)
+yes-10 c = first-yes 10 _ (right c)
+
+yes-30 : (c : tie.Else2) → Passed 2 (c .before .before .before)
+yes-30 c = yes-10 (c .before) ∙ first-yes 30 _ (le-leb _ _ (c .if2 .left))
+
+-- a right queue has no more numbers than places
+fits : (c : tie.Else1) → c .before .before .args .self .count ≤ length (c .before .before .args .self .tables)
+fits c =
+    let s = c .before .before in
+    let l : length (s .args .self .tables) ≡ 200 = simp length-map at (s .good .0 .1 .1 .0 .1 .0 .1) in
+    omega (arith, l, right-count (s .args .self) (right c))
+
+-- ---- the refusals
 is-right-requires : tie.Need-is-right-requires
 is-right-requires c κs = search needs
 
 unchanged-requires : tie.Need-unchanged-requires
 unchanged-requires c κs = search needs
 
--- ---- the refusals
 returns : tie.Need-returns
-returns c = c .unchanged .ensures ∙ sym (leave-10 _ _ (said-no (c .before .before .is-right .ensures) (c .before .if1 .taken)))
+unfolding leaveCall
+returns c = c .unchanged .ensures ∙ change-no _ _ _ 9 _ refl (said-no (c .before .before .is-right .ensures) (c .before .if1 .taken))
 
 unchanged-requires-2 : tie.Need-unchanged-requires-2
 unchanged-requires-2 c κs = search needs
 
 returns-2 : tie.Need-returns-2
-returns-2 c =
-    let r = said-yes (c .before .before .before .is-right .ensures) (c .before .before .if1 .left) in
-    c .unchanged2 .ensures ∙ sym (leave-30 _ _ r (lt-leb _ _ (c .before .if2 .taken)))
+unfolding leaveCall
+returns-2 c = c .unchanged2 .ensures ∙ change-no _ _ _ 29 _ (yes-10 (c .before .before)) (lt-leb _ _ (c .before .if2 .taken))
 
 cast-n : tie.Need-cast-n
 cast-n c = search needs
 
 index-of-requires : tie.Need-index-of-requires
-index-of-requires c κs = right-count _ (said-yes (c .before .before .before .before .is-right .ensures) (c .before .before .before .if1 .left))
+index-of-requires c κs = right-count _ (right (c .before .before .before))
 
 unchanged-requires-3 : tie.Need-unchanged-requires-3
 unchanged-requires-3 c κs = search needs
 
 returns-3 : tie.Need-returns-3
+unfolding leaveCall
 returns-3 c =
-    let at-if1 = c .before .before .before .before .before .before in
-    let start = at-if1 .before .before in
-    let l : length (start .args .self .tables) ≡ 200 = simp length-map at (start .good .0 .1 .1 .0 .1 .0 .1) in
-    let r = said-yes (at-if1 .before .is-right .ensures) (at-if1 .if1 .left) in
-    let s = le-leb _ _ (c .before .before .before .before .before .if2 .left) in
+    let at-if2 = c .before .before .before .before .before in
+    let a = at-if2 .before .before .before .args in
     let e = c .before .before .index-of .ensures in
-    c .unchanged3 .ensures ∙ sym (leave-31 (start .args .self) (start .args .table) r s (omega (arith, l, right-count (start .args .self) r)) (rw (← e .0) (c .before .if3 .taken)))
+    let out = not-queued (a .self) (a .table) (fits (at-if2 .before)) (rw (e .0) at (c .before .if3 .taken)) in
+    c .unchanged3 .ensures ∙ change-no _ _ _ 30 _ (yes-30 at-if2) out
 
 -- ---- the table leaves
 without-index-requires : tie.Need-without-index-requires
-without-index-requires c κs =
-    let at-if1 = c .before .before .before .before .before in
-    let start = at-if1 .before .before in
-    let r = said-yes (at-if1 .before .is-right .ensures) (at-if1 .if1 .left) in
-    let s = le-leb _ _ (c .before .before .before .before .if2 .left) in
-    let e = c .before .index-of .ensures in
-    (c .if3 .left, right-count _ r)
+without-index-requires c κs = (c .if3 .left, right-count _ (right (c .before .before .before .before .before)))
 
 returns-4 : tie.Need-returns-4
+unfolding leaveCall
 returns-4 c =
-    let at-if1 = c .before .before .before .before .before .before in
-    let start = at-if1 .before .before in
-    let l : length (start .args .self .tables) ≡ 200 = simp length-map at (start .good .0 .1 .1 .0 .1 .0 .1) in
-    let r = said-yes (at-if1 .before .is-right .ensures) (at-if1 .if1 .left) in
-    let s = le-leb _ _ (c .before .before .before .before .before .if2 .left) in
+    let at-if2 = c .before .before .before .before .before in
+    let a = at-if2 .before .before .before .args in
     let e = c .before .before .index-of .ensures in
-    (rw (e .0) at (c .without-index .ensures)) ∙ sym (leave-done (start .args .self) (start .args .table) r s (omega (arith, l, right-count (start .args .self) r)) (rw (← e .0) (c .before .if3 .left)))
+    let h = rw (e .0) at (c .before .if3 .left) in
+    let there = queued-there (a .self) (a .table) (fits (at-if2 .before)) h in
+    (rw (e .0, left-out (a .self) (a .table) (fits (at-if2 .before)) (right (at-if2 .before)) h) at (c .without-index .ensures)) ∙
+    change-yes _ _ _ (yes-30 at-if2 ∙ first-yes 31 _ there ∙ no-asks)
 
 pub leave-spec : {M : Type 1} → statement M
 leave-spec =
