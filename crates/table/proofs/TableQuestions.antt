@@ -71,56 +71,29 @@ pub record Sound (t : Table) : Type 0 where
 pub sound-parts : (t : Table) → sound t ≡ true → Sound t
 unfolding sound
 sound-parts t e =
-    let e1 = both (productRight (t .product)) after1 e in
-    let e2 = both (validCover (t .calendar .cover)) after2 (e1 .1) in
-    let e3 = both (clean (t .calendar)) after3 (e2 .1) in
-    let e4 = both (everyWeek (t .calendar)) after4 (e3 .1) in
-    let e5 = both (inCover (t .calendar .cover) (t .date)) after5 (e4 .1) in
-    let w = both (weekIntoCover (t .product .kind) (t .calendar .cover) (t .date)) (listingSound t) (e5 .1) in
-    let e6 = both (allInCover (t .calendar) (t .product .kind) (t .product .group) (t .date)) after6 (w .1) in
-    let e7 = both (listsFresh t) after7 (e6 .1) in
-    let e8 = both (numbersRight (t .maturities) (placesOfKind (t .product .kind)) (t .given)) after8 (e7 .1) in
-    let e9 = both (leb (placesOfKind (t .product .kind)) (t .given)) within (e8 .1) in
+    let (fields, e1) = both _ _ e in
+    let (cover, e2) = both _ _ e1 in
+    let (clean-days, e3) = both _ _ e2 in
+    let (weeks, e4) = both _ _ e3 in
+    let (dated, e5) = both _ _ e4 in
+    let (week, e6) = both _ _ e5 in
+    let (whole, e7) = both _ _ e6 in
+    let (listed, e8) = both _ _ e7 in
+    let (numbers, e9) = both _ _ e8 in
+    let (least, most) = both _ _ e9 in
     record {
-      fields = e1 .0;
-      cover = e2 .0;
-      clean-days = e3 .0;
-      weeks = e4 .0;
-      dated = e5 .0;
-      week = w .0;
-      whole = e6 .0;
-      listed = e7 .0;
-      numbers = e8 .0;
-      least = leb-true _ _ (e9 .0);
-      most = leb-true _ _ (e9 .1);
+      fields = fields;
+      cover = cover;
+      clean-days = clean-days;
+      weeks = weeks;
+      dated = dated;
+      week = week;
+      whole = whole;
+      listed = listed;
+      numbers = numbers;
+      least = leb-true _ _ least;
+      most = leb-true _ _ most;
     }
-  where
-    within : Bool
-    within = leb (t .given - placesOfKind (t .product .kind)) (keysBefore (ruleOf (t .calendar) (t .product .kind) (t .product .group)) (t .calendar) (t .date))
-
-    after8 : Bool
-    after8 = leb (placesOfKind (t .product .kind)) (t .given) && within
-
-    after7 : Bool
-    after7 = numbersRight (t .maturities) (placesOfKind (t .product .kind)) (t .given) && after8
-
-    after6 : Bool
-    after6 = listsFresh t && after7
-
-    after5 : Bool
-    after5 = weekIntoCover (t .product .kind) (t .calendar .cover) (t .date) && listingSound t
-
-    after4 : Bool
-    after4 = inCover (t .calendar .cover) (t .date) && after5
-
-    after3 : Bool
-    after3 = everyWeek (t .calendar) && after4
-
-    after2 : Bool
-    after2 = clean (t .calendar) && after3
-
-    after1 : Bool
-    after1 = validCover (t .calendar .cover) && after2
 
 -- the count given of a sound table is small
 pub given-most : (t : Table) → sound t ≡ true → t .given ≤ 60000
@@ -218,6 +191,7 @@ module _ (t : Table) where
       listing-few l = rw (w, a, b, lt-leb (placesOfKind (t .product .kind)) (t .given) (omega (arith, q)))
 
       -- any other listing is sound exactly where the count given less the places is at most the keys before the front
-      pub listing-rest : (m : ℕ) → n ≤ t .given → m ≡ keysBefore (ruleOf (t .calendar) (t .product .kind) (t .product .group)) (t .calendar) (t .date) → leb (t .given - n) m ≡ listingSound t
+      pub listing-rest : (m : ℕ) → n ≤ t .given → m ≡ keysBefore (ruleOf (t .calendar) (t .product .kind) (t .product .group)) (t .calendar) (t .date)
+          → leb (t .given - n) m ≡ listingSound t
       listing-rest m l k =
           sym (rw (w, a, b, le-leb (placesOfKind (t .product .kind)) (t .given) (omega (arith, q))) (rw (← k, ← q)))
