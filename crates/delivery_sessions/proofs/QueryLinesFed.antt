@@ -2,7 +2,7 @@
 -- Assumes nothing.
 use mathlib.Core.Path.{_≡_, refl, _∙_, sym, ap}
 use mathlib.Core.Bool.{Bool, true, false, cond}
-use mathlib.Core.List.{List, [], _∷_, _++_, append-nil}
+use mathlib.Core.List.{List, [], _∷_, _++_}
 use Prim.Native.Nat.{ℕ, _+_, _≤_, _<_}
 use native.Mathlib.Numerals.{add-one}
 use native.Mathlib.Omega.{arith}
@@ -12,6 +12,7 @@ use lib.Seq.{drop-cons}
 use borrow.Author.Tests.{eq-eqb, ne-eqb}
 use Rattle.questions.proofs.Bools.{clash}
 use Rattle.session_lines.specs.CommandLines.{linesFrom}
+use Rattle.session_lines.specs.InputRest.{restOver}
 use Rattle.delivery_items.specs.declared.LongLine.{LongLine}
 use Rattle.delivery_items.specs.Items.{emptyLong, lengthened, fedLong}
 use Rattle.delivery_items.proofs.LongItems.{any-empty, fed-more}
@@ -24,11 +25,11 @@ use Rattle.delivery_sessions.specs.QueryParts.{queryRest, LineFed}
 -- the byte at i comes next
 module _ (of : List ℕ → Standing) (k : ℕ) (l : LongLine) (part : List ℕ) (i : ℕ) (h : i < length part) (rest : List ℕ) where
   feed-ends : getD part i 0 ≡ 10 → queryRest of k l (drop i part ++ rest) ≡ longText of k l ++ queryRest of (nextNumber k) emptyLong (drop (i + 1) part ++ rest)
-  unfolding queryRest
+  unfolding queryRest restOver
   feed-ends e = rw (drop-cons part i 0 h, eq-eqb (getD part i 0) 10 e, add-one i) refl
 
   feed-more : (getD part i 0 ≡ 10 → ⊥) → queryRest of k l (drop i part ++ rest) ≡ queryRest of k (lengthened l (getD part i 0)) (drop (i + 1) part ++ rest)
-  unfolding queryRest
+  unfolding queryRest restOver
   feed-more e = rw (drop-cons part i 0 h, ne-eqb (getD part i 0) 10 e, add-one i) refl
 
 -- bytes so far, no line feed among them
@@ -81,12 +82,12 @@ unfolding fedLong
 no-bytes = refl
 
 whole : (of : List ℕ → Standing) (k : ℕ) (begun input : List ℕ) → queryRest of k (fedLong emptyLong begun) input ≡ repliesText of k (linesFrom begun input)
-unfolding queryRest repliesText linesFrom
+unfolding queryRest restOver repliesText linesFrom
 whole of k begun [] = rw (any-empty begun, any-length of k begun) (go (eqb (length begun) 0))
   where
-    go : (b : Bool) → cond b [] (questionAnswer of k begun) ≡ repliesText of k (cond b [] (begun ∷ []))
+    go : (b : Bool) → cond b [] (questionAnswer of k begun ++ []) ≡ repliesText of k (cond b [] (begun ∷ []))
     go true = refl
-    go false = sym (append-nil (questionAnswer of k begun))
+    go false = refl
 whole of k begun (byte ∷ rest) = rw (any-length of k begun) (go (eqb byte 10) (ap (λ (x : LongLine). queryRest of (nextNumber k) x rest)
     (sym no-bytes) ∙ whole of (nextNumber k) [] rest) (ap (λ (x : LongLine). queryRest of k x rest) (sym (fed-more emptyLong begun byte))
     ∙ whole of k (begun ++ (byte ∷ [])) rest))

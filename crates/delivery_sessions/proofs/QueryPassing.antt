@@ -15,6 +15,7 @@ use Rattle.session_text.specs.Buffer.{roomy, Printed}
 use Rattle.session_text.proofs.TextsInBuffer.{no-room, room-long}
 use Rattle.session_parts.specs.TermsParts.{another}
 use Rattle.session_parts.proofs.TermsPassing.{next-is, has-next}
+use Rattle.session_lines.specs.InputRest.{restOver}
 use Rattle.delivery_items.specs.declared.LongLine.{LongLine}
 use Rattle.delivery_items.specs.Items.{emptyLong}
 use Rattle.delivery_answers.specs.declared.Standing.{Standing}
@@ -225,8 +226,8 @@ roomed out h = le-leb 512 (length out) h
 
 module _ (of : List ℕ → Standing) (k : ℕ) (l : LongLine) (before : List ℕ) where
   text-end : queryRest of k l [] ≡ cond (eqb (l .length) 0) [] (longText of k l)
-  unfolding queryRest
-  text-end = refl
+  unfolding queryRest restOver
+  text-end = ap (cond (eqb (l .length) 0) []) (append-nil (longText of k l))
 
   -- without a byte of a last line nothing is answered, and the buffer stays as it is
   pub no-last : l .length ≡ 0 → QueryLastAnswer of k l before before 0

@@ -2,11 +2,11 @@
 -- Assumes nothing.
 use Prim.Native.Nat.{ℕ, _+_, _≤_, _<_}
 use mathlib.Core.Path.{_≡_}
-use mathlib.Core.Bool.{true, false, cond}
-use mathlib.Core.List.{List, [], _∷_, _++_}
+use mathlib.Core.Bool.{true, false}
+use mathlib.Core.List.{List, [], _++_}
 use mathlib.Core.Logic.{_⊎_}
-use lib.Dec.{eqb}
 use lib.ListN.{length, take, drop}
+use Rattle.session_lines.specs.InputRest.{restOver}
 use Rattle.delivery_items.specs.declared.LongLine.{LongLine}
 use Rattle.delivery_items.specs.Items.{emptyLong, lengthened}
 use Rattle.delivery_answers.specs.declared.Standing.{Standing}
@@ -17,9 +17,7 @@ use Rattle.delivery_sessions.specs.declared.QueryProgress.{QueryProgress
 -- what is still answered for the rest of an input, with the number of the line that is begun, and its bytes so far;
 -- from an empty line with the number 1 this is `linesText` (proofs, Feeding: `whole-input`)
 unfoldable pub queryRest : (List ℕ → Standing) → ℕ → LongLine → List ℕ → List ℕ
-queryRest of k l [] = cond (eqb (l .length) 0) [] (longText of k l)
-queryRest of k l (byte ∷ rest) =
-    cond (eqb byte 10) (longText of k l ++ queryRest of (nextNumber k) emptyLong rest) (queryRest of k (lengthened l byte) rest)
+queryRest of = restOver emptyLong lengthened (λ l. l .length) (λ k. []) (λ k l next. longText of k l ++ next (nextNumber k))
 
 -- of a line begun, a part of the input and a place in it: the line's bytes up to its line feed, or to the part's end
 pub record LineFed (l : LongLine) (part : List ℕ) (from : ℕ) (r : LineEnd) : Type 0 where

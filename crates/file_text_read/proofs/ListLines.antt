@@ -18,6 +18,7 @@ use Rattle.file_draft.proofs.DraftQuestions.{writable, counted}
 use Rattle.file_write.specs.declared.WrittenFile.{WrittenFile}
 use Rattle.file_write.specs.Writing.{writeCall, writeAnswer, bufferAfter}
 use Rattle.session_lines.specs.CommandLines.{linesFrom}
+use Rattle.session_lines.specs.InputRest.{restOver}
 use Rattle.file_text_lines.specs.declared.Entry.{Entry}
 use Rattle.delivery_items.specs.declared.LongLine.{LongLine}
 use Rattle.delivery_items.specs.Items.{emptyLong, lengthened, fedLong}
@@ -70,7 +71,7 @@ module _ (t : ListTaken) (l : LongLine) (before : List ℕ) where
 
 module _ (room : ℕ) (c : Content) (l : LongLine) where
   rest-byte : (byte : ℕ) (rest : List ℕ) → (byte ≡ 10 → ⊥) → restTaken room c l (byte ∷ rest) ≡ restTaken room c (lengthened l byte) rest
-  unfolding restTaken
+  unfolding restTaken restOver
   rest-byte byte rest n = rw (ne-eqb byte 10 n) refl
 
   part-byte : (byte : ℕ) (rest : List ℕ) → (byte ≡ 10 → ⊥) → partTaken room c l (byte ∷ rest) ≡ partTaken room c (lengthened l byte) rest
@@ -82,7 +83,7 @@ module _ (room : ℕ) (c : Content) (l : LongLine) where
   part-line byte rest e = rw (eq-eqb byte 10 e) refl
 
   rest-line : (byte : ℕ) (rest : List ℕ) → byte ≡ 10 → restTaken room c l (byte ∷ rest) ≡ restTaken room (lineTaken room c (heldSaid (eqb (c .lines) 0) l)) emptyLong rest
-  unfolding restTaken
+  unfolding restTaken restOver
   rest-line byte rest e = rw (eq-eqb byte 10 e) refl
 
 module _ (l : LongLine) (byte : ℕ) (rest : List ℕ) where
@@ -159,12 +160,12 @@ module _ (t : ListTaken) (l : LongLine) (part before : List ℕ) (now : ListTake
 module _ (t : ListTaken) (l : LongLine) (before : List ℕ) where
   -- at the end of the list an empty line begun changes nothing
   pub end-none : l .length ≡ 0 → EndIn t l before before t
-  unfolding restTaken
+  unfolding restTaken restOver
   end-none e = record { is = rw (eq-eqb (l .length) 0 e) refl; buffer = stays before (t .size) }
 
   -- at the end of the list a line begun that is not empty is taken
   pub end-line : (l .length ≡ 0 → ⊥) → (after : List ℕ) (r : ListTaken) → ListLineIn t l before after r → EndIn t l before after r
-  unfolding restTaken
+  unfolding restTaken restOver
   end-line n after r s = record { is = rw (ne-eqb (l .length) 0 n) (s .is); buffer = s .buffer }
 
 -- ---- the whole
@@ -207,7 +208,7 @@ counted-next room c e h = go (eqb (c .bad) 0) refl (eqb (e .letter) 35) (entryFi
 -- the line that the program holds is the line that has begun
 rest-is : (room : ℕ) (c : Content) (n : ℕ) (begun input : List ℕ) → Numbering c → eqb (c .lines) 0 ≡ eqb n 0
     → restTaken room c (fedLong emptyLong begun) input ≡ linesTaken room c (numberedFrom n (linesFrom begun input))
-unfolding restTaken linesTaken numberedFrom linesFrom fedLong
+unfolding restTaken restOver linesTaken numberedFrom linesFrom fedLong
 rest-is room c n begun [] h q = rw (any-empty begun, held-any (eqb (c .lines) 0) begun, q) (go (eqb (length begun) 0))
   where
     go : (b : Bool) → cond b c (lineTaken room c (lineSaid (eqb n 0) begun)) ≡ linesTaken room c (numberedFrom n (cond b [] (begun ∷ [])))

@@ -17,6 +17,7 @@ use Rattle.file_calendar.specs.Calendars.{orderRight, calendarsClean, weeksRigh
 use Rattle.file_draft.specs.Drafts.{fileOf}
 use Rattle.file_write.specs.Writing.{writeCall, bufferAfter}
 use Rattle.session_lines.specs.CommandLines.{linesFrom}
+use Rattle.session_lines.specs.InputRest.{restOver}
 use Rattle.file_text_lines.specs.declared.Entry.{Entry}
 use Rattle.delivery_items.specs.declared.LongLine.{LongLine}
 use Rattle.delivery_items.specs.Items.{emptyLong, lengthened}
@@ -138,11 +139,8 @@ contentOf room input = linesTaken room noContent (numberedLines input)
 
 -- what is said after the rest of a list, with a line begun; from `noContent` and an empty line this is `contentOf` (proofs, Taking: `whole-list`)
 unfoldable pub restTaken : ℕ → Content → LongLine → List ℕ → Content
-restTaken room c l [] = cond (eqb (l .length) 0) c (lineTaken room c (heldSaid (eqb (c .lines) 0) l))
-restTaken room c l (byte ∷ rest) =
-    cond (eqb byte 10)
-    (restTaken room (lineTaken room c (heldSaid (eqb (c .lines) 0) l)) emptyLong rest)
-    (restTaken room c (lengthened l byte) rest)
+restTaken room =
+    restOver emptyLong lengthened (λ l. l .length) (λ c. c) (λ c l next. next (lineTaken room c (heldSaid (eqb (c .lines) 0) l)))
 
 -- what is said after the lines that end in a part of a list, with a line begun
 unfoldable pub partTaken : ℕ → Content → LongLine → List ℕ → Content

@@ -12,21 +12,22 @@ use Rattle.table.specs.declared.Outcome.{Outcome}
 use Rattle.table.specs.Table.{openCall}
 use Rattle.session_lines.specs.declared.Line.{Line}
 use Rattle.session_lines.specs.CommandLines.{commandOf, lineCommand, emptyLine, extended, fed, linesFrom}
+use Rattle.session_lines.specs.InputRest.{restOver}
 use Rattle.session_lines.proofs.LineFeeding.{any-length, any-empty, fed-more}
 use Rattle.session_command.specs.declared.Kept.{Kept}
 use Rattle.session_command.specs.Sessions.{answerText, keptAfter, nothingKept, sessionText, keptRun, termsText, restText, restKept}
 
 -- the line that the program holds is the line that has begun
 rest-is : (opening : List ℕ → ℕ → Outcome) (h : Kept) (begun input : List ℕ) → restText opening h (fed emptyLine begun) input ≡ sessionText opening h (linesFrom begun input)
-unfolding restText sessionText linesFrom fed
+unfolding restText restOver sessionText linesFrom fed
 rest-is opening h begun [] = rw (any-empty begun, any-length begun) (go (eqb (length begun) 0))
   where
     text : List ℕ
     text = answerText opening h (commandOf begun)
 
-    go : (b : Bool) → cond b [] text ≡ sessionText opening h (cond b [] (begun ∷ []))
+    go : (b : Bool) → cond b [] (text ++ []) ≡ sessionText opening h (cond b [] (begun ∷ []))
     go true = refl
-    go false = sym (append-nil text)
+    go false = refl
 rest-is opening h begun (byte ∷ rest) = go (eqb byte 10) (rest-is opening (keptAfter opening h (commandOf begun)) [] rest) (rest-is opening h (begun ++ (byte ∷ [])) rest)
   where
     l : Line
@@ -47,7 +48,7 @@ whole-text file input = rest-is (openCall file) nothingKept [] input
 
 -- and so is what is kept
 kept-is : (opening : List ℕ → ℕ → Outcome) (h : Kept) (begun input : List ℕ) → restKept opening h (fed emptyLine begun) input ≡ keptRun opening h (linesFrom begun input)
-unfolding restKept keptRun linesFrom fed
+unfolding restKept restOver keptRun linesFrom fed
 kept-is opening h begun [] = rw (any-empty begun, any-length begun) (go (eqb (length begun) 0))
   where
     go : (b : Bool) → cond b h (keptAfter opening h (commandOf begun)) ≡ keptRun opening h (cond b [] (begun ∷ []))
@@ -97,26 +98,26 @@ passed-bytes g step l (byte ∷ bytes) rest none =
 module _ (opening : List ℕ → ℕ → Outcome) (h : Kept) (l : Line) where
   -- a byte that ends no line joins the line, and the text of the rest follows
   pub text-byte : (byte : ℕ) (rest : List ℕ) → (byte ≡ 10 → ⊥) → restText opening h l (byte ∷ rest) ≡ restText opening h (extended l byte) rest
-  unfolding restText
+  unfolding restText restOver
   text-byte byte rest n = rw (ne-eqb byte 10 n) refl
 
   -- a byte that ends no line joins the line, and what the rest leaves is kept
   pub kept-byte : (byte : ℕ) (rest : List ℕ) → (byte ≡ 10 → ⊥) → restKept opening h l (byte ∷ rest) ≡ restKept opening h (extended l byte) rest
-  unfolding restKept
+  unfolding restKept restOver
   kept-byte byte rest n = rw (ne-eqb byte 10 n) refl
 
   -- a line feed ends a line
   pub text-line : (byte : ℕ) (rest : List ℕ) → byte ≡ 10
       → restText opening h l (byte ∷ rest) ≡ answerText opening h (lineCommand l) ++ restText opening (keptAfter opening h (lineCommand l)) emptyLine rest
-  unfolding restText
+  unfolding restText restOver
   text-line byte rest e = rw (eq-eqb byte 10 e) refl
 
   -- a line feed ends the line, and what its command leaves is kept for the rest
   pub kept-line : (byte : ℕ) (rest : List ℕ) → byte ≡ 10 → restKept opening h l (byte ∷ rest) ≡ restKept opening (keptAfter opening h (lineCommand l)) emptyLine rest
-  unfolding restKept
+  unfolding restKept restOver
   kept-line byte rest e = rw (eq-eqb byte 10 e) refl
 
   -- the end of the input ends a line that has bytes
   pub text-end : restText opening h l [] ≡ cond (eqb (l .length) 0) [] (answerText opening h (lineCommand l))
-  unfolding restText
-  text-end = refl
+  unfolding restText restOver
+  text-end = ap (cond (eqb (l .length) 0) []) (append-nil (answerText opening h (lineCommand l)))

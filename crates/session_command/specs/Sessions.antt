@@ -13,6 +13,7 @@ use Rattle.session_text.specs.TermsText.{outcomeText, refusalText, badText}
 use Rattle.session_lines.specs.declared.Command.{Command}
 use Rattle.session_lines.specs.declared.Line.{Line}
 use Rattle.session_lines.specs.CommandLines.{commandOf, lineCommand, emptyLine, extended, linesFrom}
+use Rattle.session_lines.specs.InputRest.{restOver}
 use Rattle.session_command.specs.declared.Kept.{Kept}
 
 -- before an accepted O there is no table
@@ -59,19 +60,13 @@ termsText master input = sessionText (openCall master) nothingKept (linesFrom []
 
 -- what is still printed for the rest of an input, with a table kept and a line begun
 unfoldable pub restText : (List ℕ → ℕ → Outcome) → Kept → Line → List ℕ → List ℕ
-restText opening h l [] = cond (eqb (l .length) 0) [] (answerText opening h (lineCommand l))
-restText opening h l (byte ∷ rest) =
-    cond (eqb byte 10)
-    (answerText opening h (lineCommand l) ++ restText opening (keptAfter opening h (lineCommand l)) emptyLine rest)
-    (restText opening h (extended l byte) rest)
+restText opening =
+    restOver emptyLine extended (λ l. l .length) (λ h. [])
+    (λ h l next. answerText opening h (lineCommand l) ++ next (keptAfter opening h (lineCommand l)))
 
 -- what is kept after the rest of an input, with a table kept and a line begun
 unfoldable pub restKept : (List ℕ → ℕ → Outcome) → Kept → Line → List ℕ → Kept
-restKept opening h l [] = cond (eqb (l .length) 0) h (keptAfter opening h (lineCommand l))
-restKept opening h l (byte ∷ rest) =
-    cond (eqb byte 10)
-    (restKept opening (keptAfter opening h (lineCommand l)) emptyLine rest)
-    (restKept opening h (extended l byte) rest)
+restKept opening = restOver emptyLine extended (λ l. l .length) (λ h. h) (λ h l next. next (keptAfter opening h (lineCommand l)))
 
 -- what is known beforehand, so that it need not be asked again: the answer to question 10 of a table, and what it says of the calendar of a verdict
 pub record Known (judged : FileCalendar) (right : Bool) (t : Table) (ten : Bool) : Type 0 where
