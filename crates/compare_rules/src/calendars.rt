@@ -9,7 +9,7 @@ use compare_text::start_line;
 ghost use Prim.Native.Nat.{_<_, _≤_};
 
 // What is asked of one day.
-fn day_line(cal: Calendar, day: u16) {
+fn calendar_day_line(cal: Calendar, day: u16) {
     start_line(b'T');
     put_short(day);
     put_answer(calendar::in_cover(cal.cover, day));
@@ -28,7 +28,7 @@ fn day_lines(cal: Calendar, from: u16, to: u16, step: u16)
 {
     let mut day = from;
     while day <= to {
-        day_line(cal, day);
+        calendar_day_line(cal, day);
         day += step;
     }
 }

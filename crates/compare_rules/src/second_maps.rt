@@ -12,7 +12,7 @@ use compare_text::start_line;
 ghost use Prim.Native.Nat.{_<_, _≤_};
 
 // What is asked of one day.
-fn day_line(cal: Calendar, day: u16) {
+fn second_map_line(cal: Calendar, day: u16) {
     start_line(b'E');
     put_short(day);
     put_answer(calendar::is_in_second_map(cal, day));
@@ -27,7 +27,7 @@ fn day_lines(cal: Calendar, from: u16, to: u16, step: u16)
 {
     let mut day = from;
     while day <= to {
-        day_line(cal, day);
+        second_map_line(cal, day);
         day += step;
     }
 }

@@ -18,8 +18,8 @@ use Rattle.session_lines.specs.CommandLines.{moveForm, moveCommand, commandAt, 
 use Rattle.table.specs.declared.Outcome.{Outcome}
 use Rattle.table.specs.Table.{openCall, rollCall, closeCall}
 use Rattle.confirm_lines.specs.declared.EntryRead.{EntryRead}
-use Rattle.confirm_lines.specs.declared.Reading.{Reading}
-use Rattle.confirm_lines.specs.ListingLines.{noEntry, monthEntry, fridayEntry, entryIn, afterCall, afterEntry, readFirst, readLine}
+use Rattle.confirm_lines.specs.declared.ListingSoFar.{ListingSoFar}
+use Rattle.confirm_lines.specs.ListingLines.{noEntry, monthEntry, fridayEntry, entryIn, afterCall, afterEntry, readFirst, readListingLine}
 use Rattle.confirm_inputs.specs.ConfirmInputs.{entryNumbers}
 use Rattle.confirm_inputs.specs.InputReading.{EntryPut}
 
@@ -33,10 +33,10 @@ short-entry kind line h = go (isWeekly kind)
     go false = rw (ne-eqb (length line) 18 (λ e. omega arith)) refl
 
 -- the cases of a line: before an open another line or an open; then a roll, a close, or another line
-cases : Reading → Bool → Bool → Bool → Bool → Outcome → Outcome → Outcome → EntryRead → Reading
+cases : ListingSoFar → Bool → Bool → Bool → Bool → Outcome → Outcome → Outcome → EntryRead → ListingSoFar
 cases s opened a b c x y z e = cond opened (cond a (afterCall x) (cond b (afterCall y) (afterEntry s e))) (cond c (afterCall z) (afterEntry s noEntry))
 
-case-entry : (s : Reading) (opened a b c : Bool) (x y z : Outcome) (e : EntryRead) → e .there ≡ false → cases s opened a b c x y z e .entry .there ≡ false
+case-entry : (s : ListingSoFar) (opened a b c : Bool) (x y z : Outcome) (e : EntryRead) → e .there ≡ false → cases s opened a b c x y z e .entry .there ≡ false
 unfolding cases afterCall afterEntry
 case-entry s true true b c x y z e h = refl
 case-entry s true false true c x y z e h = refl
@@ -44,24 +44,25 @@ case-entry s true false false c x y z e h = h
 case-entry s false a b true x y z e h = refl
 case-entry s false a b false x y z e h = refl
 
-case-bad : (s : Reading) (opened a b c : Bool) (x y z : Outcome) (e : EntryRead) → a ≡ false → b ≡ false → c ≡ false → e .there ≡ false → cases s opened a b c x y z e .bad ≡ true
+case-bad : (s : ListingSoFar) (opened a b c : Bool) (x y z : Outcome) (e : EntryRead) → a ≡ false → b ≡ false → c ≡ false
+    → e .there ≡ false → cases s opened a b c x y z e .bad ≡ true
 unfolding cases afterCall afterEntry
 case-bad s true a b c x y z e p q r h = rw (p, q, h) refl
 case-bad s false a b c x y z e p q r h = rw r refl
 
-module _ (file : List ℕ) (s : Reading) where
-  as-cases : (line : List ℕ) → readLine file s line
+module _ (file : List ℕ) (s : ListingSoFar) where
+  as-cases : (line : List ℕ) → readListingLine file s line
       ≡ cases s (s .opened) (not (s .begun) && eqb (commandOf line .letter) 82) (not (s .begun) && eqb (commandOf line .letter) 67) (eqb (commandOf line .letter) 79)
       (rollCall (s .table) (commandOf line .day)) (closeCall (s .table) (commandOf line .day)) (openCall file (commandOf line .id) (commandOf line .day))
       (entryIn (s .table .product .kind) line)
-  unfolding readLine readFirst cases
+  unfolding readListingLine readFirst cases
   as-cases line = refl
 
   -- an entry's line has 18 bytes or more
-  pub entry-long : (line : List ℕ) → readLine file s line .entry .there ≡ true → 18 ≤ length line
+  pub entry-long : (line : List ℕ) → readListingLine file s line .entry .there ≡ true → 18 ≤ length line
   entry-long line t = go (lt-or-ge (length line) 18)
     where
-      none : length line < 18 → readLine file s line .entry .there ≡ false
+      none : length line < 18 → readListingLine file s line .entry .there ≡ false
       none h = rw (as-cases line) (case-entry s _ _ _ _ _ _ _ _ (short-entry (s .table .product .kind) line h))
 
       go : (length line < 18) ⊎ (18 ≤ length line) → 18 ≤ length line
@@ -72,14 +73,14 @@ module _ (file : List ℕ) (s : Reading) where
   unfolding commandOf commandAt moveCommand moveForm
   no-letter = refl
 
-  empty-bad : readLine file s [] .bad ≡ true
+  empty-bad : readListingLine file s [] .bad ≡ true
   empty-bad =
       rw (as-cases [])
       (case-bad s _ _ _ _ _ _ _ _ (rw no-letter (and-false (not (s .begun)))) (rw no-letter (and-false (not (s .begun)))) (rw no-letter refl)
       (short-entry (s .table .product .kind) [] (omega arith)))
 
   -- a line that is not bad has a byte
-  pub some-byte : (line : List ℕ) → readLine file s line .bad ≡ false → 1 ≤ length line
+  pub some-byte : (line : List ℕ) → readListingLine file s line .bad ≡ false → 1 ≤ length line
   some-byte [] h = clash empty-bad h
   some-byte (byte ∷ rest) h = omega arith
 

@@ -9,9 +9,9 @@ use native.Mathlib.Omega.{arith}
 use lib.Dec.{leb}
 use lib.ListN.{length, take, drop}
 use Rattle.session_lines.specs.CommandLines.{linesFrom}
-use Rattle.session_parts.specs.TermsParts.{LineEndsAt}
-use Rattle.confirm_lines.specs.declared.Reading.{Reading}
-use Rattle.confirm_lines.specs.ListingLines.{nothingRead, readLine}
+use Rattle.session_lines.specs.BytePlaces.{ByteFrom}
+use Rattle.confirm_lines.specs.declared.ListingSoFar.{ListingSoFar}
+use Rattle.confirm_lines.specs.ListingLines.{nothingRead, readListingLine}
 use Rattle.delivery_notices.proofs.NoticeEnds.{lines-none, line-more, line-length, is-last}
 use Rattle.confirm_inputs.specs.ConfirmInputs.{badInputText, refusedText, endText, entryNumbers, afterLine, inputLinesText}
 use Rattle.confirm_inputs.specs.InputReading.{EntryPut}
@@ -19,7 +19,7 @@ use Rattle.confirm_inputs.proofs.VerdictTexts.{after-bad, after-refused
 use Rattle.confirm_inputs.proofs.EntryLines.{entry-long, some-byte, numbers-few}
 
 -- after some lines of a text: it goes on at `from`, `number` lines are behind, and the first `count` numbers of the list are the listing's
-pub record Going (long : Bool) (file text first list : List ℕ) (s : Reading) (from count number : ℕ) : Type 0 where
+pub record Going (long : Bool) (file text first list : List ℕ) (s : ListingSoFar) (from count number : ℕ) : Type 0 where
   -- the text for the lines left, from here, is the text for the whole input
   pub rest : inputLinesText long file number s (take count list) (linesFrom [] (drop from text)) ≡ inputLinesText long file 0 nothingRead [] (linesFrom [] text)
   -- the list keeps its length
@@ -32,10 +32,11 @@ pub record Going (long : Bool) (file text first list : List ℕ) (s : Reading) (
   pub lines : 2 * number ≤ from
 
 -- the state before the first line
-pub begins : (long : Bool) (file text list : List ℕ) (s : Reading) → s ≡ nothingRead → Going long file text list list s 0 0 0
+pub begins : (long : Bool) (file text list : List ℕ) (s : ListingSoFar) → s ≡ nothingRead → Going long file text list list s 0 0 0
 begins long file text list s e = record { rest = rw e refl; long-list = refl; within = omega arith; few = omega arith; lines = omega arith }
 
-module _ (long : Bool) (file text first list : List ℕ) (s : Reading) (from count number : ℕ) (g : Going long file text first list s from count number) where
+module _ (long : Bool) (file text first list : List ℕ) (s : ListingSoFar) (from count number : ℕ)
+    (g : Going long file text first list s from count number) where
   -- the list has room for an entry
   pub room : from < length text → length text ≤ 65537 → 6900 ≤ length first → count + 2 ≤ length list
   room h l r = omega (arith, g .few, g .long-list)
@@ -49,8 +50,8 @@ module _ (long : Bool) (file text first list : List ℕ) (s : Reading) (from cou
   pub count-few : length text ≤ 65537 → 6900 ≤ length first → count ≤ length list
   count-few l r = omega (arith, g .few, g .within, g .long-list)
 
-  module _ (h : from < length text) (end : ℕ) (e : LineEndsAt text from end) (cut : Bool) (c : cut ≡ (long && leb (length text) (end + 1)))
-      (r : Reading) (q : r ≡ readLine file s (take (end - from) (drop from text))) where
+  module _ (h : from < length text) (end : ℕ) (e : ByteFrom 10 text from end) (cut : Bool) (c : cut ≡ (long && leb (length text) (end + 1)))
+      (r : ListingSoFar) (q : r ≡ readListingLine file s (take (end - from) (drop from text))) where
     abbrev onward : List ℕ
     onward = inputLinesText long file (number + 1) r (take count list ++ entryNumbers (r .entry)) (linesFrom [] (drop (end + 1) text))
 
@@ -86,12 +87,12 @@ module _ (long : Bool) (file text first list : List ℕ) (s : Reading) (from cou
           }
         where
           some : 1 ≤ length (take (end - from) (drop from text))
-          some = some-byte file s (take (end - from) (drop from text)) (ap (λ (x : Reading). x .bad) (sym q) ∙ not-bad (r .bad) good)
+          some = some-byte file s (take (end - from) (drop from text)) (ap (λ (x : ListingSoFar). x .bad) (sym q) ∙ not-bad (r .bad) good)
 
           bytes : r .entry .there ≡ true → 18 ≤ end - from
           bytes t =
               omega (
                 arith,
-                entry-long file s (take (end - from) (drop from text)) (ap (λ (x : Reading). x .entry .there) (sym q) ∙ t),
+                entry-long file s (take (end - from) (drop from text)) (ap (λ (x : ListingSoFar). x .entry .there) (sym q) ∙ t),
                 line-length text from end h e,
               )

@@ -17,8 +17,8 @@ use Rattle.session_lines.proofs.LineFeeding.{fed-holds, fed-is}
 use Rattle.file_text_print.specs.Contents.{LineWith}
 use Rattle.file_text_print.proofs.TextLengths.{decimal-short, day-long}
 use Rattle.table_vendor.specs.Vendor.{Judgement, vendorCall}
-use Rattle.confirm_lines.specs.declared.Reading.{Reading}
-use Rattle.confirm_lines.specs.ListingLines.{nothingRead, readLine}
+use Rattle.confirm_lines.specs.declared.ListingSoFar.{ListingSoFar}
+use Rattle.confirm_lines.specs.ListingLines.{nothingRead, readListingLine}
 use Rattle.confirm_inputs.specs.ConfirmInputs.{yesText, differsText, refusedText, badInputText, judgedText, endText, entryNumbers, afterLine, inputLinesText, confirmText}
 use Rattle.confirm_inputs.specs.InputReading.{saidIn}
 use Rattle.confirm_inputs.proofs.VerdictTexts.{said-all}
@@ -56,7 +56,7 @@ judged-short kind a = go (eqb (a .refusal) 0) (a .value .same)
     go true false = differs-short kind (a .value .key)
     go false s = refused-short (a .refusal)
 
-end-short : (s : Reading) (list : List ℕ) → length (endText s list) < 64
+end-short : (s : ListingSoFar) (list : List ℕ) → length (endText s list) < 64
 unfolding endText
 end-short s list = go (s .opened)
   where
@@ -64,7 +64,7 @@ end-short s list = go (s .opened)
     go true = judged-short (s .table .product .kind) (vendorCall (s .table) list)
     go false = bad-short 1
 
-after-short : (s : Reading) (cut : Bool) (n : ℕ) (rest : List ℕ) → length rest < 64 → length (afterLine s cut n rest) < 64
+after-short : (s : ListingSoFar) (cut : Bool) (n : ℕ) (rest : List ℕ) → length rest < 64 → length (afterLine s cut n rest) < 64
 unfolding afterLine
 after-short s cut n rest h = go (s .bad || cut) (eqb (s .refusal) 0)
   where
@@ -73,13 +73,14 @@ after-short s cut n rest h = go (s .bad || cut) (eqb (s .refusal) 0)
     go false true = h
     go false false = refused-short (s .refusal)
 
-lines-short : (long : Bool) (file : List ℕ) (n : ℕ) (s : Reading) (list : List ℕ) (lines : List (List ℕ)) → length (inputLinesText long file n s list lines) < 64
+lines-short : (long : Bool) (file : List ℕ) (n : ℕ) (s : ListingSoFar) (list : List ℕ) (lines : List (List ℕ))
+    → length (inputLinesText long file n s list lines) < 64
 unfolding inputLinesText
 lines-short long file n s list [] = end-short s list
 lines-short long file n s list (line ∷ lines) =
-    after-short (readLine file s line) (long && eqb (length lines) 0) (suc n)
-    (inputLinesText long file (suc n) (readLine file s line) (list ++ entryNumbers (readLine file s line .entry)) lines)
-    (lines-short long file (suc n) (readLine file s line) (list ++ entryNumbers (readLine file s line .entry)) lines)
+    after-short (readListingLine file s line) (long && eqb (length lines) 0) (suc n)
+    (inputLinesText long file (suc n) (readListingLine file s line) (list ++ entryNumbers (readListingLine file s line .entry)) lines)
+    (lines-short long file (suc n) (readListingLine file s line) (list ++ entryNumbers (readListingLine file s line .entry)) lines)
 
 -- the verdict is shorter than 64 bytes
 pub confirm-short : (file input : List ℕ) → length (confirmText file input) < 64

@@ -15,7 +15,7 @@ use Rattle.questions.specs.Questions.{Answer}
 use Rattle.session_lines.specs.declared.Line.{Line}
 use Rattle.session_lines.specs.CommandLines.{emptyLine, fed, linesFrom}
 use Rattle.table_vendor.specs.Vendor.{Judgement, vendorCall}
-use Rattle.confirm_lines.specs.declared.Reading.{Reading}
+use Rattle.confirm_lines.specs.declared.ListingSoFar.{ListingSoFar}
 use Rattle.confirm_lines.specs.ListingLines.{nothingRead}
 use Rattle.file_text_print.specs.Contents.{LineWith}
 use Rattle.delivery_notices.specs.NoticeReading.{readLength}
@@ -31,7 +31,7 @@ said {r} {t} {u} e q = record { is = e .is ∙ ap (fed emptyLine) q }
 pub bytes : {l r : Line} {t : List ℕ} → r ≡ fed l t → LineWith l t r
 bytes e = record { is = e }
 
-module _ (s : Reading) (cut : Bool) (n : ℕ) (rest : List ℕ) where
+module _ (s : ListingSoFar) (cut : Bool) (n : ℕ) (rest : List ℕ) where
   -- after a line that is bad or cut off comes the text of a bad line with its number
   pub after-bad : (s .bad || cut) ≡ true → afterLine s cut n rest ≡ badInputText n
   unfolding afterLine
@@ -47,7 +47,7 @@ module _ (s : Reading) (cut : Bool) (n : ℕ) (rest : List ℕ) where
   unfolding afterLine
   after-good e h = rw (e, h) refl
 
-module _ (s : Reading) (list : List ℕ) where
+module _ (s : ListingSoFar) (list : List ℕ) where
   -- an input that opens nothing ends as one with a bad first line
   pub end-unopened : s .opened ≡ false → badInputText 1 ≡ endText s list
   unfolding endText

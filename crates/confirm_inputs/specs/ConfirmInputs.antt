@@ -12,8 +12,8 @@ use Rattle.session_text.specs.TermsText.{decimal, nameText}
 use Rattle.session_lines.specs.CommandLines.{linesFrom}
 use Rattle.table_vendor.specs.Vendor.{Judgement, vendorCall}
 use Rattle.confirm_lines.specs.declared.EntryRead.{EntryRead}
-use Rattle.confirm_lines.specs.declared.Reading.{Reading}
-use Rattle.confirm_lines.specs.ListingLines.{nothingRead, readLine}
+use Rattle.confirm_lines.specs.declared.ListingSoFar.{ListingSoFar}
+use Rattle.confirm_lines.specs.ListingLines.{nothingRead, readListingLine}
 
 -- 'YES', and a line feed, 10
 abbrev pub yesText : List ℕ
@@ -38,7 +38,7 @@ judgedText kind a =
 
 -- 'so is an empty input, at line 1':
 -- the end of an input, with the numbers of its listing
-unfoldable pub endText : Reading → List ℕ → List ℕ
+unfoldable pub endText : ListingSoFar → List ℕ → List ℕ
 endText s list = cond (s .opened) (judgedText (s .table .product .kind) (vendorCall (s .table) list)) (badInputText 1)
 
 -- the key and the day of a line of the listing; another line has none
@@ -47,16 +47,16 @@ entryNumbers entry = cond (entry .there) (entry .key ∷ entry .day ∷ []) []
 
 -- 'It stops at the first line that is refused or bad':
 -- after line n; else the rest is printed
-unfoldable pub afterLine : Reading → Bool → ℕ → List ℕ → List ℕ
+unfoldable pub afterLine : ListingSoFar → Bool → ℕ → List ℕ → List ℕ
 afterLine s cut n rest = cond (s .bad || cut) (badInputText n) (cond (eqb (s .refusal) 0) rest (refusedText (s .refusal)))
 
 -- what is printed of the lines of an input, of which n are behind, and of the numbers of the listing so far;
 -- where the input is too long, its last line is bad whatever it says
-unfoldable pub inputLinesText : Bool → List ℕ → ℕ → Reading → List ℕ → List (List ℕ) → List ℕ
+unfoldable pub inputLinesText : Bool → List ℕ → ℕ → ListingSoFar → List ℕ → List (List ℕ) → List ℕ
 inputLinesText long file n s list [] = endText s list
 inputLinesText long file n s list (line ∷ lines) =
-    afterLine (readLine file s line) (long && eqb (length lines) 0) (suc n)
-    (inputLinesText long file (suc n) (readLine file s line) (list ++ entryNumbers (readLine file s line .entry)) lines)
+    afterLine (readListingLine file s line) (long && eqb (length lines) 0) (suc n)
+    (inputLinesText long file (suc n) (readListingLine file s line) (list ++ entryNumbers (readListingLine file s line .entry)) lines)
 
 -- '`confirm` reads `master.bin` and standard input .., and prints one line', of an input of
 -- 'at most 65,536 bytes in all; a line that does not end within them is bad':

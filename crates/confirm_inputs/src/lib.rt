@@ -1,6 +1,6 @@
 // The whole input of the program `confirm`, and the line that it prints.
 use confirm_lines::EntryRead;
-use confirm_lines::Reading;
+use confirm_lines::ListingSoFar;
 use product::Kind;
 use session_lines::Line;
 use table_vendor::Verdict;
@@ -12,8 +12,6 @@ ghost use Rattle.session_lines.specs.CommandLines.{emptyLine, linesFrom};
 ghost use Rattle.table_vendor.specs.Vendor.{verdictAnswer};
 ghost use Rattle.confirm_lines.specs.ListingLines.{nothingRead};
 ghost use Rattle.file_text_print.specs.Contents.{LineWith};
-ghost use Rattle.session_parts.specs.TermsParts.{LineEndsAt};
-ghost use Rattle.delivery_notices.specs.NoticeReading.{readLength};
 ghost use Rattle.confirm_inputs.specs.ConfirmInputs.{yesText, differsText, refusedText, badInputText, judgedText, endText, inputLinesText};
 ghost use Rattle.confirm_inputs.specs.InputReading.{saidIn, EntryPut};
 
@@ -21,14 +19,14 @@ ghost use Rattle.confirm_inputs.specs.InputReading.{saidIn, EntryPut};
 fn yes_line() -> Line
     ensures { λ r. ⌜ LineWith emptyLine yesText r ⌝ }
 {
-    confirm_lines::feed(session_lines::empty_line(), b"YES\n")
+    session_lines::feed(session_lines::empty_line(), b"YES\n")
 }
 
 // The smallest month, or Friday, that differs.
 fn differs_line(kind: Kind, key: u16) -> Line
     ensures { λ r. ⌜ LineWith emptyLine (differsText kind key) r ⌝ }
 {
-    let word = confirm_lines::feed(session_lines::empty_line(), b"DIFFERS ");
+    let word = session_lines::feed(session_lines::empty_line(), b"DIFFERS ");
     session_lines::extend(delivery_reports::with_name(word, kind, key), b'\n')
 }
 
@@ -36,7 +34,7 @@ fn differs_line(kind: Kind, key: u16) -> Line
 fn refused_line(number: u8) -> Line
     ensures { λ r. ⌜ LineWith emptyLine (refusedText number) r ⌝ }
 {
-    let word = confirm_lines::feed(session_lines::empty_line(), b"REFUSED ");
+    let word = session_lines::feed(session_lines::empty_line(), b"REFUSED ");
     session_lines::extend(file_text_print::with_decimal(word, number as u16), b'\n')
 }
 
@@ -44,7 +42,7 @@ fn refused_line(number: u8) -> Line
 fn bad_input_line(number: u16) -> Line
     ensures { λ r. ⌜ LineWith emptyLine (badInputText number) r ⌝ }
 {
-    let word = confirm_lines::feed(session_lines::empty_line(), b"BAD ");
+    let word = session_lines::feed(session_lines::empty_line(), b"BAD ");
     session_lines::extend(file_text_print::with_decimal(word, number), b'\n')
 }
 
@@ -60,7 +58,7 @@ fn judged_line(kind: Kind, verdict: Verdict) -> Line
 }
 
 // The end of an input: the first numbers of the list are its listing's.
-fn end_line(s: Reading, list: &[u16], count: usize) -> Line
+fn end_line(s: ListingSoFar, list: &[u16], count: usize) -> Line
     requires { ⌜ count ≤ length (now list) ⌝ }
     ensures { λ r. ⌜ LineWith emptyLine (endText s (take count (now (list .entry)))) r ⌝ }
 {
@@ -86,21 +84,6 @@ fn put_entry(list: &mut [u16], at: usize, entry: EntryRead) -> usize
     at + 2
 }
 
-// The place of the first line feed from a place on, or the text's end.
-fn line_end(text: &[u8], from: usize) -> usize
-    requires { ⌜ from ≤ length (now text) ⌝ }
-    ensures { λ r. ⌜ LineEndsAt (now (text .entry)) from r ⌝ }
-{
-    let mut i = from;
-    while i < text.len() {
-        if text[i] == b'\n' {
-            return i;
-        }
-        i += 1;
-    }
-    i
-}
-
 // All lines of a text, up to the first that is bad or refused; where it is too long, its last line is bad.
 fn read_lines(file: &[u8], text: &[u8], long: bool, list: &mut [u16]) -> Line
     requires { ⌜ (length (now text) ≤ 65537) × (6900 ≤ length (now list)) ⌝ }
@@ -111,10 +94,10 @@ fn read_lines(file: &[u8], text: &[u8], long: bool, list: &mut [u16]) -> Line
     let mut count: usize = 0;
     let mut number: u16 = 0;
     while from < text.len() {
-        let end = line_end(text, from);
+        let end = session_lines::byte_from(text, from, b'\n');
         let cut = long & (text.len() <= end + 1);
         number += 1;
-        s = confirm_lines::read_line(file, s, &text[from..end]);
+        s = confirm_lines::read_listing_line(file, s, &text[from..end]);
         if s.bad | cut {
             return bad_input_line(number);
         }
@@ -128,16 +111,6 @@ fn read_lines(file: &[u8], text: &[u8], long: bool, list: &mut [u16]) -> Line
     end_line(s, list, count)
 }
 
-// How many bytes of an input are read: all, or 65,537.
-fn read_length(n: usize) -> usize
-    ensures { λ r. ⌜ r ≡ readLength n ⌝ }
-{
-    if 65537 < n {
-        return 65537;
-    }
-    n
-}
-
 // The line that is printed for an input, with its line feed; the numbers of its listing stand in a lent list of 6,900 places or more.
 // Where the list is shorter nothing is said.
 pub fn confirm_line(file: &[u8], input: &[u8], list: &mut [u16]) -> Line
@@ -146,6 +119,6 @@ pub fn confirm_line(file: &[u8], input: &[u8], list: &mut [u16]) -> Line
     if list.len() < 6900 {
         return session_lines::empty_line();
     }
-    let n = read_length(input.len());
+    let n = delivery_notices::read_length(input.len());
     read_lines(file, &input[..n], 65536 < input.len(), list)
 }

@@ -3,11 +3,9 @@
 use mathlib.Core.Path.{_≡_, refl, _∙_, sym, ap}
 use mathlib.Core.Bool.{true, false, not, _&&_}
 use mathlib.Core.List.{List, [], _∷_, _++_, append-assoc}
-use Prim.Native.Nat.{ℕ, _+_, _≤_, _<_}
-use native.Mathlib.Numerals.{add-one}
+use Prim.Native.Nat.{ℕ}
 use lib.Dec.{eqb}
-use lib.ListN.{length, getD, take, drop, drop-of-length-le}
-use lib.Seq.{drop-cons}
+use lib.ListN.{length, getD, take, drop}
 use borrow.Author.Tests.{ne-eqb, eq-eqb, not-true, not-false}
 use Rattle.days.specs.Dates.{monthOf}
 use Rattle.table.specs.Table.{openCall, rollCall, closeCall}
@@ -15,20 +13,8 @@ use Rattle.session_lines.specs.declared.Line.{Line}
 use Rattle.session_lines.specs.declared.Command.{Command}
 use Rattle.session_lines.specs.CommandLines.{extended, fed, lineCommand, commandOf}
 use Rattle.session_lines.proofs.LineFeeding.{any-length, fed-more}
-use Rattle.confirm_lines.specs.ListingLines.{rollBegun, dateIn, monthIn, noEntry, entryFrom, monthEntry, fridayEntry, entryIn, afterCall, afterEntry, readFirst, readLine}
-use Rattle.confirm_lines.specs.declared.Reading.{Reading}
-
--- the byte at i comes next
-pub fed-from : (l : Line) (bytes : List ℕ) (i : ℕ) → i < length bytes → fed (extended l (getD bytes i 0)) (drop (i + 1) bytes) ≡ fed l (drop i bytes)
-unfolding fed
-fed-from l bytes i h = sym (rw (drop-cons bytes i 0 h, add-one) refl)
-
--- none is left
-pub fed-done : (l : Line) (bytes : List ℕ) (i : ℕ) → length bytes ≤ i → fed l (drop i bytes) ≡ l
-unfolding fed
-fed-done l bytes i h =
-    let z : drop i bytes ≡ [] = drop-of-length-le bytes {i = i} h in
-    rw z
+use Rattle.confirm_lines.specs.ListingLines.{rollBegun, dateIn, monthIn, noEntry, entryFrom, monthEntry, fridayEntry, entryIn, afterCall, afterEntry, readFirst, readListingLine}
+use Rattle.confirm_lines.specs.declared.ListingSoFar.{ListingSoFar}
 
 -- a date after the roll's beginning
 pub date-read : (bytes : List ℕ) → lineCommand (fed rollBegun bytes) ≡ dateIn bytes
@@ -78,7 +64,7 @@ module _ (line : List ℕ) where
   friday-there h s name last a b = sym (rw (eq-eqb (length line) 21 h, eq-eqb (getD line 10 0) 32 s) (rw (← a, ← b) refl))
 
 -- what a line is taken for, test by test
-module _ (file : List ℕ) (s : Reading) where
+module _ (file : List ℕ) (s : ListingSoFar) where
   -- a first line that is no O is read as a line without an entry
   pub first-bad : (c : Command) → (c .letter ≡ 79 → ⊥) → readFirst file s c ≡ afterEntry s noEntry
   unfolding readFirst
@@ -91,23 +77,23 @@ module _ (file : List ℕ) (s : Reading) where
 
   module _ (line : List ℕ) (c : Command) (e : c ≡ commandOf line) where
     -- before an opening a line is read as the first
-    pub line-first : not (s .opened) ≡ true → readLine file s line ≡ readFirst file s c
-    unfolding readLine
+    pub line-first : not (s .opened) ≡ true → readListingLine file s line ≡ readFirst file s c
+    unfolding readListingLine
     line-first o = rw (not-true (s .opened) o, e)
 
     module _ (o : not (s .opened) ≡ false) where
       -- after the opening and before the first entry, a line that is an R rolls the table
-      pub line-roll : (not (s .begun) && eqb (c .letter) 82) ≡ true → readLine file s line ≡ afterCall (rollCall (s .table) (c .day))
-      unfolding readLine
+      pub line-roll : (not (s .begun) && eqb (c .letter) 82) ≡ true → readListingLine file s line ≡ afterCall (rollCall (s .table) (c .day))
+      unfolding readListingLine
       line-roll r = rw (not-false (s .opened) o, ← e, r)
 
       module _ (r : (not (s .begun) && eqb (c .letter) 82) ≡ false) where
         -- after the opening and before the first entry, a line that is a C closes a day
-        pub line-close : (not (s .begun) && eqb (c .letter) 67) ≡ true → readLine file s line ≡ afterCall (closeCall (s .table) (c .day))
-        unfolding readLine
+        pub line-close : (not (s .begun) && eqb (c .letter) 67) ≡ true → readListingLine file s line ≡ afterCall (closeCall (s .table) (c .day))
+        unfolding readListingLine
         line-close d = rw (not-false (s .opened) o, ← e, r, d)
 
         -- any other line after the opening is read as an entry of the product's kind
-        pub line-entry : (not (s .begun) && eqb (c .letter) 67) ≡ false → readLine file s line ≡ afterEntry s (entryIn (s .table .product .kind) line)
-        unfolding readLine
+        pub line-entry : (not (s .begun) && eqb (c .letter) 67) ≡ false → readListingLine file s line ≡ afterEntry s (entryIn (s .table .product .kind) line)
+        unfolding readListingLine
         line-entry d = rw (not-false (s .opened) o, ← e, r, d)

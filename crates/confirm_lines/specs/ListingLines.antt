@@ -15,7 +15,7 @@ use Rattle.product.specs.Fields.{isWeekly}
 use Rattle.table.specs.declared.Outcome.{Outcome}
 use Rattle.table.specs.Table.{zeroTable, openCall, rollCall, closeCall}
 use Rattle.confirm_lines.specs.declared.EntryRead.{EntryRead}
-use Rattle.confirm_lines.specs.declared.Reading.{Reading}
+use Rattle.confirm_lines.specs.declared.ListingSoFar.{ListingSoFar}
 
 -- only the code needs it: a line of `R` and a space, 82 and 32
 unfoldable pub rollBegun : Line
@@ -58,25 +58,25 @@ unfoldable pub entryIn : Kind → List ℕ → EntryRead
 entryIn kind line = cond (isWeekly kind) (fridayEntry line) (monthEntry line)
 
 -- before the first line of an input
-unfoldable pub nothingRead : Reading
+unfoldable pub nothingRead : ListingSoFar
 nothingRead = record { bad = false; refusal = 0; opened = false; begun = false; table = zeroTable; entry = noEntry }
 
 -- after a call, with its refusal, 0 where it is accepted
-unfoldable pub afterCall : Outcome → Reading
+unfoldable pub afterCall : Outcome → ListingSoFar
 afterCall o = record { bad = false; refusal = o .refusal; opened = true; begun = false; table = o .table; entry = noEntry }
 
 -- after a line of the listing; another line is bad
-unfoldable pub afterEntry : Reading → EntryRead → Reading
+unfoldable pub afterEntry : ListingSoFar → EntryRead → ListingSoFar
 afterEntry s entry =
     record { bad = not (entry .there); refusal = s .refusal; opened = s .opened; begun = true; table = s .table; entry = entry }
 
 -- the first line opens the table: O, 79; any other is bad
-unfoldable pub readFirst : List ℕ → Reading → Command → Reading
+unfoldable pub readFirst : List ℕ → ListingSoFar → Command → ListingSoFar
 readFirst file s c = cond (eqb (c .letter) 79) (afterCall (openCall file (c .id) (c .day))) (afterEntry s noEntry)
 
 -- then come any rolls, R, 82, and closes, C, 67, then the lines of the listing
-unfoldable pub readLine : List ℕ → Reading → List ℕ → Reading
-readLine file s line =
+unfoldable pub readListingLine : List ℕ → ListingSoFar → List ℕ → ListingSoFar
+readListingLine file s line =
     let c = commandOf line in
     cond (s .opened)
     (cond (not (s .begun) && eqb (c .letter) 82) (afterCall (rollCall (s .table) (c .day)))

@@ -5,9 +5,9 @@ use session_lines::Line;
 use table::Outcome;
 use table::Table;
 ghost use mathlib.Core.Path.{_≡_};
-ghost use Rattle.session_lines.specs.CommandLines.{commandOf, fed};
+ghost use Rattle.session_lines.specs.CommandLines.{commandOf};
 ghost use Rattle.session_text.specs.TermsText.{lastDigit, monthText, dayText};
-ghost use Rattle.confirm_lines.specs.ListingLines.{rollBegun, dateIn, monthIn, noEntry, entryFrom, monthEntry, fridayEntry, entryIn, nothingRead, afterCall, afterEntry, readFirst, readLine};
+ghost use Rattle.confirm_lines.specs.ListingLines.{rollBegun, dateIn, monthIn, noEntry, entryFrom, monthEntry, fridayEntry, entryIn, nothingRead, afterCall, afterEntry, readFirst, readListingLine};
 
 // Whether a line is one of a listing, the key in it and the last trading day.
 pub struct EntryRead {
@@ -16,24 +16,11 @@ pub struct EntryRead {
     pub day: u16,
 }
 
-// A line with all bytes of a slice more.
-pub fn feed(line: Line, bytes: &[u8]) -> Line
-    ensures { λ r. ⌜ r ≡ fed line (now (bytes .entry)) ⌝ }
-{
-    let mut whole = line;
-    let mut i: usize = 0;
-    while i < bytes.len() {
-        whole = session_lines::extend(whole, bytes[i]);
-        i += 1;
-    }
-    whole
-}
-
 // The command of a line of any length.
 pub fn command_in(bytes: &[u8]) -> Command
     ensures { λ r. ⌜ r ≡ commandOf (now (bytes .entry)) ⌝ }
 {
-    let line = feed(session_lines::empty_line(), bytes);
+    let line = session_lines::feed(session_lines::empty_line(), bytes);
     session_lines::command_of(line)
 }
 
@@ -51,7 +38,7 @@ fn roll_begun() -> Line
 pub fn date_in(bytes: &[u8]) -> Command
     ensures { λ r. ⌜ r ≡ dateIn (now (bytes .entry)) ⌝ }
 {
-    let line = feed(roll_begun(), bytes);
+    let line = session_lines::feed(roll_begun(), bytes);
     session_lines::command_of(line)
 }
 
@@ -59,7 +46,7 @@ pub fn date_in(bytes: &[u8]) -> Command
 pub fn month_in(bytes: &[u8]) -> Command
     ensures { λ r. ⌜ r ≡ monthIn (now (bytes .entry)) ⌝ }
 {
-    let line = feed(roll_begun(), bytes);
+    let line = session_lines::feed(roll_begun(), bytes);
     let first = session_lines::extend(
         session_lines::extend(session_lines::extend(line, b'-'), b'0'),
         b'1',
@@ -176,7 +163,7 @@ pub fn day_name(day: u16) -> DayName
 
 // What is known of an input after some of its lines: whether the last was bad, the number of a refused call,
 // whether an open was called, whether the listing has begun, the table, and the entry of the last line.
-pub struct Reading {
+pub struct ListingSoFar {
     pub bad: bool,
     pub refusal: u8,
     pub opened: bool,
@@ -186,11 +173,11 @@ pub struct Reading {
 }
 
 // Before the first line.
-pub fn nothing_read() -> Reading
+pub fn nothing_read() -> ListingSoFar
     ensures { λ r. ⌜ r ≡ nothingRead ⌝ }
 {
     let table = table::zero_table();
-    Reading {
+    ListingSoFar {
         bad: false,
         refusal: 0,
         opened: false,
@@ -201,11 +188,11 @@ pub fn nothing_read() -> Reading
 }
 
 // After a call: a refused one has a number.
-fn after_call(o: Outcome) -> Reading
+fn after_call(o: Outcome) -> ListingSoFar
     ensures { λ r. ⌜ r ≡ afterCall o ⌝ }
 {
     let table = o.table;
-    Reading {
+    ListingSoFar {
         bad: false,
         refusal: o.refusal,
         opened: true,
@@ -216,11 +203,11 @@ fn after_call(o: Outcome) -> Reading
 }
 
 // After a line of the listing; another line is bad.
-fn after_entry(s: Reading, entry: EntryRead) -> Reading
+fn after_entry(s: ListingSoFar, entry: EntryRead) -> ListingSoFar
     ensures { λ r. ⌜ r ≡ afterEntry s entry ⌝ }
 {
     let table = s.table;
-    Reading {
+    ListingSoFar {
         bad: !entry.there,
         refusal: s.refusal,
         opened: s.opened,
@@ -241,7 +228,7 @@ fn entry_in(kind: Kind, line: &[u8]) -> EntryRead
 }
 
 // A line before a table is open: an open, or a bad one.
-fn read_first(file: &[u8], s: Reading, c: Command) -> Reading
+fn read_first(file: &[u8], s: ListingSoFar, c: Command) -> ListingSoFar
     ensures { λ r. ⌜ r ≡ readFirst (now (file .entry)) s c ⌝ }
 {
     if c.letter != b'O' {
@@ -254,8 +241,8 @@ fn read_first(file: &[u8], s: Reading, c: Command) -> Reading
 }
 
 // What is known after one line more.
-pub fn read_line(file: &[u8], s: Reading, line: &[u8]) -> Reading
-    ensures { λ r. ⌜ r ≡ readLine (now (file .entry)) s (now (line .entry)) ⌝ }
+pub fn read_listing_line(file: &[u8], s: ListingSoFar, line: &[u8]) -> ListingSoFar
+    ensures { λ r. ⌜ r ≡ readListingLine (now (file .entry)) s (now (line .entry)) ⌝ }
 {
     let c = command_in(line);
     if !s.opened {

@@ -19,7 +19,7 @@ ghost use Rattle.file_calendar.specs.Calendars.{calendarAnswer};
 ghost use Rattle.file_load.specs.Load.{judgeCall};
 ghost use Rattle.delivery_refusals.specs.Refusals.{refusalLines, unknownLines};
 ghost use Rattle.delivery_parts.specs.PlaceParts.{deliverText, deliverRefusals};
-ghost use Rattle.delivery_parts.specs.Next.{NextOf};
+ghost use Rattle.file_text_print.specs.WholeText.{NextOf};
 ghost use Rattle.delivery_parts.specs.Handing.{Runs, HandedTo};
 
 // Tells the refused calls of a place, which have to be the next of what is told.

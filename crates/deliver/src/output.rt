@@ -6,7 +6,7 @@ ghost use mathlib.Core.Bool.{true};
 ghost use Prim.Native.Nat.{_+_, _≤_};
 ghost use lib.ListN.{length, take};
 ghost use Rattle.delivery_parts.specs.PlaceParts.{deliverText, deliverRefusals};
-ghost use Rattle.delivery_parts.specs.Next.{NextOf};
+ghost use Rattle.file_text_print.specs.WholeText.{NextOf};
 
 // What standard output has taken of a delivery, and how many bytes were told of it.
 // Its fields are private: only this file makes one, so its counts grew by what write_out and tell were shown to come next of the two texts.

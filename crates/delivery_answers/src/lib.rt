@@ -65,7 +65,7 @@ pub fn with_number(line: Line, n: u64) -> Line
 fn with_no(line: Line, number: u8) -> Line
     ensures { λ r. ⌜ LineWith line (noText number) r ⌝ }
 {
-    file_text_print::with_spaced(confirm_lines::feed(line, b"NO"), number as u16)
+    file_text_print::with_spaced(session_lines::feed(line, b"NO"), number as u16)
 }
 
 // A line with a last trading day more.
@@ -95,7 +95,7 @@ fn with_tick(line: Line, refusal: u8) -> Line
     if refusal != 0 {
         return with_no(line, refusal);
     }
-    confirm_lines::feed(line, b"OK")
+    session_lines::feed(line, b"OK")
 }
 
 // A line with a minus more, of a negative amount.
@@ -211,6 +211,6 @@ pub fn is_misfit(s: Standing, q: QuestionLine) -> bool
 pub fn bad_question_line(k: u64) -> Line
     ensures { λ r. ⌜ LineWith emptyLine (badQuestionText k) r ⌝ }
 {
-    let bad = confirm_lines::feed(session_lines::empty_line(), b"BAD ");
+    let bad = session_lines::feed(session_lines::empty_line(), b"BAD ");
     session_lines::extend(with_number(bad, k), b'\n')
 }

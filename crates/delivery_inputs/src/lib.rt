@@ -19,9 +19,9 @@ pub struct RowTaken {
 pub fn bad_row_line(line: u32) -> Line
     ensures { λ r. ⌜ LineWith emptyLine (badRowText line) r ⌝ }
 {
-    let name = confirm_lines::feed(session_lines::empty_line(), b"standard input:");
+    let name = session_lines::feed(session_lines::empty_line(), b"standard input:");
     let number = delivery_answers::with_number(name, line as u64);
-    confirm_lines::feed(number, b": BAD\n")
+    session_lines::feed(number, b": BAD\n")
 }
 
 // What is told of a line by its number where it is bad; nothing of any other, which has 0 here.

@@ -13,10 +13,10 @@ use borrow.Author.Tests.{leb-true, eqb-true, eq-eqb, ne-eqb}
 use Rattle.questions.proofs.Bools.{both, lt-or-ge}
 use Rattle.history.specs.Book.{roll, close, reopen, measure}
 use Rattle.session_lines.specs.declared.Command.{Command}
-use Rattle.session_lines.specs.CommandLines.{moveForm, moveCommand, commandAt, commandOf}
+use Rattle.session_lines.specs.CommandLines.{noId, moveForm, moveCommand, commandAt, commandOf}
 use Rattle.file_text_lines.specs.Entries.{wordsFrom, wordsOf, wordAt, pointed, partRead, letterForm, idBytes}
 use Rattle.confirm_lines.specs.ListingLines.{dateIn}
-use Rattle.delivery_lines.specs.NoticeLines.{blank, trimmed, allDigits, isNumber, wholeWord, isPrice, isId, daySaid, measureWords, measureSaid, wordsSaid, trimmedSaid, saidBy, lineHeld, Said, nothing, bad, opening, notice, noId, valueOf, priceOf}
+use Rattle.delivery_lines.specs.NoticeLines.{blank, trimmed, allDigits, isNumber, wholeWord, isPrice, isId, daySaid, measureWords, measureSaid, wordsSaid, trimmedSaid, saidBy, lineHeld, Said, nothing, bad, opening, notice, valueOf, priceOf}
 
 -- ---- the words of a line and the spaces between them
 

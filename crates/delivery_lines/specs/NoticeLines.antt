@@ -5,12 +5,12 @@ use Prim.Native.Nat.{ℕ, _+_, _-_, _*_}
 use mathlib.Core.Bool.{Bool, true, _&&_, _||_, cond}
 use mathlib.Core.List.{List, [], _∷_}
 use lib.Dec.{leb, eqb}
-use lib.ListN.{getD, length, take, drop, replicate}
+use lib.ListN.{getD, length, take, drop}
 use Rattle.questions.specs.Search.{every}
 use Rattle.product.specs.Fields.{digit, idCharacter}
 use Rattle.history.specs.Book.{Call, roll, close, reopen, measure}
 use Rattle.session_lines.specs.declared.Command.{Command}
-use Rattle.session_lines.specs.CommandLines.{digitValue}
+use Rattle.session_lines.specs.CommandLines.{digitValue, noId}
 use Rattle.file_text_lines.specs.declared.NumberRead.{NumberRead}
 use Rattle.file_text_lines.specs.Entries.{wordAt, noNumber, pointed, partRead, letterForm, idBytes}
 use Rattle.confirm_lines.specs.ListingLines.{dateIn}
@@ -78,12 +78,8 @@ pub data Said : Type 0 where
   opening : ℕ → Said
   notice : Call → List ℕ → Said
 
--- no product: the calls on every table name none
-abbrev pub noId : List ℕ
-noId = replicate 4 0
-
 -- 'O 2008-03-20', 'R 2008-03-21', 'C 2008-04-18', 'E 2008-04-18'; 'Dates .. as in `terms`; a date that 23 refuses makes another line':
--- the letter, 79, 82, 67 or 69, and the date
+-- the letter, 79, 82, 67 or 69, and the date; the calls on every table name no product
 unfoldable pub daySaid : ℕ → Command → Said
 daySaid letter date =
     cond (eqb (date .letter) 0) bad

@@ -13,18 +13,7 @@ use lib.Seq.{drop-cons, append-snoc, length-take-le}
 use borrow.Author.Tests.{ne-eqb, le-leb, lt-leb}
 use Rattle.questions.proofs.Bools.{lt-or-ge}
 use Rattle.session_lines.specs.CommandLines.{linesFrom}
-use Rattle.session_parts.specs.TermsParts.{LineEndsAt}
-
--- no line feed from one place up to another, and none at the next
-pub none-more : (text : List ℕ) (from i : ℕ) → ((j : ℕ) → from ≤ j → j < i → getD text j 0 ≡ 10 → ⊥) → (getD text i 0 ≡ 10 → ⊥)
-    → (j : ℕ) → from ≤ j → j < i + 1 → getD text j 0 ≡ 10 → ⊥
-none-more text from i none n j h l e = go (lt-or-ge j i)
-  where
-    go : (j < i) ⊎ (i ≤ j) → ⊥
-    go (inl s) = none j h s e
-    go (inr s) =
-        let q : i ≡ j = omega arith in
-        n (rw q e)
+use Rattle.session_lines.specs.BytePlaces.{ByteFrom}
 
 -- bytes that are no line feeds belong to the line that has begun
 pass : (m : ℕ) (text begun : List ℕ) (from to : ℕ) → from + m ≡ to → to ≤ length text → ((i : ℕ) → from ≤ i → i < to → getD text i 0 ≡ 10 → ⊥)
@@ -51,13 +40,13 @@ pub lines-none : (n : ℕ) (text : List ℕ) → length text ≤ n → linesFrom
 unfolding linesFrom
 lines-none n text h = rw (past n text h) refl
 
-module _ (text : List ℕ) (from r : ℕ) (f : from < length text) (s : LineEndsAt text from r) where
+module _ (text : List ℕ) (from r : ℕ) (f : from < length text) (s : ByteFrom 10 text from r) where
   passed : linesFrom [] (drop from text) ≡ linesFrom (take (r - from) (drop from text)) (drop r text)
   passed = pass (r - from) text [] from r (omega (arith, s .on)) (s .within) (s .none)
 
   ended : r < length text → linesFrom [] (drop from text) ≡ take (r - from) (drop from text) ∷ linesFrom [] (drop (r + 1) text)
   unfolding linesFrom
-  ended h = passed ∙ rw (drop-cons text r 0 h, s .feed h, add-one r) refl
+  ended h = passed ∙ rw (drop-cons text r 0 h, s .found h, add-one r) refl
 
   last : length text ≤ r → linesFrom [] (drop from text) ≡ take (r - from) (drop from text) ∷ linesFrom [] (drop (r + 1) text)
   unfolding linesFrom

@@ -13,7 +13,7 @@ use borrow.Author.Tests.{eq-eqb, ne-eqb, eqb-true, eqb-false, lt-ltb, le-ltb, no
 use Rattle.questions.proofs.Bools.{lt-or-ge, clash, both}
 use Rattle.history.specs.Book.{Call, roll, close, reopen, measure}
 use Rattle.session_lines.specs.CommandLines.{linesFrom}
-use Rattle.session_parts.specs.TermsParts.{LineEndsAt}
+use Rattle.session_lines.specs.BytePlaces.{ByteFrom}
 use Rattle.delivery_lines.specs.declared.NoticeLine.{NoticeLine}
 use Rattle.delivery_lines.specs.NoticeLines.{Said, nothing, bad, opening, notice, saidBy, lineHeld, markLength, unmarked}
 use Rattle.delivery_lines.proofs.NoticeLengths.{said-long, said-four, fourOf}
@@ -292,7 +292,7 @@ module _ (text : List ℕ) (long : Bool) (calls₀ ids₀ : List ℕ) where
       nothing-stands = no-notices calls₀ ids₀
 
   -- the state after one more line
-  pub goes-on : (t : NoticesTaken) (calls ids : List ℕ) (from end : ℕ) → Going text long calls₀ ids₀ t calls ids from → from < length text → LineEndsAt text from end
+  pub goes-on : (t : NoticesTaken) (calls ids : List ℕ) (from end : ℕ) → Going text long calls₀ ids₀ t calls ids from → from < length text → ByteFrom 10 text from end
       → (cut : Bool) → cut ≡ (long && leb (length text) (end + 1)) → (calls′ ids′ : List ℕ) (r : NoticesTaken) → LineTaken t (take (end - from) (drop from text)) cut calls calls′ ids ids′ r
       → Going text long calls₀ ids₀ r calls′ ids′ (end + 1)
   goes-on t calls ids from end g h l cut e calls′ ids′ r s =

@@ -4,7 +4,6 @@ ghost use mathlib.Core.Path.{_≡_};
 ghost use mathlib.Core.Bool.{true};
 ghost use Prim.Native.Nat.{_+_, _*_, _≤_, _<_};
 ghost use lib.ListN.{length, set, take};
-ghost use Rattle.session_parts.specs.TermsParts.{LineEndsAt};
 ghost use Rattle.delivery_lines.specs.NoticeLines.{Said, bad, saidBy, lineHeld};
 ghost use Rattle.delivery_notices.specs.Notices.{nothingTold, linesTold};
 ghost use Rattle.delivery_notices.specs.NoticeLists.{kindIn, firstIn, StoredIn, listsFit, TextIn};
@@ -159,21 +158,6 @@ fn take_line(
     take_said(t, delivery_lines::notice_of(line), calls, ids)
 }
 
-// The place of the first line feed from a place on, or the text's end.
-fn line_end(text: &[u8], from: usize) -> usize
-    requires { ⌜ from ≤ length (now text) ⌝ }
-    ensures { λ r. ⌜ LineEndsAt (now (text .entry)) from r ⌝ }
-{
-    let mut i = from;
-    while i < text.len() {
-        if text[i] == b'\n' {
-            return i;
-        }
-        i += 1;
-    }
-    i
-}
-
 // Before the first line.
 fn no_notices_taken(fits: bool) -> NoticesTaken
     ensures { λ r. ⌜ r ≡ noNoticesTaken fits ⌝ }
@@ -196,7 +180,7 @@ fn read_lines(text: &[u8], long: bool, calls: &mut [u32], ids: &mut [u8]) -> Not
     let mut t = no_notices_taken(true);
     let mut from: usize = 0;
     while from < text.len() {
-        let end = line_end(text, from);
+        let end = session_lines::byte_from(text, from, b'\n');
         let cut = long & (text.len() <= end + 1);
         t = take_line(t, &text[from..end], cut, calls, ids);
         from = end + 1;
@@ -226,7 +210,7 @@ fn lists_fit(calls: usize, ids: usize) -> bool
 }
 
 // How many bytes of a text are read: all, or 65,537.
-fn read_length(n: usize) -> usize
+pub fn read_length(n: usize) -> usize
     ensures { λ r. ⌜ r ≡ readLength n ⌝ }
 {
     if 65537 < n {

@@ -28,7 +28,7 @@ use Rattle.delivery_rows.specs.Delivery.{deliveryHeading, rowsText}
 use Rattle.delivery_refusals.specs.Refusals.{noticesName, masterText, badNoticeText, refusedNoticeText, refusalTold, placeRefusals, refusalLine, refusalLines, unknownRefusal, unknownMeasures, unknownLine, unknownLines}
 use Rattle.delivery_parts.specs.declared.PlacePart.{PlacePart}
 use Rattle.delivery_parts.specs.PlaceParts.{deliverText, deliverRefusals, partsText, PlaceIn}
-use Rattle.delivery_parts.specs.Next.{NextOf}
+use Rattle.file_text_print.specs.WholeText.{NextOf}
 use Rattle.delivery_parts.specs.Handing.{placeRowsText, Runs, HandedTo}
 use Rattle.delivery_parts.proofs.PlaceParts.{rows-own, refusals-own}
 use Rattle.delivery_parts.proofs.Wholes.{whole, notices-length, unknown-told}

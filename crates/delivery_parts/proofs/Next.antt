@@ -10,7 +10,7 @@ use lib.ListN.{length, take, drop, length-append}
 use lib.Seq.{take-length, take-take, take-add, take-append-seam, drop-append-seam, drop-drop}
 use Rattle.questions.proofs.Bools.{lt-or-ge}
 use Rattle.delivery_parts.specs.PlaceParts.{partsText}
-use Rattle.delivery_parts.specs.Next.{NextOf}
+use Rattle.file_text_print.specs.WholeText.{NextOf}
 
 -- a text comes next of itself, from its start
 pub next-whole : (text : List ℕ) → NextOf text 0 text

@@ -109,10 +109,10 @@ pub fn summary_line(products: u64, rows: u64, differ: u64, bad: u64) -> Line
     ensures { λ r. ⌜ LineWith emptyLine (summaryText products rows differ bad) r ⌝ }
 {
     let first = delivery_answers::with_number(session_lines::empty_line(), products);
-    let second = delivery_answers::with_number(confirm_lines::feed(first, b" products, "), rows);
-    let third = delivery_answers::with_number(confirm_lines::feed(second, b" rows, "), differ);
-    let last = delivery_answers::with_number(confirm_lines::feed(third, b" differ, "), bad);
-    confirm_lines::feed(last, b" bad\n")
+    let second = delivery_answers::with_number(session_lines::feed(first, b" products, "), rows);
+    let third = delivery_answers::with_number(session_lines::feed(second, b" rows, "), differ);
+    let last = delivery_answers::with_number(session_lines::feed(third, b" differ, "), bad);
+    session_lines::feed(last, b" bad\n")
 }
 
 // The line of row i of a list of ids where it is the first with an id that is not in the file; else no bytes.

@@ -24,7 +24,7 @@ fn with_number(line: Line, n: u32) -> Line
 pub fn master_line(refusal: u8) -> Line
     ensures { λ r. ⌜ LineWith emptyLine (masterText refusal) r ⌝ }
 {
-    let name = delivery_rows::with_bytes(session_lines::empty_line(), b"master.bin: NO ");
+    let name = file_text_print::with_bytes(session_lines::empty_line(), b"master.bin: NO ");
     let number = file_text_print::with_decimal(name, refusal as u16);
     session_lines::extend(number, b'\n')
 }
@@ -34,7 +34,7 @@ fn notices_line(line: u32) -> Line
     ensures { λ r. ⌜ LineWith emptyLine (noticesAt line) r ⌝ }
 {
     with_number(
-        delivery_rows::with_bytes(session_lines::empty_line(), b"notices.txt:"),
+        file_text_print::with_bytes(session_lines::empty_line(), b"notices.txt:"),
         line,
     )
 }
@@ -43,14 +43,14 @@ fn notices_line(line: u32) -> Line
 pub fn bad_notice_line(line: u32) -> Line
     ensures { λ r. ⌜ LineWith emptyLine (badNoticeText line) r ⌝ }
 {
-    delivery_rows::with_bytes(notices_line(line), b": BAD\n")
+    file_text_print::with_bytes(notices_line(line), b": BAD\n")
 }
 
 // A refused call.
 fn refused_notice_line(line: u32, refusal: u8, id: [u8; 4]) -> Line
     ensures { λ r. ⌜ LineWith emptyLine (refusedNoticeText line refusal id) r ⌝ }
 {
-    let no = delivery_rows::with_bytes(notices_line(line), b": NO ");
+    let no = file_text_print::with_bytes(notices_line(line), b": NO ");
     let number = file_text_print::with_decimal(no, refusal as u16);
     let whole = file_text_print::with_id(session_lines::extend(number, b' '), id);
     session_lines::extend(whole, b'\n')

@@ -46,12 +46,12 @@ fn with_why(line: Line, why: Why) -> Line
 {
     match why {
         Why::Same => line,
-        Why::Missing => confirm_lines::feed(line, b"missing"),
-        Why::Extra => confirm_lines::feed(line, b"extra"),
-        Why::Twice => confirm_lines::feed(line, b"twice"),
-        Why::Day => confirm_lines::feed(line, b"day"),
-        Why::Number => confirm_lines::feed(line, b"number"),
-        Why::DaysBack => confirm_lines::feed(line, b"days_back"),
+        Why::Missing => session_lines::feed(line, b"missing"),
+        Why::Extra => session_lines::feed(line, b"extra"),
+        Why::Twice => session_lines::feed(line, b"twice"),
+        Why::Day => session_lines::feed(line, b"day"),
+        Why::Number => session_lines::feed(line, b"number"),
+        Why::DaysBack => session_lines::feed(line, b"days_back"),
     }
 }
 
@@ -104,7 +104,7 @@ pub fn difference_line(kind: Kind, id: [u8; 4], key: u16, d: Difference) -> Line
 pub fn unknown_line(id: [u8; 4]) -> Line
     ensures { λ r. ⌜ LineWith emptyLine (unknownText id) r ⌝ }
 {
-    confirm_lines::feed(
+    session_lines::feed(
         file_text_print::with_id(session_lines::empty_line(), id),
         b",,product,,\n",
     )
@@ -114,7 +114,7 @@ pub fn unknown_line(id: [u8; 4]) -> Line
 pub fn heading_line() -> Line
     ensures { λ r. ⌜ LineWith emptyLine differencesHeading r ⌝ }
 {
-    confirm_lines::feed(
+    session_lines::feed(
         session_lines::empty_line(),
         b"product,maturity,why,delivered,right\n",
     )

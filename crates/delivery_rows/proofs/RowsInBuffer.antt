@@ -5,11 +5,10 @@ use mathlib.Core.Bool.{Bool, true, false, cond}
 use mathlib.Core.List.{List, [], _∷_, _++_, map, append-nil, append-assoc}
 use mathlib.Core.Logic.{_⊎_, inl, inr}
 use Prim.Native.Nat.{ℕ, zero, suc, _+_, _*_, _-_, _≤_, _<_}
-use native.Mathlib.Numerals.{add-one}
 use native.Mathlib.Omega.{arith}
 use lib.Dec.{leb}
 use lib.ListN.{length, getD, take, drop, length-append}
-use lib.Seq.{drop-cons, drop-drop, take-suc, paste, length-paste, take-paste, drop-paste}
+use lib.Seq.{drop-drop, take-suc, paste, length-paste, take-paste, drop-paste}
 use borrow.Author.Tests.{le-leb, lt-leb, leb-true}
 use Rattle.questions.proofs.Bools.{lt-or-ge}
 use Rattle.product.specs.declared.Kind.{Kind}
@@ -19,31 +18,13 @@ use Rattle.listing.specs.Rules.{unused}
 use Rattle.listing.specs.Months.{placesOfKind}
 use Rattle.table.specs.declared.Table.{Table}
 use Rattle.session_lines.specs.declared.Line.{Line}
-use Rattle.session_lines.specs.CommandLines.{emptyLine, extended, fed}
+use Rattle.session_lines.specs.CommandLines.{emptyLine}
 use Rattle.session_lines.proofs.LineFeeding.{fed-holds, fed-is}
 use Rattle.session_text.specs.TermsText.{inTwoDigits, inFourDigits, decimal, yearMonth, monthText, dayText, nameText}
 use Rattle.file_text_print.specs.Contents.{LineWith, idText}
 use Rattle.file_text_print.proofs.TextLengths.{decimal-short, day-long, id-short}
 use Rattle.delivery_rows.specs.Delivery.{Row, deliveryRow, tableRows, rowText, rowsText}
 use Rattle.delivery_rows.specs.Printed.{RowsIn, rowsFirst, hasRoom, rowsOrNone}
-
--- ---- bytes fed to a line one by one
-
-past : (n : ℕ) (l : List ℕ) → length l ≤ n → drop n l ≡ []
-past zero [] h = refl
-past (suc n) [] h = refl
-past zero (x ∷ xs) h = absurd (omega arith)
-past (suc n) (x ∷ xs) h = past n xs (omega arith)
-
--- feeding the bytes from one place is feeding its byte, then those from the next place
-pub fed-from : (l : Line) (bytes : List ℕ) (i : ℕ) → i < length bytes → fed (extended l (getD bytes i 0)) (drop (i + 1) bytes) ≡ fed l (drop i bytes)
-unfolding fed
-fed-from l bytes i h = sym (rw (drop-cons bytes i 0 h, add-one) refl)
-
--- past the last byte nothing is left to feed
-pub fed-done : (l : Line) (bytes : List ℕ) (i : ℕ) → length bytes ≤ i → fed l (drop i bytes) ≡ l
-unfolding fed
-fed-done l bytes i h = rw (past i bytes h) refl
 
 -- ---- the name of a maturity
 

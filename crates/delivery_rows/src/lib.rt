@@ -13,24 +13,11 @@ ghost use Rattle.file_text_print.specs.Contents.{LineWith};
 ghost use Rattle.delivery_rows.specs.Delivery.{deliveryRow, rowText, deliveryHeading};
 ghost use Rattle.delivery_rows.specs.Printed.{RowsIn, rowsOrNone, rowsFirst, hasRoom};
 
-// A line with the bytes of a slice more.
-pub fn with_bytes(line: Line, bytes: &[u8]) -> Line
-    ensures { λ r. ⌜ LineWith line (now (bytes .entry)) r ⌝ }
-{
-    let mut whole = line;
-    let mut i: usize = 0;
-    while i < bytes.len() {
-        whole = session_lines::extend(whole, bytes[i]);
-        i += 1;
-    }
-    whole
-}
-
 // The heading of the rows.
 pub fn delivery_heading_line() -> Line
     ensures { λ r. ⌜ LineWith emptyLine deliveryHeading r ⌝ }
 {
-    with_bytes(
+    file_text_print::with_bytes(
         session_lines::empty_line(),
         b"product,number,maturity,last_trading_day,days_back\n",
     )

@@ -5,13 +5,13 @@ use Prim.Native.Nat.{ℕ, _-_}
 use mathlib.Core.Bool.{Bool, not, _&&_, _||_, cond}
 use mathlib.Core.List.{List, [], _∷_}
 use lib.Dec.{eqb, leb}
-use lib.ListN.{replicate}
 use Rattle.questions.specs.Search.{firstFrom}
 use Rattle.days.specs.Gregorian.{weekdayOf}
 use Rattle.calendar.specs.declared.Calendar.{Calendar}
 use Rattle.calendar.specs.Trading.{coverStart, coverEnd, someTrades}
 use Rattle.file_records.specs.Records.{fourBytes, recordRight}
 use Rattle.file_ids.specs.Ids.{idRises}
+use Rattle.session_lines.specs.CommandLines.{noId}
 use Rattle.file_text_lines.specs.declared.Entry.{Entry}
 use Rattle.file_text_faults.specs.declared.Fault.{Fault}
 use Rattle.file_text_faults.specs.declared.Faults.{Faults}
@@ -38,10 +38,6 @@ atFault question before e =
 -- the id of the last product so far
 unfoldable pub idAfter : List ℕ → Entry → List ℕ
 idAfter before e = cond (eqb (e .letter) 80) (fourBytes (e .«record») 0) before
-
--- before the first product: four zeros; every id that 7 passes is greater
-abbrev pub noId : List ℕ
-noId = replicate 4 0
 
 -- no line
 abbrev pub noFault : Fault

@@ -12,19 +12,8 @@ use lib.ListN.{length, getD, take, drop}
 use lib.Seq.{drop-cons, drop-drop, drop-length, append-snoc, getD-drop}
 use borrow.Author.Tests.{lt-ltb, le-ltb, ne-eqb}
 use Rattle.questions.proofs.Bools.{lt-or-ge}
+use Rattle.session_lines.specs.BytePlaces.{ByteFrom}
 use Rattle.file_text_lines.specs.Entries.{wordsFrom, wordsOf, wordAt}
-use Rattle.file_text_lines.specs.SpacePlaces.{SpaceFrom}
-
--- no space from one place up to another, and none at the next
-pub none-more : (line : List ℕ) (from i : ℕ) → ((j : ℕ) → from ≤ j → j < i → getD line j 0 ≡ 32 → ⊥) → (getD line i 0 ≡ 32 → ⊥)
-    → (j : ℕ) → from ≤ j → j < i + 1 → getD line j 0 ≡ 32 → ⊥
-none-more line from i none n j h l e = go (lt-or-ge j i)
-  where
-    go : (j < i) ⊎ (i ≤ j) → ⊥
-    go (inl s) = none j h s e
-    go (inr s) =
-        let q : i ≡ j = omega arith in
-        n (rw q e)
 
 -- bytes that are no spaces belong to the word that has begun
 pass : (m : ℕ) (line begun : List ℕ) (from to : ℕ) → from + m ≡ to → to ≤ length line → ((i : ℕ) → from ≤ i → i < to → getD line i 0 ≡ 32 → ⊥)
@@ -40,14 +29,14 @@ pass (suc m) line begun from to e h none =
     (pass m line (begun ++ (getD line from 0 ∷ [])) (suc from) to (omega arith) h (λ i a b. none i (omega arith) b)
     ∙ ap (λ (w : List ℕ). wordsFrom w (drop to line)) (append-snoc begun (getD line from 0) (take m (drop (suc from) line))))
 
-module _ (line : List ℕ) (from r : ℕ) (s : SpaceFrom line from r) where
+module _ (line : List ℕ) (from r : ℕ) (s : ByteFrom 32 line from r) where
   passed : wordsOf (drop from line) ≡ wordsFrom (take (r - from) (drop from line)) (drop r line)
   passed = pass (r - from) line [] from r (omega (arith, s .on)) (s .within) (s .none)
 
   -- a word that a space ends, and one that the line ends
   pub word-more : r < length line → wordsOf (drop from line) ≡ take (r - from) (drop from line) ∷ wordsOf (drop (r + 1) line)
   unfolding wordsFrom
-  word-more h = passed ∙ rw (drop-cons line r 0 h, s .space h, add-one r) refl
+  word-more h = passed ∙ rw (drop-cons line r 0 h, s .found h, add-one r) refl
 
   -- where a word ends with the line, it is the only word from its start on
   pub word-last : length line ≤ r → wordsOf (drop from line) ≡ take (r - from) (drop from line) ∷ []
@@ -61,7 +50,7 @@ unfoldable pub wordsLeft : List ℕ → ℕ → ℕ
 wordsLeft line r = cond (ltb r (length line)) (length (wordsOf (drop (r + 1) line))) 0
 
 -- the count of words from a word's start on is 1 and the count of those left after its end
-pub words-counted : (line : List ℕ) (from r : ℕ) → SpaceFrom line from r → length (wordsOf (drop from line)) ≡ 1 + wordsLeft line r
+pub words-counted : (line : List ℕ) (from r : ℕ) → ByteFrom 32 line from r → length (wordsOf (drop from line)) ≡ 1 + wordsLeft line r
 unfolding wordsLeft
 words-counted line from r s = go (lt-or-ge r (length line))
   where
@@ -80,7 +69,7 @@ unfolding wordsLeft
 some-left line r h = rw (lt-ltb r (length line) h) refl
 
 -- the words from word i on are those of the line from a place on
-module _ (line : List ℕ) (i from r : ℕ) (e : drop i (wordsOf line) ≡ wordsOf (drop from line)) (s : SpaceFrom line from r) where
+module _ (line : List ℕ) (i from r : ℕ) (e : drop i (wordsOf line) ≡ wordsOf (drop from line)) (s : ByteFrom 32 line from r) where
   -- where a word ends before the line does, the words after it are those of the line after the space
   pub words-next : r < length line → drop (i + 1) (wordsOf line) ≡ wordsOf (drop (r + 1) line)
   words-next h = sym (drop-drop 1 i (wordsOf line)) ∙ ap (drop 1) (e ∙ word-more line from r s h)

@@ -5,7 +5,6 @@ ghost use mathlib.Core.Path.{_≡_};
 ghost use Prim.Native.Nat.{_≤_};
 ghost use lib.ListN.{length, getD};
 ghost use Rattle.file_text_lines.specs.Entries.{wordsOf, wordAt, wordNumber, pointed, sharesRead, partRead, otherEntry, letterForm, coverAt, coverEntry, seedEntry, dayEntry, productForm, idBytes, lineRecord, productEntry, lineEntry};
-ghost use Rattle.file_text_lines.specs.SpacePlaces.{SpaceFrom};
 
 // Whether there is a number, and which.
 pub struct NumberRead {
@@ -28,30 +27,15 @@ pub struct Entry {
     pub record: file_write::Record,
 }
 
-// The place of the first space from a place on, or the line's end.
-fn space_from(line: &[u8], from: usize) -> usize
-    requires { ⌜ from ≤ length (now line) ⌝ }
-    ensures { λ r. ⌜ SpaceFrom (now (line .entry)) from r ⌝ }
-{
-    let mut i = from;
-    while i < line.len() {
-        if line[i] == b' ' {
-            return i;
-        }
-        i += 1;
-    }
-    i
-}
-
 // How many words a line has.
 pub fn word_count(line: &[u8]) -> usize
     ensures { λ r. ⌜ r ≡ length (wordsOf (now (line .entry))) ⌝ }
 {
     let mut count: usize = 1;
-    let mut from = space_from(line, 0);
+    let mut from = session_lines::byte_from(line, 0, b' ');
     while from < line.len() {
         count += 1;
-        from = space_from(line, from + 1);
+        from = session_lines::byte_from(line, from + 1, b' ');
     }
     count
 }
@@ -63,14 +47,14 @@ pub fn word_at(line: &[u8], k: usize) -> &[u8]
     let mut from: usize = 0;
     let mut i: usize = 0;
     while i < k {
-        let end = space_from(line, from);
+        let end = session_lines::byte_from(line, from, b' ');
         if line.len() <= end {
             return &line[0..0];
         }
         from = end + 1;
         i += 1;
     }
-    let end = space_from(line, from);
+    let end = session_lines::byte_from(line, from, b' ');
     &line[from..end]
 }
 
@@ -265,7 +249,7 @@ fn day_entry(line: Line) -> Entry
     if !(((letter == b'C') | (letter == b'X')) & (bytes[1] == b' ')) {
         return other_entry();
     }
-    let date = session_lines::date_in(line, 2);
+    let date = session_lines::date_from(line, 2);
     if !date.there {
         return other_entry();
     }

@@ -19,6 +19,13 @@ pub struct PrintProgress {
     pub length: usize,
 }
 
+// A line with the bytes of a slice more.
+pub fn with_bytes(line: Line, bytes: &[u8]) -> Line
+    ensures { λ r. ⌜ LineWith line (now (bytes .entry)) r ⌝ }
+{
+    session_lines::feed(line, bytes)
+}
+
 // A line with the last decimal digit of a number more.
 pub fn with_digit(line: Line, n: u16) -> Line
     ensures { λ r. ⌜ LineWith line (lastDigit n ∷ []) r ⌝ }

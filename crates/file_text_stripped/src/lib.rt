@@ -33,7 +33,7 @@ fn text_said(text: &[u8]) -> Entry
     if text[0] == b'#' {
         return nothing_entry();
     }
-    let line = confirm_lines::feed(session_lines::empty_line(), text);
+    let line = session_lines::feed(session_lines::empty_line(), text);
     file_text_lines::entry_of(line)
 }
 

@@ -21,8 +21,8 @@ use Rattle.file_draft.proofs.DraftQuestions.{years-few}
 use Rattle.file_draft.proofs.DraftCalendars.{order-written, clean-written, weeks-written}
 use Rattle.file_draft.proofs.DraftRecords.{products-written, rises-written}
 use Rattle.file_write.proofs.Holding.{within-clean, within-weeks}
-use Rattle.session_lines.specs.CommandLines.{linesFrom}
-use Rattle.file_text_faults.specs.Faults.{noId, firstFault, firstIdle}
+use Rattle.session_lines.specs.CommandLines.{noId, linesFrom}
+use Rattle.file_text_faults.specs.Faults.{firstFault, firstIdle}
 use Rattle.file_text_read.specs.Lists.{noContent, numberedLines, contentOf}
 use Rattle.file_text_told.specs.Whole.{textContent, textRefusal, SaysPlace}
 use Rattle.file_text_told.proofs.Faultless.{Keeps, Kept, lines-keep}

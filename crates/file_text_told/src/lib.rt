@@ -7,18 +7,11 @@ ghost use Rattle.session_lines.specs.CommandLines.{emptyLine};
 ghost use Rattle.file_text_print.specs.Contents.{LineWith};
 ghost use Rattle.file_text_told.specs.ComposeTexts.{badEntryText, atLineText, fromText, atProductText, whereText, refusedFileText, saidText};
 
-// A line with the bytes of a slice more.
-fn with_bytes(line: Line, bytes: &[u8]) -> Line
-    ensures { λ r. ⌜ LineWith line (now (bytes .entry)) r ⌝ }
-{
-    confirm_lines::feed(line, bytes)
-}
-
 // The number of the first line that is none of a list's.
 fn bad_entry_line(line: u32) -> Line
     ensures { λ r. ⌜ LineWith emptyLine (badEntryText line) r ⌝ }
 {
-    let begun = with_bytes(session_lines::empty_line(), b"BAD ");
+    let begun = file_text_print::with_bytes(session_lines::empty_line(), b"BAD ");
     let whole = delivery_answers::with_number(begun, line as u64);
     session_lines::extend(whole, b'\n')
 }
@@ -27,14 +20,14 @@ fn bad_entry_line(line: u32) -> Line
 fn with_line(begun: Line, line: u32) -> Line
     ensures { λ r. ⌜ LineWith begun (atLineText line) r ⌝ }
 {
-    delivery_answers::with_number(with_bytes(begun, b" line "), line as u64)
+    delivery_answers::with_number(file_text_print::with_bytes(begun, b" line "), line as u64)
 }
 
 // A line with the first day of a run more.
 fn with_from(begun: Line, day: u16) -> Line
     ensures { λ r. ⌜ LineWith begun (fromText day) r ⌝ }
 {
-    file_text_print::with_day(with_bytes(begun, b" from "), day)
+    file_text_print::with_day(file_text_print::with_bytes(begun, b" from "), day)
 }
 
 // A line with the id of a product more; none with 5, which is about days.
@@ -65,7 +58,7 @@ fn with_where(begun: Line, refusal: u8, fault: Fault, day: u16) -> Line
 fn no_line(refusal: u8, fault: Fault, day: u16) -> Line
     ensures { λ r. ⌜ LineWith emptyLine (refusedFileText refusal fault day) r ⌝ }
 {
-    let no = with_bytes(session_lines::empty_line(), b"NO");
+    let no = file_text_print::with_bytes(session_lines::empty_line(), b"NO");
     let number = file_text_print::with_spaced(no, refusal as u16);
     let whole = with_where(number, refusal, fault, day);
     session_lines::extend(whole, b'\n')

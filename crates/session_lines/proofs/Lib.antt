@@ -1,2 +1,3 @@
 pub mod LineFeeding
 pub mod CommandForms
+pub mod BytePlaces

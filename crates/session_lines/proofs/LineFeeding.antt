@@ -6,10 +6,11 @@ use mathlib.Core.Logic.{_⊎_, inl, inr}
 use mathlib.Core.List.{List, [], _∷_, _++_, append-nil}
 use Prim.Native.Nat.{ℕ, zero, _+_, _-_, _≤_, _<_}
 use native.Mathlib.Nat.{eq-or-lt-of-le}
+use native.Mathlib.Numerals.{add-one}
 use native.Mathlib.Omega.{arith}
 use lib.Dec.{eqb, leb}
-use lib.ListN.{getD, set, length, take, replicate, length-set, length-append, length-replicate, getD-replicate, List·getD-append, List·getD-eq-default}
-use lib.Seq.{length-take-le, ext-getD, getD-take, getD-append-seam, getD-set-same, getD-set-other, append-snoc}
+use lib.ListN.{getD, set, length, take, drop, drop-of-length-le, replicate, length-set, length-append, length-replicate, getD-replicate, List·getD-append, List·getD-eq-default}
+use lib.Seq.{length-take-le, ext-getD, getD-take, getD-append-seam, getD-set-same, getD-set-other, append-snoc, drop-cons}
 use borrow.Author.Tests.{lt-ltb, le-ltb, lt-leb, ne-eqb}
 use Rattle.questions.proofs.Bools.{lt-or-ge}
 use Rattle.session_lines.specs.declared.Line.{Line}
@@ -181,6 +182,24 @@ pub fed-full : (l : Line) (bytes : List ℕ) → 64 ≤ l .length → fed l byte
 unfolding fed extended
 fed-full l [] h = refl
 fed-full l (byte ∷ bytes) h = rw (le-ltb (l .length) 64 h) (fed-full l bytes h)
+
+-- the byte at i comes next
+fed-from : (l : Line) (bytes : List ℕ) (i : ℕ) → i < length bytes → fed (extended l (getD bytes i 0)) (drop (i + 1) bytes) ≡ fed l (drop i bytes)
+unfolding fed
+fed-from l bytes i h = sym (rw (drop-cons bytes i 0 h, add-one) refl)
+
+-- a byte that is written after those of a line with room is the next that it is fed
+pub fed-step : (bytes begun : List ℕ) (n i : ℕ) → i < length bytes → n < 64
+    → fed (record { bytes = set begun n (getD bytes i 0); length = n + 1 }) (drop (i + 1) bytes) ≡ fed (record { bytes = begun; length = n }) (drop i bytes)
+fed-step bytes begun n i h r =
+    ap (λ (l : Line). fed l (drop (i + 1) bytes)) (sym (extended-is begun n (getD bytes i 0) r)) ∙ fed-from (record { bytes = begun; length = n }) bytes i h
+
+-- at the end nothing is left to be fed
+pub fed-done : (l : Line) (bytes : List ℕ) (i : ℕ) → length bytes ≤ i → fed l (drop i bytes) ≡ l
+unfolding fed
+fed-done l bytes i h =
+    let z : drop i bytes ≡ [] = drop-of-length-le bytes {i = i} h in
+    rw z
 
 -- a line that was fed fewer than 64 bytes has these bytes
 pub fed-is : (bytes : List ℕ) → length bytes < 64 → (fed emptyLine bytes .length ≡ length bytes) × (take (fed emptyLine bytes .length) (fed emptyLine bytes .bytes) ≡ bytes)

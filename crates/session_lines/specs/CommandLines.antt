@@ -50,9 +50,13 @@ dateAt line at =
     let call = dayCall (yearAt line at) (twoValue line (at + 5)) (twoValue line (at + 8)) in
     cond (dateForm line at) (cond (eqb (call .refusal) 0) (record { there = true; day = call .value }) noDateRead) noDateRead
 
+-- no id: zeros
+abbrev pub noId : List ℕ
+noId = replicate 4 0
+
 -- another line: no letter, and zeros
 abbrev pub otherLine : Command
-otherLine = record { letter = 0; id = replicate 4 0; day = 0 }
+otherLine = record { letter = 0; id = noId; day = 0 }
 
 -- '`R date`, `C date`':
 -- the letter R, 82, or C, 67, a space, 32, and a date, 12 characters in all
@@ -64,7 +68,7 @@ moveForm line n = eqb n 12 && ((eqb (line 0) 82 || eqb (line 0) 67) && eqb (line
 unfoldable pub moveCommand : (ℕ → ℕ) → ℕ → Command
 moveCommand line n =
     cond (moveForm line n && dateAt line 2 .there)
-    (record { letter = line 0; id = replicate 4 0; day = dateAt line 2 .day }) otherLine
+    (record { letter = line 0; id = noId; day = dateAt line 2 .day }) otherLine
 
 -- 'An id is 1 to 4 characters as in a record':
 -- k of A–Z and 0–9 after the letter and its space

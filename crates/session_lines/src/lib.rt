@@ -2,8 +2,9 @@
 use days::DayAnswer;
 ghost use mathlib.Core.Path.{_≡_};
 ghost use Prim.Native.Nat.{_+_, _≤_, _<_};
-ghost use lib.ListN.{getD};
-ghost use Rattle.session_lines.specs.CommandLines.{digitValue, twoDigits, twoValue, dateForm, dateAt, otherLine, moveCommand, idForm, idByteAt, idInLine, openForm, openCommand, lineCommand, emptyLine, extended};
+ghost use lib.ListN.{getD, length};
+ghost use Rattle.session_lines.specs.CommandLines.{digitValue, twoDigits, twoValue, dateForm, dateAt, otherLine, moveCommand, idForm, idByteAt, idInLine, openForm, openCommand, lineCommand, emptyLine, extended, fed};
+ghost use Rattle.session_lines.specs.BytePlaces.{ByteFrom};
 
 // A line: its first bytes and their number. The longest command has 17, the longest line of a master file's text 63.
 pub struct Line {
@@ -48,6 +49,44 @@ pub fn extend(line: Line, byte: u8) -> Line
         bytes,
         length: at + 1,
     }
+}
+
+// A line with all bytes of a slice more: `extend` with each of them, on one array.
+pub fn feed(line: Line, bytes: &[u8]) -> Line
+    ensures { λ r. ⌜ r ≡ fed line (now (bytes .entry)) ⌝ }
+{
+    let mut held = line.bytes;
+    let mut n = line.length;
+    let mut i: usize = 0;
+    while i < bytes.len() {
+        if 64 <= n {
+            return Line {
+                bytes: held,
+                length: n,
+            };
+        }
+        held[n] = bytes[i];
+        n += 1;
+        i += 1;
+    }
+    Line {
+        bytes: held,
+        length: n,
+    }
+}
+
+// The place of the first such byte from a place on, or the end; a place past the end stays.
+pub fn byte_from(bytes: &[u8], from: usize, byte: u8) -> usize
+    ensures { λ r. ⌜ (from ≤ length (now (bytes .entry)) → ByteFrom byte (now (bytes .entry)) from r) × (length (now (bytes .entry)) < from → r ≡ from) ⌝ }
+{
+    let mut i = from;
+    while i < bytes.len() {
+        if bytes[i] == byte {
+            return i;
+        }
+        i += 1;
+    }
+    i
 }
 
 // The value of a digit.
@@ -110,7 +149,7 @@ fn date_at(bytes: [u8; 64], at: usize) -> DateRead
 }
 
 // The date from a place of a line on.
-pub fn date_in(line: Line, at: usize) -> DateRead
+pub fn date_from(line: Line, at: usize) -> DateRead
     ensures { λ r. ⌜ r ≡ dateAt (λ i. getD (line .bytes) i 0) at ⌝ }
 {
     if 54 < at {

@@ -9,47 +9,20 @@ use native.Mathlib.Numerals.{add-one}
 use native.Mathlib.Omega.{arith}
 use lib.Dec.{leb, ltb}
 use lib.ListN.{length, getD, take, drop, drop-of-length-le, length-append, length-drop, take-append-drop}
-use lib.Seq.{slice, slice-cons, slice-empty, length-slice, length-take-le, drop-append-le, drop-cons, drop-drop, take-at, drop-at, getD-take, getD-drop}
+use lib.Seq.{length-take-le, drop-cons, drop-drop, take-at, drop-at, getD-take, getD-drop}
 use borrow.Author.Tests.{lt-ltb, le-ltb, ltb-true, le-leb, lt-leb, eq-eqb, ne-eqb}
 use Rattle.questions.proofs.Bools.{clash, both, and-both, lt-or-ge}
 use Rattle.table.specs.declared.Outcome.{Outcome}
 use Rattle.session_lines.specs.declared.Line.{Line}
 use Rattle.session_lines.specs.CommandLines.{lineCommand, emptyLine, extended, fed}
+use Rattle.session_lines.specs.BytePlaces.{ByteFrom}
 use Rattle.session_text.specs.Buffer.{roomy, Printed}
 use Rattle.session_text.proofs.TextsInBuffer.{no-room, room-is, room-long}
 use Rattle.session_command.specs.declared.Kept.{Kept}
 use Rattle.session_command.specs.Sessions.{answerText, keptAfter, restText, restKept}
 use Rattle.session_command.proofs.Session.{passed-bytes, text-byte, kept-byte, text-line, kept-line, text-end}
 use Rattle.session_parts.specs.declared.TermsProgress.{TermsProgress}
-use Rattle.session_parts.specs.TermsParts.{LineEndsAt, another, Passed, passed, passedOn, progressOf, Next, Answers, LastAnswer}
-
--- ---- a line's end
-
--- no line feed from one place up to another, and none at the next
-pub none-more : (part : List ℕ) (from i : ℕ) → ((j : ℕ) → from ≤ j → j < i → getD part j 0 ≡ 10 → ⊥) → (getD part i 0 ≡ 10 → ⊥)
-    → (j : ℕ) → from ≤ j → j < i + 1 → getD part j 0 ≡ 10 → ⊥
-none-more part from i none n j h l e = go (lt-or-ge j i)
-  where
-    go : (j < i) ⊎ (i ≤ j) → ⊥
-    go (inl s) = none j h s e
-    go (inr s) =
-        let q : i ≡ j = omega arith in
-        n (rw q e)
-
--- ---- a line's bytes
-
-module _ (part : List ℕ) (to : ℕ) (fits : to ≤ length part) (l : Line) where
-  -- feeding the bytes from one place is feeding its byte, then those from the next place
-  pub fed-next : (i : ℕ) → i < to → fed l (slice i to part) ≡ fed (extended l (getD part i 0)) (slice (i + 1) to part)
-  unfolding fed
-  fed-next i h = rw (slice-cons i to part 0 h fits, add-one i) refl
-
-  -- at the last place no byte is left to feed
-  pub fed-all : (i : ℕ) → to ≤ i → i ≤ to → fed l (slice i to part) ≡ l
-  unfolding fed
-  fed-all i h g =
-      let e : i ≡ to = omega arith in
-      rw (e, slice-empty to part) refl
+use Rattle.session_parts.specs.TermsParts.{another, Passed, passed, passedOn, progressOf, Next, Answers, LastAnswer}
 
 -- ---- whether there is a next
 
@@ -158,27 +131,31 @@ module _ (opening : List ℕ → ℕ → Outcome) (size : ℕ) (h : Kept) where
 -- ---- one line
 
 -- up to a line's end the line grows
-module _ (part : List ℕ) (at end : ℕ) (e : LineEndsAt part at end) where
-  parted : drop at part ≡ slice at end part ++ drop end part
-  parted =
-      ap (drop at) (sym (take-append-drop end part))
-      ∙ drop-append-le at (take end part) (drop end part) (omega (arith, e .on, length-take-le end part (e .within)))
+module _ (part : List ℕ) (at end : ℕ) (e : ByteFrom 10 part at end) where
+  -- the bytes from one place up to another
+  abbrev upTo : List ℕ
+  upTo = take (end - at) (drop at part)
 
-  none-in : (i : ℕ) → i < length (slice at end part) → getD (slice at end part) i 0 ≡ 10 → ⊥
+  parted : drop at part ≡ upTo ++ drop end part
+  parted =
+      let q : at + (end - at) ≡ end = omega (arith, e .on) in
+      sym (take-append-drop (end - at) (drop at part)) ∙ ap (λ (rest : List ℕ). upTo ++ rest) (drop-drop (end - at) at part ∙ ap (λ (n : ℕ). drop n part) q)
+
+  none-in : (i : ℕ) → i < length upTo → getD upTo i 0 ≡ 10 → ⊥
   none-in i h d =
-      let n : length (slice at end part) ≡ end - at = length-slice at end part (e .within) in
-      let q : getD (slice at end part) i 0 ≡ getD part (at + i) 0 = getD-drop at (take end part) i 0 ∙ getD-take end part (at + i) 0 (omega arith) in
+      let n : length upTo ≡ end - at = length-take-le (end - at) (drop at part) (omega (arith, length-drop at part, e .within)) in
+      let q : getD upTo i 0 ≡ getD part (at + i) 0 = getD-take (end - at) (drop at part) i 0 (omega arith) ∙ getD-drop at part i 0 in
       e .none (at + i) (omega arith) (omega arith) (sym q ∙ d)
 
   to-end : {X : Type 0} (g : Line → List ℕ → X) → ((l : Line) (byte : ℕ) (rest : List ℕ) → (byte ≡ 10 → ⊥) → g l (byte ∷ rest) ≡ g (extended l byte) rest)
-      → (l : Line) (rest : List ℕ) → g l (drop at part ++ rest) ≡ g (fed l (slice at end part)) (drop end part ++ rest)
+      → (l : Line) (rest : List ℕ) → g l (drop at part ++ rest) ≡ g (fed l upTo) (drop end part ++ rest)
   to-end g step l rest =
       ap (λ (t : List ℕ). g l (t ++ rest)) parted
-      ∙ ap (g l) (append-assoc (slice at end part) (drop end part) rest)
-      ∙ passed-bytes g step l (slice at end part) (drop end part ++ rest) none-in
+      ∙ ap (g l) (append-assoc upTo (drop end part) rest)
+      ∙ passed-bytes g step l upTo (drop end part ++ rest) none-in
 
 module _ (opening : List ℕ → ℕ → Outcome) (part before : List ℕ) (s : TermsProgress) (inside : s .at < length part) (room : roomy before (s .length) ≡ true)
-    (end : ℕ) (e : LineEndsAt part (s .at) end) (l : Line) (f : l ≡ fed (s .line) (slice (s .at) end part)) where
+    (end : ℕ) (e : ByteFrom 10 part (s .at) end) (l : Line) (f : l ≡ fed (s .line) (take (end - s .at) (drop (s .at) part))) where
   -- the text and what is kept, from the line's end on
   text-on : (rest : List ℕ) → restText opening (s .kept) (s .line) (drop (s .at) part ++ rest) ≡ restText opening (s .kept) l (drop end part ++ rest)
   text-on rest = to-end part (s .at) end e (restText opening (s .kept)) (text-byte opening (s .kept)) (s .line) rest ∙ ap (λ (k : Line). restText opening (s .kept) k (drop end part ++ rest)) (sym f)
@@ -193,7 +170,7 @@ module _ (opening : List ℕ → ℕ → Outcome) (part before : List ℕ) (s : 
       ap (passed opening (length before) (s .kept) (s .line) text) (sym (append-nil (drop (s .at) part)))
       ∙ to-end part (s .at) end e (λ (k : Line) (bytes : List ℕ). passed opening (length before) (s .kept) k text bytes)
       (passed-byte opening (length before) (s .kept) text) (s .line) []
-      ∙ ap (passed opening (length before) (s .kept) (fed (s .line) (slice (s .at) end part)) text) (append-nil (drop end part))
+      ∙ ap (passed opening (length before) (s .kept) (fed (s .line) (take (end - s .at) (drop (s .at) part))) text) (append-nil (drop end part))
       ∙ ap (λ (k : Line). passed opening (length before) (s .kept) k text (drop end part)) (sym f)
 
   -- the line does not end in the part
@@ -249,13 +226,13 @@ module _ (opening : List ℕ → ℕ → Outcome) (part before : List ℕ) (s : 
           ≡ passedOn opening (length before) kept empty (take next after) (drop (end + 1) part)
       ahead-ends =
           rw (cut, k, n, w .head)
-          (passed-line opening (length before) (s .kept) (take (s .length) before) l (getD part end 0) (drop (end + 1) part) (e .feed h))
+          (passed-line opening (length before) (s .kept) (take (s .length) before) l (getD part end 0) (drop (end + 1) part) (e .found h))
 
       text-ends : (rest : List ℕ) → restText opening (s .kept) l (drop end part ++ rest) ≡ answer ++ restText opening (kept) empty (drop (end + 1) part ++ rest)
-      text-ends rest = rw (cut, k, n) (text-line opening (s .kept) l (getD part end 0) (drop (end + 1) part ++ rest) (e .feed h))
+      text-ends rest = rw (cut, k, n) (text-line opening (s .kept) l (getD part end 0) (drop (end + 1) part ++ rest) (e .found h))
 
       kept-ends : (rest : List ℕ) → restKept opening (s .kept) l (drop end part ++ rest) ≡ restKept opening (kept) empty (drop (end + 1) part ++ rest)
-      kept-ends rest = rw (cut, k, n) (kept-line opening (s .kept) l (getD part end 0) (drop (end + 1) part ++ rest) (e .feed h))
+      kept-ends rest = rw (cut, k, n) (kept-line opening (s .kept) l (getD part end 0) (drop (end + 1) part ++ rest) (e .found h))
 
 -- ---- all lines of a part
 

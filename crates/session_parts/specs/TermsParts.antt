@@ -6,7 +6,7 @@ use mathlib.Core.Bool.{Bool, _&&_, cond}
 use mathlib.Core.List.{List, [], _∷_, _++_}
 use mathlib.Core.Logic.{_⊎_}
 use lib.Dec.{leb, ltb, eqb}
-use lib.ListN.{length, getD, take, drop}
+use lib.ListN.{length, take, drop}
 use Rattle.session_lines.specs.declared.Line.{Line}
 use Rattle.session_lines.specs.CommandLines.{lineCommand, emptyLine, extended}
 use Rattle.session_text.specs.Buffer.{roomy}
@@ -17,13 +17,6 @@ use Rattle.session_command.specs.Sessions.{nothingKept, answerText, keptAfter, 
 use Rattle.session_apart.specs.Apart.{tableWith, keptWith}
 use Rattle.session_parts.specs.declared.TermsProgress.{TermsProgress}
 use Rattle.session_parts.specs.declared.Step.{Step}
-
--- where the line that goes on at `from` ends: at the first line feed, 10, or where the part does
-pub record LineEndsAt (part : List ℕ) (from r : ℕ) : Type 0 where
-  pub on : from ≤ r
-  pub within : r ≤ length part
-  pub none : (i : ℕ) → from ≤ i → i < r → getD part i 0 ≡ 10 → ⊥
-  pub feed : r < length part → getD part r 0 ≡ 10
 
 -- the part goes on at a place, and the buffer has room for another answer
 unfoldable pub another : List ℕ → ℕ → List ℕ → ℕ → Bool

@@ -7,12 +7,10 @@ ghost use mathlib.Core.Path.{_≡_};
 ghost use mathlib.Core.Bool.{true};
 ghost use Prim.Native.Nat.{_≤_, _<_};
 ghost use lib.ListN.{length};
-ghost use lib.Seq.{slice};
 ghost use Rattle.file_calendar.specs.Calendars.{calendarAnswer};
 ghost use Rattle.table.specs.Table.{openIn};
-ghost use Rattle.session_lines.specs.CommandLines.{fed};
 ghost use Rattle.session_text.specs.Buffer.{roomy};
-ghost use Rattle.session_parts.specs.TermsParts.{LineEndsAt, another, progressWith, KnownStep, Next, Answers, LastAnswer};
+ghost use Rattle.session_parts.specs.TermsParts.{another, progressWith, KnownStep, Next, Answers, LastAnswer};
 
 // What is kept, the line so far, the place in the part of the input, and how many bytes of answers stand in the buffer.
 pub struct TermsProgress {
@@ -29,40 +27,6 @@ struct Step {
     replied: Replied,
     line: Line,
     at: usize,
-}
-
-// The place of the first line feed from a place on, or the part's end.
-fn line_end(part: &[u8], from: usize) -> usize
-    requires { ⌜ from ≤ length (now part) ⌝ }
-    ensures { λ r. ⌜ LineEndsAt (now (part .entry)) from r ⌝ }
-{
-    let mut i = from;
-    while i < part.len() {
-        if part[i] == b'\n' {
-            return i;
-        }
-        i += 1;
-    }
-    i
-}
-
-// A line with the bytes of a part from a place up to another more: `extend` with each of them, on one array.
-fn feed(line: Line, part: &[u8], from: usize, to: usize) -> Line
-    requires { ⌜ (from ≤ to) × (to ≤ length (now part)) ⌝ }
-    ensures { λ r. ⌜ r ≡ fed line (slice from to (now (part .entry))) ⌝ }
-{
-    let mut bytes = line.bytes;
-    let mut n = line.length;
-    let mut i = from;
-    while i < to {
-        if 64 <= n {
-            return Line { bytes, length: n };
-        }
-        bytes[n] = part[i];
-        n += 1;
-        i += 1;
-    }
-    Line { bytes, length: n }
 }
 
 // The answer to the line that goes on at a place, if it ends in the part; else the line with all the rest of the part.
@@ -83,8 +47,8 @@ fn answer_next(
     let k = s.replied;
     let begun = s.line;
     let at = s.at;
-    let end = line_end(part, at);
-    let line = feed(begun, part, at, end);
+    let end = session_lines::byte_from(part, at, b'\n');
+    let line = session_lines::feed(begun, &part[at..end]);
     if part.len() <= end {
         return Step {
             replied: k,

@@ -3,7 +3,6 @@ use mathlib.Core.Path.{refl}
 use Prim.Native.Nat.{_-_}
 use native.Mathlib.Omega.{arith}
 use lib.ListN.{length}
-use borrow.Author.Needs.{needs}
 use Rattle.confirm_inputs.proofs.VerdictTexts.{said}
 use Rattle.confirm_inputs.proofs.InputLines.{Going, begins, room, all-read, count-few, ends-bad, ends-refused, goes-on}
 use Rattle.confirm_inputs.proofs.read_lines.Statement.{statement}
@@ -21,30 +20,27 @@ nothing-read-requires c κs = tt
 loop-holds : tie.Need-loop-holds Inv-loop μ-loop
 loop-holds c = begins _ _ _ _ _ (c .nothing-read .ensures)
 
-line-end-requires : tie.Need-line-end-requires Inv-loop μ-loop
-line-end-requires c κs = omega (arith, c .loop-test .taken)
-
 add-cut : tie.Need-add-cut Inv-loop μ-loop
 add-cut c =
     let at-loop = c .before .before in
-    omega (arith, c .line-end .ensures .within, at-loop .before .before .before .before .before .pre .0)
+    omega (arith, c .byte-from .ensures .0 (omega (arith, c .before .loop-test .taken)) .within, at-loop .before .before .before .before .before .pre .0)
 
 add-number : tie.Need-add-number Inv-loop μ-loop
 add-number c =
     let at-loop = c .before .before in
     omega (arith, at-loop .loop .inv .lines, c .before .loop-test .taken, at-loop .before .before .before .before .before .pre .0)
 
-sub-read-line : tie.Need-sub-read-line Inv-loop μ-loop
-sub-read-line c = c .line-end .ensures .on
+sub-read-listing-line : tie.Need-sub-read-listing-line Inv-loop μ-loop
+sub-read-listing-line c = c .byte-from .ensures .0 (omega (arith, c .before .loop-test .taken)) .on
 
-part-read-line-start : tie.Need-part-read-line-start Inv-loop μ-loop
-part-read-line-start c = search needs
+part-read-listing-line-start : tie.Need-part-read-listing-line-start Inv-loop μ-loop
+part-read-listing-line-start c = c .byte-from .ensures .0 (omega (arith, c .before .loop-test .taken)) .on
 
-part-read-line-end : tie.Need-part-read-line-end Inv-loop μ-loop
-part-read-line-end c = search needs
+part-read-listing-line-end : tie.Need-part-read-listing-line-end Inv-loop μ-loop
+part-read-listing-line-end c = c .byte-from .ensures .0 (omega (arith, c .before .loop-test .taken)) .within
 
-read-line-requires : tie.Need-read-line-requires Inv-loop μ-loop
-read-line-requires c κs = tt
+read-listing-line-requires : tie.Need-read-listing-line-requires Inv-loop μ-loop
+read-listing-line-requires c κs = tt
 
 bad-input-line-requires : tie.Need-bad-input-line-requires Inv-loop μ-loop
 bad-input-line-requires c κs = tt
@@ -57,8 +53,9 @@ returns c =
     let at-line = c .before .before .before .before .before in
     let at-test = at-line .before in
     let at-loop = at-test .before in
+    let end = at-line .byte-from .ensures .0 (omega (arith, at-test .loop-test .taken)) in
     said (c .bad-input-line .ensures)
-    (ends-bad _ _ _ _ _ _ _ _ _ (at-loop .loop .inv) (at-test .loop-test .taken) _ (at-line .line-end .ensures) _ refl _ (c .before .before .before .read-line .ensures)
+    (ends-bad _ _ _ _ _ _ _ _ _ (at-loop .loop .inv) (at-test .loop-test .taken) _ end _ refl _ (c .before .before .before .read-listing-line .ensures)
     (c .before .if1 .taken))
 
 refused-line-requires : tie.Need-refused-line-requires Inv-loop μ-loop
@@ -73,8 +70,9 @@ returns-2 c =
     let at-test = at-line .before in
     let at-loop = at-test .before in
     let at-read = c .before .before .before .before .before in
+    let end = at-line .byte-from .ensures .0 (omega (arith, at-test .loop-test .taken)) in
     said (c .refused-line .ensures)
-    (ends-refused _ _ _ _ _ _ _ _ _ (at-loop .loop .inv) (at-test .loop-test .taken) _ (at-line .line-end .ensures) _ refl _ (at-read .read-line .ensures)
+    (ends-refused _ _ _ _ _ _ _ _ _ (at-loop .loop .inv) (at-test .loop-test .taken) _ end _ refl _ (at-read .read-listing-line .ensures)
     (c .before .before .before .if1 .left) (c .before .if2 .taken))
 
 put-entry-requires : tie.Need-put-entry-requires Inv-loop μ-loop
@@ -90,14 +88,14 @@ add-from c =
     let at-line = c .before .before .before .before .before .before .before .before .before .before .before in
     let at-test = at-line .before in
     let at-loop = at-test .before in
-    omega (arith, at-line .line-end .ensures .within, at-loop .before .before .before .before .before .pre .0)
+    omega (arith, at-line .byte-from .ensures .0 (omega (arith, at-test .loop-test .taken)) .within, at-loop .before .before .before .before .before .pre .0)
 
 loop-less : tie.Need-loop-less Inv-loop μ-loop
 loop-less c =
     let at-line = c .before .before .before .before .before .before .before .before .before .before .before in
     let at-test = at-line .before in
     let at-loop = at-test .before in
-    omega (arith, at-line .line-end .ensures .on, at-test .loop-test .taken)
+    omega (arith, at-line .byte-from .ensures .0 (omega (arith, at-test .loop-test .taken)) .on, at-test .loop-test .taken)
 
 loop-again : tie.Need-loop-again Inv-loop μ-loop
 loop-again c =
@@ -107,7 +105,8 @@ loop-again c =
     let at-if2 = c .before .before .before .before .before in
     let at-if1 = at-if2 .before .before in
     let at-read = at-if1 .before .before in
-    goes-on _ _ _ _ _ _ _ _ _ (at-loop .loop .inv) (at-test .loop-test .taken) _ (at-line .line-end .ensures) _ refl _ (at-read .read-line .ensures)
+    let end = at-line .byte-from .ensures .0 (omega (arith, at-test .loop-test .taken)) in
+    goes-on _ _ _ _ _ _ _ _ _ (at-loop .loop .inv) (at-test .loop-test .taken) _ end _ refl _ (at-read .read-listing-line .ensures)
     (at-if1 .if1 .left) (at-if2 .if2 .left) _ _ (c .before .before .put-entry .ensures)
 
 end-line-requires : tie.Need-end-line-requires Inv-loop μ-loop
@@ -132,13 +131,13 @@ read-lines-spec =
     μ-loop
     nothing-read-requires
     loop-holds
-    line-end-requires
+    (λ c κs. tt)
     add-cut
     add-number
-    sub-read-line
-    part-read-line-start
-    part-read-line-end
-    read-line-requires
+    sub-read-listing-line
+    part-read-listing-line-start
+    part-read-listing-line-end
+    read-listing-line-requires
     bad-input-line-requires
     same-length
     returns

@@ -7,7 +7,7 @@ use native.Mathlib.Omega.{arith}
 use lib.ListN.{length, length-map}
 use borrow.Author.Tests.{not-true, not-false}
 use Rattle.delivery_refusals.specs.Refusals.{refusalLines}
-use Rattle.delivery_parts.specs.Next.{NextOf}
+use Rattle.file_text_print.specs.WholeText.{NextOf}
 use Rattle.delivery_parts.proofs.Handing.{line-long, line-few, line-next, no-refusals, more-refusals, next-refusal, refusal-line-short, few-refusals}
 use Rattle.deliver.proofs.tell_place.Statement.{statement}
 use Rattle.deliver.proofs.tell_place.Tie as tie

@@ -4,7 +4,6 @@ use mathlib.Core.Path.{refl}
 use Prim.Native.Nat.{_-_, _≤_}
 use native.Mathlib.Omega.{arith}
 use lib.ListN.{length}
-use borrow.Author.Needs.{needs}
 use Rattle.delivery_notices.proofs.NoticesSoFar.{Going, begins, goes-on, all-lines}
 use Rattle.delivery_notices.proofs.read_lines.Statement.{statement}
 use Rattle.delivery_notices.proofs.read_lines.Tie as tie
@@ -25,20 +24,17 @@ loop-holds c =
     (c .before .before .before .before .pre .0, c .before .before .before .before .pre .1, c .before .before .before .before .pre .2, begins _ _ _ _ _ (c .no-notices-taken .ensures))
 
 -- ---- a turn: the line, and the room for what it says
-line-end-requires : tie.Need-line-end-requires Inv-loop μ-loop
-line-end-requires c κs = omega (arith, c .loop-test .taken)
-
 add-cut : tie.Need-add-cut Inv-loop μ-loop
-add-cut c = omega (arith, c .line-end .ensures .within, c .before .before .loop .inv .0)
+add-cut c = omega (arith, c .byte-from .ensures .0 (omega (arith, c .before .loop-test .taken)) .within, c .before .before .loop .inv .0)
 
 sub-take-line : tie.Need-sub-take-line Inv-loop μ-loop
-sub-take-line c = c .line-end .ensures .on
+sub-take-line c = c .byte-from .ensures .0 (omega (arith, c .before .loop-test .taken)) .on
 
 part-take-line-start : tie.Need-part-take-line-start Inv-loop μ-loop
-part-take-line-start c = search needs
+part-take-line-start c = c .byte-from .ensures .0 (omega (arith, c .before .loop-test .taken)) .on
 
 part-take-line-end : tie.Need-part-take-line-end Inv-loop μ-loop
-part-take-line-end c = search needs
+part-take-line-end c = c .byte-from .ensures .0 (omega (arith, c .before .loop-test .taken)) .within
 
 take-line-requires : tie.Need-take-line-requires Inv-loop μ-loop
 take-line-requires c κs =
@@ -49,17 +45,17 @@ take-line-requires c κs =
 
 add-from : tie.Need-add-from Inv-loop μ-loop
 add-from c =
-    omega (arith, c .before .before .before .before .before .before .before .before .line-end .ensures .within, c .before .before .before .before .before .before .before .before .before .before .loop .inv .0)
+    omega (arith, c .before .before .before .before .before .before .before .before .byte-from .ensures .0 (omega (arith, c .before .before .before .before .before .before .before .before .before .loop-test .taken)) .within, c .before .before .before .before .before .before .before .before .before .before .loop .inv .0)
 
 -- ---- the invariant after it
 loop-less : tie.Need-loop-less Inv-loop μ-loop
 loop-less c =
-    omega (arith, c .before .before .before .before .before .before .before .before .line-end .ensures .on, c .before .before .before .before .before .before .before .before .before .loop-test .taken)
+    omega (arith, c .before .before .before .before .before .before .before .before .byte-from .ensures .0 (omega (arith, c .before .before .before .before .before .before .before .before .before .loop-test .taken)) .on, c .before .before .before .before .before .before .before .before .before .loop-test .taken)
 
 loop-again : tie.Need-loop-again Inv-loop μ-loop
 loop-again c =
     let v = c .before .before .before .before .before .before .before .before .before .before .loop .inv in
-    (v .0, v .1, v .2, goes-on _ _ _ _ _ _ _ _ _ (v .3) (c .before .before .before .before .before .before .before .before .before .loop-test .taken) (c .before .before .before .before .before .before .before .before .line-end .ensures) _ refl _ _ _ (c .before .before .before .before .take-line .ensures))
+    (v .0, v .1, v .2, goes-on _ _ _ _ _ _ _ _ _ (v .3) (c .before .before .before .before .before .before .before .before .before .loop-test .taken) (c .before .before .before .before .before .before .before .before .byte-from .ensures .0 (omega (arith, c .before .before .before .before .before .before .before .before .before .loop-test .taken))) _ refl _ _ _ (c .before .before .before .before .take-line .ensures))
 
 -- ---- the end
 same-length : tie.Need-same-length Inv-loop μ-loop
@@ -79,7 +75,7 @@ read-lines-spec =
     μ-loop
     no-notices-taken-requires
     loop-holds
-    line-end-requires
+    (λ c κs. tt)
     add-cut
     sub-take-line
     part-take-line-start

@@ -21,17 +21,17 @@ returns-2 c = c .other-entry2 .ensures ∙ day-formless _ _ (c .before .before .
 
 returns-3 : tie.Need-returns-3
 returns-3 c =
-    let at-date-in = c .before .before .before in
-    let at-if2 = at-date-in .before in
+    let at-date-from = c .before .before .before in
+    let at-if2 = at-date-from .before in
     let at-if1 = at-if2 .before in
-    c .other-entry3 .ensures ∙ day-dateless _ _ (at-if1 .if1 .left) (not-false _ (at-if2 .if2 .left)) _ (at-date-in .date-in .ensures) (not-true _ (c .before .if3 .taken))
+    c .other-entry3 .ensures ∙ day-dateless _ _ (at-if1 .if1 .left) (not-false _ (at-if2 .if2 .left)) _ (at-date-from .date-from .ensures) (not-true _ (c .before .if3 .taken))
 
 returns-4 : tie.Need-returns-4
 returns-4 c =
-    let at-date-in = c .before .before in
-    let at-if2 = at-date-in .before in
+    let at-date-from = c .before .before in
+    let at-if2 = at-date-from .before in
     let at-if1 = at-if2 .before in
-    day-is _ _ (at-if1 .if1 .left) (not-false _ (at-if2 .if2 .left)) _ (at-date-in .date-in .ensures) (not-false _ (c .if3 .left))
+    day-is _ _ (at-if1 .if1 .left) (not-false _ (at-if2 .if2 .left)) _ (at-date-from .date-from .ensures) (not-false _ (c .if3 .left))
 
 pub day-entry-spec : {M : Type 1} → statement M
 day-entry-spec =

@@ -20,15 +20,12 @@ abbrev μ-loop : tie.MeasureT-loop
 loop-holds : tie.Need-loop-holds Inv-loop μ-loop
 loop-holds c = (omega arith, omega arith, refl)
 
-space-from-requires : tie.Need-space-from-requires Inv-loop μ-loop
-space-from-requires c κs = omega arith
-
 -- ---- the line ends before word k
 sub-result : tie.Need-sub-result Inv-loop μ-loop
 sub-result c = omega arith
 
 part-result-start : tie.Need-part-result-start Inv-loop μ-loop
-part-result-start c = omega (arith, c .before .space-from .ensures .on)
+part-result-start c = omega arith
 
 part-result-end : tie.Need-part-result-end Inv-loop μ-loop
 part-result-end c = omega arith
@@ -36,10 +33,10 @@ part-result-end c = omega arith
 returns : tie.Need-returns Inv-loop μ-loop
 returns c =
     let at-if1 = c .before in
-    let at-space-from = at-if1 .before in
-    let at-test = at-space-from .before in
+    let at-end = at-if1 .before in
+    let at-test = at-end .before in
     let v = at-test .before .loop .inv in
-    word-beyond _ _ _ _ (v .2) (at-space-from .space-from .ensures) (at-if1 .if1 .taken) _ (at-test .loop-test .taken)
+    word-beyond _ _ _ _ (v .2) (at-end .byte-from .ensures .0 (v .0)) (at-if1 .if1 .taken) _ (at-test .loop-test .taken)
 
 -- ---- one word on
 add-from : tie.Need-add-from Inv-loop μ-loop
@@ -55,20 +52,17 @@ loop-again : tie.Need-loop-again Inv-loop μ-loop
 loop-again c =
     let at-test = c .before .before in
     let v = at-test .before .loop .inv in
-    (omega arith, omega arith, words-next (at-test .before .before .before .args .line .now) (at-test .before .loop .i) _ _ (v .2) (c .before .space-from .ensures) (c .if1 .left))
+    (omega arith, omega arith, words-next (at-test .before .before .before .args .line .now) (at-test .before .loop .i) _ _ (v .2) (c .before .byte-from .ensures .0 (v .0)) (c .if1 .left))
 
 -- ---- word k
-space-from-requires-2 : tie.Need-space-from-requires-2 Inv-loop μ-loop
-space-from-requires-2 c κs = omega arith
-
 sub-result-2 : tie.Need-sub-result-2 Inv-loop μ-loop
-sub-result-2 c = omega (arith, c .space-from2 .ensures .on)
+sub-result-2 c = c .byte-from2 .ensures .0 (c .before .before .loop .inv .0) .on
 
 part-result-start-2 : tie.Need-part-result-start-2 Inv-loop μ-loop
-part-result-start-2 c = omega (arith, c .space-from2 .ensures .on)
+part-result-start-2 c = c .byte-from2 .ensures .0 (c .before .before .loop .inv .0) .on
 
 part-result-end-2 : tie.Need-part-result-end-2 Inv-loop μ-loop
-part-result-end-2 c = omega (arith, c .space-from2 .ensures .within)
+part-result-end-2 c = c .byte-from2 .ensures .0 (c .before .before .loop .inv .0) .within
 
 returns-2 : tie.Need-returns-2 Inv-loop μ-loop
 returns-2 c =
@@ -76,7 +70,7 @@ returns-2 c =
     let v = at-test .before .loop .inv in
     let start = at-test .before .before .before in
     let e : at-test .before .loop .i ≡ start .args .k = omega (arith, v .1) in
-    word-here (start .args .line .now) (at-test .before .loop .i) _ _ (v .2) (c .before .space-from2 .ensures) ∙ ap (wordAt (start .args .line .now)) e
+    word-here (start .args .line .now) (at-test .before .loop .i) _ _ (v .2) (c .before .byte-from2 .ensures .0 (v .0)) ∙ ap (wordAt (start .args .line .now)) e
 
 pub word-at-spec : {M : Type 1} → statement M
 word-at-spec =
@@ -85,7 +79,7 @@ word-at-spec =
     Inv-loop
     μ-loop
     loop-holds
-    space-from-requires
+    (λ c κs. tt)
     sub-result
     part-result-start
     part-result-end
@@ -94,7 +88,7 @@ word-at-spec =
     add-i
     loop-less
     loop-again
-    space-from-requires-2
+    (λ c κs. tt)
     sub-result-2
     part-result-start-2
     part-result-end-2

@@ -16,34 +16,30 @@ Inv-loop line count₀ from₀ count from = (from ≤ length line) × (count ≤
 abbrev μ-loop : tie.MeasureT-loop
 μ-loop line count₀ from₀ count from = length line - from
 
-space-from-requires : tie.Need-space-from-requires Inv-loop μ-loop
-space-from-requires c κs = omega arith
-
 loop-holds : tie.Need-loop-holds Inv-loop μ-loop
 loop-holds c =
-    let s = c .space-from .ensures in
+    let s = c .byte-from .ensures .0 (omega arith) in
     (s .within, omega (arith, s .on), sym (words-counted _ _ _ s))
 
 -- ---- one word more
 add-count : tie.Need-add-count Inv-loop μ-loop
 add-count c = omega arith
 
-add-space-from : tie.Need-add-space-from Inv-loop μ-loop
-add-space-from c = omega arith
-
-space-from-requires-2 : tie.Need-space-from-requires-2 Inv-loop μ-loop
-space-from-requires-2 c κs = omega arith
+add-byte-from : tie.Need-add-byte-from Inv-loop μ-loop
+add-byte-from c = omega arith
 
 loop-less : tie.Need-loop-less Inv-loop μ-loop
-loop-less c = omega (arith, c .space-from2 .ensures .on)
+loop-less c =
+    let s = c .byte-from2 .ensures .0 (omega (arith, c .before .loop-test .taken)) in
+    omega (arith, s .on)
 
 loop-again : tie.Need-loop-again Inv-loop μ-loop
 loop-again c =
     let at-test = c .before in
     let v = at-test .before .loop .inv in
-    let s = c .space-from2 .ensures in
+    let s = c .byte-from2 .ensures .0 (omega (arith, at-test .loop-test .taken)) in
     let line = at-test .before .before .before .before .args .line .now in
-    (s .within, omega (arith, s .on, v .1), omega (arith, v .2, some-left line (at-test .before .loop .from) (at-test .loop-test .taken), words-counted line (at-test .before .loop .from + 1) (c .space-from2 .result) s))
+    (s .within, omega (arith, s .on, v .1), omega (arith, v .2, some-left line (at-test .before .loop .from) (at-test .loop-test .taken), words-counted line (at-test .before .loop .from + 1) (c .byte-from2 .result) s))
 
 -- ---- the line's end
 returns : tie.Need-returns Inv-loop μ-loop
@@ -58,11 +54,11 @@ word-count-spec =
     (tie.spec
     Inv-loop
     μ-loop
-    space-from-requires
+    (λ c κs. tt)
     loop-holds
     add-count
-    add-space-from
-    space-from-requires-2
+    add-byte-from
+    (λ c κs. tt)
     loop-less
     loop-again
     returns)

@@ -9,26 +9,29 @@ use Rattle.session_parts.proofs.TermsPassing.{goes-past, is-answered}
 use Rattle.session_parts.proofs.answer_next.Statement.{statement}
 use Rattle.session_parts.proofs.answer_next.Tie as tie
 
-line-end-requires : tie.Need-line-end-requires
-line-end-requires c κs = search needs
+sub-feed : tie.Need-sub-feed
+sub-feed c = omega (arith, c .byte-from .ensures .0 (omega arith) .on)
 
-feed-requires : tie.Need-feed-requires
-feed-requires c κs = search needs
+part-feed-start : tie.Need-part-feed-start
+part-feed-start c = c .byte-from .ensures .0 (omega arith) .on
+
+part-feed-end : tie.Need-part-feed-end
+part-feed-end c = c .byte-from .ensures .0 (omega arith) .within
 
 -- ---- the line goes on past the part
 returns : tie.Need-returns
 returns c =
     let at-feed = c .before in
-    let at-line-end = at-feed .before in
-    let start = at-line-end .before .before .before .before .before .before in
+    let at-end = at-feed .before .before in
+    let start = at-end .before .before .before .before .before .before in
     let s = progressWith (start .args .s) (start .args .closed .now) (start .args .exchange .now) in
-    (goes-past _ _ _ s (start .pre .0) (start .pre .1) _ (at-line-end .line-end .ensures) _ (at-feed .feed .ensures) (c .if1 .taken), start .pre .2)
+    (goes-past _ _ _ s (start .pre .0) (start .pre .1) _ (at-end .byte-from .ensures .0 (omega (arith, start .pre .0))) _ (at-feed .feed .ensures) (c .if1 .taken), start .pre .2)
 
 -- ---- a line that ends in the part: its answer and the place after it
 add-next : tie.Need-add-next
 add-next c =
     let at-if1 = c .before .before .before .before .before .before .before in
-    let start = at-if1 .before .before .before .before .before .before .before .before in
+    let start = at-if1 .before .before .before .before .before .before .before .before .before in
     omega (arith, at-if1 .if1 .left, start .good .1 .1 .1 .1 .1 .1 .0 .0)
 
 same-length : tie.Need-same-length
@@ -39,19 +42,22 @@ returns-2 c =
     let at-reply = c .before .before .before in
     let at-if1 = at-reply .before .before .before .before in
     let at-feed = at-if1 .before in
-    let at-line-end = at-feed .before in
-    let start = at-line-end .before .before .before .before .before .before in
+    let at-end = at-feed .before .before in
+    let start = at-end .before .before .before .before .before .before in
     let s = progressWith (start .args .s) (start .args .closed .now) (start .args .exchange .now) in
     let r = at-reply .reply .result in
     let a = at-reply .reply .ensures (start .pre .2) in
-    (is-answered _ _ _ s (start .pre .0) (start .pre .1) _ (at-line-end .line-end .ensures) _ (at-feed .feed .ensures) _ (keptWith (r .opened) (r .rest) _ _) (r .at) _ (at-if1 .if1 .left) (c .empty-line .ensures) (a .kept) (a .text), a .known)
+    (is-answered _ _ _ s (start .pre .0) (start .pre .1) _ (at-end .byte-from .ensures .0 (omega (arith, start .pre .0))) _ (at-feed .feed .ensures) _ (keptWith (r .opened) (r .rest) _ _) (r .at) _ (at-if1 .if1 .left) (c .empty-line .ensures) (a .kept) (a .text), a .known)
 
 pub answer-next-spec : {M : Type 1} → statement M
 answer-next-spec =
     tie.close
     (tie.spec
-    line-end-requires
-    feed-requires
+    (λ c κs. tt)
+    sub-feed
+    part-feed-start
+    part-feed-end
+    (λ c κs. tt)
     returns
     (λ c κs. tt)
     (λ c κs. tt)

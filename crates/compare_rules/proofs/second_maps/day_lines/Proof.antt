@@ -14,8 +14,8 @@ abbrev μ-loop : tie.MeasureT-loop
 loop-holds : tie.Need-loop-holds Inv-loop μ-loop
 loop-holds c = search needs
 
-day-line-requires : tie.Need-day-line-requires Inv-loop μ-loop
-day-line-requires c κs = tt
+second-map-line-requires : tie.Need-second-map-line-requires Inv-loop μ-loop
+second-map-line-requires c κs = tt
 
 add-day : tie.Need-add-day Inv-loop μ-loop
 add-day c = search needs
@@ -32,4 +32,4 @@ returns c = search needs
 pub day-lines-spec : {M : Type 1} → statement M
 day-lines-spec =
     tie.close
-    (tie.spec Inv-loop μ-loop loop-holds day-line-requires add-day loop-less loop-again returns)
+    (tie.spec Inv-loop μ-loop loop-holds second-map-line-requires add-day loop-less loop-again returns)

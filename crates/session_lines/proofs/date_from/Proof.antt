@@ -4,8 +4,8 @@ use mathlib.Core.Path.{_≡_}
 use lib.ListN.{length, length-map}
 use Rattle.session_lines.proofs.CommandForms.{date-beyond}
 use native.Mathlib.Omega.{arith}
-use Rattle.session_lines.proofs.date_in.Statement.{statement}
-use Rattle.session_lines.proofs.date_in.Tie as tie
+use Rattle.session_lines.proofs.date_from.Statement.{statement}
+use Rattle.session_lines.proofs.date_from.Tie as tie
 
 returns : tie.Need-returns
 returns c =
@@ -18,8 +18,8 @@ date-at-requires c κs = omega arith
 returns-2 : tie.Need-returns-2
 returns-2 c = c .date-at .ensures
 
-pub date-in-spec : {M : Type 1} → statement M
-date-in-spec =
+pub date-from-spec : {M : Type 1} → statement M
+date-from-spec =
     tie.close
     (tie.spec
     returns

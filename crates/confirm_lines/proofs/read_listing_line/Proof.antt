@@ -1,11 +1,11 @@
--- `read_line` gives what is known after one line more: before an open as `read_first` says; before the listing a roll or a close is called;
+-- `read_listing_line` gives what is known after one line more: before an open as `read_first` says; before the listing a roll or a close is called;
 -- every other line is read as an entry. Each return cites the tests before it, by `line-first`, `line-roll`, `line-close` and `line-entry`.
 use mathlib.Core.Path.{_∙_, sym, ap}
 use Rattle.confirm_lines.specs.ListingLines.{afterCall, afterEntry}
 use Rattle.confirm_lines.proofs.Names.{line-first, line-roll, line-close, line-entry}
 use borrow.Author.Needs.{needs}
-use Rattle.confirm_lines.proofs.read_line.Statement.{statement}
-use Rattle.confirm_lines.proofs.read_line.Tie as tie
+use Rattle.confirm_lines.proofs.read_listing_line.Statement.{statement}
+use Rattle.confirm_lines.proofs.read_listing_line.Tie as tie
 
 -- ---- before a table is open
 command-in-requires : tie.Need-command-in-requires
@@ -62,8 +62,8 @@ returns-4 c =
     c .after-entry .ensures ∙ ap (afterEntry _) (c .before .entry-in .ensures)
     ∙ sym (line-entry _ _ _ _ (at-if1 .before .before .command-in .ensures) (at-if1 .if1 .left) (at-if2 .if2 .left) (at-if3 .if3 .left))
 
-pub read-line-spec : {M : Type 1} → statement M
-read-line-spec =
+pub read-listing-line-spec : {M : Type 1} → statement M
+read-listing-line-spec =
     tie.close
     (tie.spec
     command-in-requires
