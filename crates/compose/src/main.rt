@@ -4,8 +4,8 @@ mod output;
 
 use delivery_items::LongLine;
 use file_text_read::ListTaken;
-use input::Input;
 use output::Handed;
+use streams::Input;
 ghost use mathlib.Core.Path.{_≡_};
 ghost use mathlib.Core.Bool.{false};
 ghost use lib.ListN.{length};
@@ -32,8 +32,8 @@ fn read_list(records: &mut [u8]) -> Reading
     let mut part = io::large_buffer();
     let mut taken = file_text_read::nothing_taken();
     let mut line = delivery_items::empty_long_line();
-    let mut input = input::nothing_read();
-    while 0 < input::reads_left(input) {
+    let mut input = streams::nothing_read();
+    while 0 < streams::reads_left(input) {
         let read = input::read_part(input, &mut part);
         input = read.input;
         let n = read.length;
@@ -65,7 +65,7 @@ fn run() -> Outcome
     let mut records = io::large_buffer();
     let r = read_list(&mut records);
     let input = r.input;
-    if input::has_failed(input) {
+    if streams::has_failed(input) {
         let handed = output::nothing_handed();
         return Outcome { input, handed };
     }

@@ -1,6 +1,6 @@
 // Handing out what a list gives: the file on standard output, and what is told on standard error.
-use crate::input::Input;
 use session_lines::Line;
+use streams::Input;
 use streams::Sent;
 use streams::Told;
 ghost use mathlib.Core.Path.{_≡_};

@@ -1,1 +1,2 @@
 pub mod TransferAnswers
+pub mod ReadsGoing

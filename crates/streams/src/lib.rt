@@ -2,6 +2,7 @@
 mod calls;
 mod input;
 mod output;
+mod reads;
 
 pub use calls::Transfer;
 pub use calls::read_some;
@@ -19,3 +20,10 @@ pub use output::nothing_told;
 pub use output::tell;
 pub use output::tell_next;
 pub use output::write_next;
+pub use reads::Input;
+pub use reads::Part;
+pub use reads::has_failed;
+pub use reads::nothing_read;
+pub use reads::read_on;
+pub use reads::read_on_or_tell;
+pub use reads::reads_left;

@@ -43,19 +43,24 @@ slice-aggregate-read-part : tie.Need-slice-aggregate-read-part Inv-loop μ-loop
 slice-aggregate-read-part c = search needs
 
 read-part-requires : tie.Need-read-part-requires Inv-loop μ-loop
-read-part-requires c κs = search needs
+read-part-requires c κs = tt
 
 array-share-prefix-part : tie.Need-array-share-prefix-part Inv-loop μ-loop
 array-share-prefix-part c = search needs
 
 slice-aggregate-take-part : tie.Need-slice-aggregate-take-part Inv-loop μ-loop
-slice-aggregate-take-part c = sym (length-take-le _ _ (c .before .before .before .read-part .ensures .0 .0))
+slice-aggregate-take-part c = sym (length-take-le _ _ (c .before .before .before .read-part .ensures .within .0))
 
 take-part-requires : tie.Need-take-part-requires Inv-loop μ-loop
 take-part-requires c κs = tt
 
 loop-less : tie.Need-loop-less Inv-loop μ-loop
-loop-less c = search needs
+loop-less c =
+    let at-part = c .before .before .before .before .before .before .before .before in
+    let at-read = at-part .before in
+    let at-test = at-read .before .before in
+    at-read .read-part .ensures .fewer (omega arith) (omega (arith, at-part .part2 .given))
+    (omega (arith, at-test .if1 .taken, at-test .before .reads-left .ensures))
 
 loop-again : tie.Need-loop-again Inv-loop μ-loop
 loop-again c =
@@ -63,8 +68,8 @@ loop-again c =
     let at-part = at-take .before .before .before .before in
     let at-read = at-part .before in
     let at-loop = at-read .before .before .before .before in
-    let read = at-read .read-part .ensures .0 in
-    (at-part .part2 .given, read-on _ _ _ _ _ _ _ _ _ _ (at-loop .loop .inv .1) (read .0) (at-take .take-part .ensures) (read .1))
+    let read = at-read .read-part .ensures in
+    (at-part .part2 .given, read-on _ _ _ _ _ _ _ _ _ _ (at-loop .loop .inv .1) (read .within .0) (at-take .take-part .ensures) (read .count))
 
 same-length : tie.Need-same-length Inv-loop μ-loop
 same-length c =
