@@ -1,24 +1,27 @@
 -- The pieces of an input that are handed over one after the other leave the state of the definition, and the calls print its text.
 -- Assumes nothing.
 use mathlib.Core.Path.{_≡_, refl, sym, ap, _∙_}
-use mathlib.Core.Bool.{Bool, true, false, _&&_, and-false}
-use mathlib.Core.List.{List, [], _∷_, _++_, append-assoc}
+use mathlib.Core.Bool.{Bool, true, false, _&&_, true≢false}
+use mathlib.Core.List.{List, [], _∷_, _++_, append-nil, append-assoc}
+use mathlib.Core.Logic.{_⊎_, inl, inr}
 use Prim.Native.Nat.{ℕ, zero, suc, _+_, _*_, _/_, _≤_, _<_}
 use native.Mathlib.Omega.{arith}
 use lib.Dec.{eqb, leb, ltb}
 use lib.ListN.{length, take, drop, length-append, length-drop}
 use lib.Seq.{take-all, take-append-le, take-append-seam, drop-append-le, drop-append-seam}
 use borrow.Author.Tests.{ne-eqb, leb-true, ltb-true, eqb-true}
-use Rattle.questions.specs.Questions.{Answer, answer, firstNo}
-use Rattle.questions.proofs.Bools.{both}
+use Rattle.questions.specs.Questions.{Answer}
+use Rattle.questions.proofs.Bools.{both, lt-or-ge}
 use Rattle.file_load.specs.declared.Counts.{Counts}
 use Rattle.session_text.specs.TermsText.{decimal, spaced, refusalText}
 use Rattle.file_intake.specs.declared.Intake.{Intake}
 use Rattle.file_intake.specs.declared.Taken.{Taken}
 use Rattle.file_intake.specs.Intake.{announcedState, announceCall, refusedState, mayTake, plausible, takeCall, withBlock, finishCall}
 use Rattle.file_text_print.specs.WholeText.{NextOf}
+use Rattle.streams.specs.declared.reads.Input.{Input}
+use Rattle.streams.specs.Inputs.{ForInput}
 use Rattle.file_intake_text.specs.declared.Ended.{Ended}
-use Rattle.file_intake_text.specs.GatewayTexts.{pieceOf, handedOver, countsText, resultText, takenText, gatewayText, SomeInput, refusedEnd, endedAnswer, endedText, IntakeReached}
+use Rattle.file_intake_text.specs.GatewayTexts.{pieceOf, handedOver, countsText, resultText, takenText, gatewayText, GatewaySays, GatewayRan, refusedEnd, endedAnswer, endedText, IntakeReached}
 
 -- ---- pieces
 
@@ -120,26 +123,24 @@ module _ (n : ℕ) (t : Taken) (e : t ≡ announceCall n) where
           let o : _≡_ {A = ℕ} 1 0 = sym (ap (λ (u : Taken). u .refusal) a) ∙ z in
           absurd (omega arith)
 
--- what is printed for an input that cannot be read is the text of an empty one, which has no block
-pub unread : (n : ℕ) → SomeInput n (refusalText 1)
-unfolding gatewayText handedOver takenText announceCall resultText finishCall answer firstNo
-unread n = record { input = []; is = go (leb 2 n && leb n 128) refl }
-  where
-    go : (b : Bool) → (leb 2 n && leb n 128) ≡ b → refusalText 1 ≡ gatewayText n []
-    go true y =
-        let h : 2 ≤ n = leb-true 2 n (both (leb 2 n) (leb n 128) y .0) in
-        rw (y, ne-eqb 0 n (λ z. omega arith), and-false (plausible (announcedState n))) refl
-    go false y = rw y refl
+-- after a refused call the others change nothing
+refused-on : (n : ℕ) (input : List ℕ) (k : ℕ) (t : Taken) → handedOver n input k ≡ t → (t .refusal ≡ 0 → ⊥) → (j m : ℕ) → m ≡ j + k → handedOver n input m ≡ t
+unfolding handedOver
+refused-on n input k t e h zero m p = let q : m ≡ k = omega (arith, p) in ap (handedOver n input) q ∙ e
+refused-on n input k t e h (suc j) m p =
+    let q : m ≡ suc (j + k) = omega (arith, p) in
+    let s : handedOver n input (suc (j + k)) ≡ t = rw (refused-on n input k t e h j (j + k) refl, ne-eqb (t .refusal) 0 h) refl in
+    ap (handedOver n input) q ∙ s
 
 -- ---- from block to block
 
 module _ (n : ℕ) (s : Intake) (g : IntakeReached n s) where
   -- the input has ended
-  pub ends : SomeInput n (resultText (finishCall s))
+  ends : resultText (finishCall s) ≡ gatewayText n (g .input)
   unfolding gatewayText
   ends =
       let c : (length (g .input) + 511) / 512 ≡ s .taken = omega (arith, g .blocks) in
-      record { input = g .input; is = text-finished s ∙ ap takenText (sym (ap (handedOver n (g .input)) c ∙ g .state)) }
+      text-finished s ∙ ap takenText (sym (ap (handedOver n (g .input)) c ∙ g .state))
 
   module _ (b : List ℕ) (some : 0 < length b) (most : length b ≤ 512) (t : Taken) (q : t ≡ takeCall s b) where
     handed : handedOver n (g .input ++ b) (suc (s .taken)) ≡ t
@@ -151,14 +152,21 @@ module _ (n : ℕ) (s : Intake) (g : IntakeReached n s) where
     count : (length (g .input ++ b) + 511) / 512 ≡ suc (s .taken)
     count = omega (arith, length-append (g .input) b, g .blocks)
 
-    -- the block is refused
-    pub ends-refused : (t .refusal ≡ 0 → ⊥) → SomeInput n (refusalText (t .refusal))
+    -- the block is refused, and the input has ended; or more of it may follow a whole block
+    refused-last : (t .refusal ≡ 0 → ⊥) → refusalText (t .refusal) ≡ gatewayText n (g .input ++ b)
     unfolding gatewayText
-    ends-refused h =
-        record { input = g .input ++ b; is = text-refused t h ∙ ap takenText (sym (ap (handedOver n (g .input ++ b)) count ∙ handed)) }
+    refused-last h = text-refused t h ∙ ap takenText (sym (ap (handedOver n (g .input ++ b)) count ∙ handed))
 
-    -- or taken
-    pub goes-on : t .refusal ≡ 0 → (r : Intake) → r ≡ t .state → (IntakeReached n r) × (r .taken ≡ s .taken + 1)
+    refused-whole : (t .refusal ≡ 0 → ⊥) → length b ≡ 512 → (rest : List ℕ) → refusalText (t .refusal) ≡ gatewayText n ((g .input ++ b) ++ rest)
+    unfolding gatewayText
+    refused-whole h w rest =
+        let k : length (g .input ++ b) ≡ 512 * suc (s .taken) = omega (arith, length-append (g .input) b, g .blocks, w) in
+        let e : handedOver n ((g .input ++ b) ++ rest) (suc (s .taken)) ≡ t = stays (g .input ++ b) rest (suc (s .taken)) k n (suc (s .taken)) (omega arith) ∙ handed in
+        let c : (length ((g .input ++ b) ++ rest) + 511) / 512 ≡ (length rest + 511) / 512 + suc (s .taken) = omega (arith, length-append (g .input ++ b) rest, k) in
+        text-refused t h ∙ ap takenText (sym (refused-on n ((g .input ++ b) ++ rest) (suc (s .taken)) t e h ((length rest + 511) / 512) ((length ((g .input ++ b) ++ rest) + 511) / 512) c))
+
+    -- or it is taken, as it is a whole one
+    pub goes-on : t .refusal ≡ 0 → (r : Intake) → r ≡ t .state → (IntakeReached n r) × (r .taken ≡ s .taken + 1) × (length b ≡ 512)
     goes-on z r p =
         let a : Accepted s b t = accepted s b t q z in
         let w : r .taken ≡ suc (s .taken) = ap (λ (x : Intake). x .taken) p ∙ a .taken in
@@ -172,6 +180,7 @@ module _ (n : ℕ) (s : Intake) (g : IntakeReached n s) where
             few = (omega (arith, w, v, a .ready .more), omega (arith, v, g .few .1));
           },
           omega (arith, w),
+          a .ready .whole,
         )
       where
         as-record : (u : Taken) → u .refusal ≡ 0 → u ≡ record { refusal = 0; state = u .state }
@@ -179,15 +188,58 @@ module _ (n : ℕ) (s : Intake) (g : IntakeReached n s) where
 
 -- ---- what a run ends with
 
--- where a refusal's text is that of some input, so is the line of an intake that ends with this refusal
-pub ended-refused : (n : ℕ) (r : Ended) (number : ℕ) → r ≡ refusedEnd number → (number ≡ 0 → ⊥) → SomeInput n (refusalText number) → SomeInput n (endedText r)
-unfolding endedText resultText
-ended-refused n r number e h s = rw (e, ne-eqb number 0 h) s
+-- what is said where no read failed
+said : (n : ℕ) (i : Input) (text : List ℕ) → i .failed ≡ false → ForInput i (λ input. text ≡ gatewayText n input) → GatewaySays n i text
+said n i text f s = (λ e. absurd (true≢false (sym e ∙ f)), λ _. s)
 
--- where the text of the answer is that of some input, so is the line of an intake that ends with this answer
-pub ended-finished : (n : ℕ) (r : Ended) (a b : Answer Counts) → endedAnswer r ≡ a → a ≡ b → SomeInput n (resultText b) → SomeInput n (endedText r)
+refused-text : (r : Ended) (number : ℕ) → r ≡ refusedEnd number → (number ≡ 0 → ⊥) → endedText r ≡ refusalText number
+unfolding endedText resultText
+refused-text r number e h = rw (e, ne-eqb number 0 h) refl
+
+finished-text : (r : Ended) (a b : Answer Counts) → endedAnswer r ≡ a → a ≡ b → endedText r ≡ resultText b
 unfolding endedText
-ended-finished n r a b e q s = rw (e, q) s
+finished-text r a b e q = rw (e, q) refl
+
+-- a read that failed gets 1
+pub says-unread : (n : ℕ) (i : Input) (r : Ended) → i .failed ≡ true → r ≡ refusedEnd 1 → GatewaySays n i (endedText r)
+says-unread n i r f e = (λ _. refused-text r 1 e (λ z. omega arith), λ x. absurd (true≢false (sym f ∙ x)))
+
+-- a refused announcement is said before any read
+pub says-announced : (n : ℕ) (t : Taken) (i : Input) (r : Ended) → t ≡ announceCall n → (t .refusal ≡ 0 → ⊥) → r ≡ refusedEnd (t .refusal) → i .bytes ≡ 0
+    → i .failed ≡ false → GatewaySays n i (endedText r)
+says-announced n t i r e h q b f =
+    said n i (endedText r) f
+    record { input = []; count = omega (arith, b); is = λ rest _. refused-text r (t .refusal) q h ∙ announced-refused n t e h rest }
+
+module _ (n : ℕ) (s : Intake) (g : IntakeReached n s) (i : Input) (f : i .failed ≡ false) (r : Ended) where
+  -- the input ended after whole blocks
+  pub says-finished : i .bytes ≡ 512 * s .taken → i .left ≡ 0 → (a : Answer Counts) → endedAnswer r ≡ a → a ≡ finishCall s → GatewaySays n i (endedText r)
+  says-finished c z a e q =
+      said n i (endedText r) f
+      record {
+        input = g .input;
+        count = omega (arith, c, g .blocks, g .few .0, g .few .1);
+        is = λ rest h. rw (h z) (finished-text r a (finishCall s) e q ∙ ends n s g ∙ ap (gatewayText n) (sym (append-nil (g .input))));
+      }
+
+  -- a block was refused: a short one is the last
+  pub says-refused : (b : List ℕ) → 0 < length b → length b ≤ 512 → (t : Taken) → t ≡ takeCall s b → (t .refusal ≡ 0 → ⊥) → r ≡ refusedEnd (t .refusal)
+      → i .bytes ≡ 512 * s .taken + length b → (length b < 512 → i .left ≡ 0) → GatewaySays n i (endedText r)
+  says-refused b some most t q h e c short =
+      said n i (endedText r) f
+      record {
+        input = g .input ++ b;
+        count = omega (arith, c, g .blocks, g .few .0, g .few .1, length-append (g .input) b, most);
+        is = λ rest w. refused-text r (t .refusal) e h ∙ text rest w (lt-or-ge (length b) 512);
+      }
+    where
+      text : (rest : List ℕ) → (i .left ≡ 0 → rest ≡ []) → (length b < 512) ⊎ (512 ≤ length b) → refusalText (t .refusal) ≡ gatewayText n ((g .input ++ b) ++ rest)
+      text rest w (inl x) = rw (w (short x)) (refused-last n s g b some most t q h ∙ ap (gatewayText n) (sym (append-nil (g .input ++ b))))
+      text rest w (inr x) = refused-whole n s g b some most t q h (omega arith) rest
+
+-- the count of what was handed out
+pub gateway-ran : (n : ℕ) (i : Input) (text : List ℕ) (bytes : ℕ) → GatewaySays n i text → bytes ≡ length text → GatewayRan n i bytes
+gateway-ran n i text bytes s e = record { text = text; says = s; count = e }
 
 -- ---- its line, piece by piece
 

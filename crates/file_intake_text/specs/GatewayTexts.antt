@@ -3,7 +3,7 @@
 -- Assumes nothing.
 use Prim.Native.Nat.{ℕ, zero, suc, _+_, _*_, _/_, _%_, _≤_}
 use mathlib.Core.Path.{_≡_}
-use mathlib.Core.Bool.{cond}
+use mathlib.Core.Bool.{true, false, cond}
 use mathlib.Core.List.{List, [], _∷_, _++_}
 use lib.Dec.{eqb, ltb}
 use lib.ListN.{length, take, drop}
@@ -13,6 +13,8 @@ use Rattle.file_load.specs.declared.Counts.{Counts}
 use Rattle.file_intake.specs.declared.Intake.{Intake}
 use Rattle.file_intake.specs.declared.Taken.{Taken}
 use Rattle.file_intake.specs.Intake.{announceCall, takeCall, finishCall}
+use Rattle.streams.specs.declared.reads.Input.{Input}
+use Rattle.streams.specs.Inputs.{ForInput}
 use Rattle.file_intake_text.specs.declared.Ended.{Ended}
 
 -- 'It reads 512 bytes at a time':
@@ -48,10 +50,17 @@ takenText t = cond (eqb (t .refusal) 0) (resultText (finishCall (t .state))) (re
 unfoldable pub gatewayText : ℕ → List ℕ → List ℕ
 gatewayText n input = takenText (handedOver n input (pieceCount input))
 
--- there is an input that has this text; that it is the one that was read is not said
-pub record SomeInput (n : ℕ) (text : List ℕ) : Type 0 where
-  pub input : List ℕ
-  pub is : text ≡ gatewayText n input
+-- 'A read that fails gets 1';
+-- else this is the text of an input with as many bytes as were read: whatever follows them, where a call was refused before the input ended
+abbrev pub GatewaySays : ℕ → Input → List ℕ → Type 0
+GatewaySays n i text = (i .failed ≡ true → text ≡ refusalText 1) × (i .failed ≡ false → ForInput i (λ input. text ≡ gatewayText n input))
+
+-- the end of a run: as many bytes were handed out as such a text has
+-- which bytes these were is not said here: the function that hands them out requires it (`NextOf`)
+pub record GatewayRan (n : ℕ) (i : Input) (bytes : ℕ) : Type 0 where
+  pub text : List ℕ
+  pub says : GatewaySays n i text
+  pub count : bytes ≡ length text
 
 -- what a run ended with, as an answer of the final call; a call that was refused has no counts
 abbrev pub endedAnswer : Ended → Answer Counts

@@ -4,51 +4,79 @@ mod output;
 
 use file_intake::Intake;
 use file_intake_text::Ended;
-use libc::STDIN_FILENO;
+use output::Sent;
+use streams::Input;
 ghost use mathlib.Core.Path.{_≡_};
-ghost use Rattle.file_intake_text.specs.GatewayTexts.{SomeInput, IntakeReached, endedText};
+ghost use Rattle.file_intake_text.specs.GatewayTexts.{GatewaySays, GatewayRan, IntakeReached, endedText};
 
-// Hands over the blocks of standard input as they are read: 128 of them at most, and the read after them brings the end or one block too many.
+// What a run ended with, and how far standard input was read.
+pub struct Reading {
+    pub ended: Ended,
+    pub input: Input,
+}
+
+// What was read, and what was handed out.
+pub struct Outcome {
+    pub input: Input,
+    pub sent: Sent,
+}
+
+// Hands over the blocks of standard input as they are read, up to its end or to the first that is refused.
 // A read that fails is told, and gets 1.
-fn read_blocks(number: u16, announced: Intake) -> Ended
+fn read_blocks(number: u16, announced: Intake) -> Reading
     requires { ⌜ IntakeReached number announced × (announced .taken ≡ 0) ⌝ }
-    ensures { λ r. ⌜ SomeInput number (endedText r) ⌝ }
+    ensures { λ r. ⌜ GatewaySays number (r .input) (endedText (r .ended)) ⌝ }
 {
     let mut block = [0u8; 512];
     let mut state = announced;
-    let mut turns: u16 = 129;
-    while 0 < turns {
-        let got = streams::read_all(STDIN_FILENO, &mut block);
-        if got.failed {
+    let mut input = streams::nothing_read();
+    while 0 < streams::reads_left(input) {
+        let got = streams::read_on(input, 512, &mut block);
+        input = got.input;
+        if streams::has_failed(input) {
             output::tell_failure(true, true);
-            return file_intake_text::refused(1);
+            let ended = file_intake_text::refused(1);
+            return Reading { ended, input };
         }
         let n = got.length;
         if n == 0 {
-            return file_intake_text::finished(state.finish());
+            break;
         }
         let next = state.take(&block[..n]);
         if next.refusal != 0 {
-            return file_intake_text::refused(next.refusal);
+            let ended = file_intake_text::refused(next.refusal);
+            return Reading { ended, input };
         }
         state = next.state;
-        turns -= 1;
     }
-    file_intake_text::refused(1)
+    let ended = file_intake_text::finished(state.finish());
+    Reading { ended, input }
 }
 
 // Announces the number of blocks; one that is refused is answered before any block is read.
-fn load(number: u16) -> Ended
-    ensures { λ r. ⌜ SomeInput number (endedText r) ⌝ }
+fn load(number: u16) -> Reading
+    ensures { λ r. ⌜ GatewaySays number (r .input) (endedText (r .ended)) ⌝ }
 {
     let first = file_intake::announce(number);
     if first.refusal != 0 {
-        return file_intake_text::refused(first.refusal);
+        let ended = file_intake_text::refused(first.refusal);
+        let input = streams::nothing_read();
+        return Reading { ended, input };
     }
     let state = first.state;
     read_blocks(number, state)
 }
 
+// Loads the file and hands out its line.
+fn run(number: u16) -> Outcome
+    ensures { λ r. ⌜ GatewayRan number (r .input) (r .sent .bytes) ⌝ }
+{
+    let r = load(number);
+    let input = r.input;
+    let sent = output::write_line(number, input, r.ended);
+    Outcome { input, sent }
+}
+
 fn main() {
-    output::write_line(load(input::number_said()));
+    run(input::number_said());
 }

@@ -6,13 +6,14 @@ use libc::EIO;
 use libc::EISDIR;
 use libc::ENOSPC;
 use libc::STDOUT_FILENO;
+use streams::Input;
 ghost use mathlib.Core.Path.{_≡_};
 ghost use mathlib.Core.Bool.{true};
 ghost use Prim.Native.Nat.{_+_};
 ghost use lib.ListN.{length};
 ghost use Rattle.session_text.specs.TermsText.{decimal};
 ghost use Rattle.file_text_print.specs.WholeText.{NextOf};
-ghost use Rattle.file_intake_text.specs.GatewayTexts.{endedText};
+ghost use Rattle.file_intake_text.specs.GatewayTexts.{GatewaySays, endedText};
 
 // Whether standard output has taken all that was handed to it, and how many bytes that is. Its fields are private: only this file makes one.
 pub struct Sent {
@@ -98,8 +99,9 @@ fn write_number(sent: Sent, e: Ended, n: u16) -> Sent
     write_piece(sent, e, &digits[from..])
 }
 
-// Writes the line of what the run ended with, all of it.
-pub(crate) fn write_line(e: Ended) -> Sent
+// Writes the line of what the run ended with, all of it, which has to be what is said after these reads.
+pub(crate) fn write_line(blocks: u16, input: Input, e: Ended) -> Sent
+    requires { ⌜ GatewaySays blocks input (endedText e) ⌝ }
     ensures { λ r. ⌜ r .bytes ≡ length (endedText e) ⌝ }
 {
     let none = nothing_sent();
