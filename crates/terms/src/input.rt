@@ -1,12 +1,14 @@
 // Reading standard input and master.bin.
+use streams::Input;
+use streams::Part;
 ghost use Rattle.io.specs.Counts.{Counts};
+ghost use Rattle.streams.specs.Inputs.{ReadOn};
 
-// The next bytes of standard input at the start of part, and how many there are. None where the input has ended or cannot be read, which is told.
-pub(crate) fn read_part(part: &mut [u8]) -> usize
-    ensures { λ r. ⌜ Counts r (now (part .exit)) ⌝ }
+// The next bytes of standard input at the start of part. A read that fails is told.
+pub(crate) fn read_part(input: Input, part: &mut [u8]) -> Part
+    ensures { λ r. ⌜ ReadOn input 1 (now (part .exit)) r ⌝ }
 {
-    let read = streams::read_input_part(b"terms: standard input", part);
-    read.length
+    streams::read_on_or_tell(b"terms: standard input", input, 1, part)
 }
 
 // The bytes of master.bin at the start of file, and how many there are. A file that cannot be read counts as empty.

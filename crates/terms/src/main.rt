@@ -7,20 +7,28 @@ use output::SentText;
 use session_command::Kept;
 use session_lines::Line;
 use session_parts::TermsProgress;
+use streams::Input;
 ghost use mathlib.Core.Path.{_≡_};
 ghost use mathlib.Core.Bool.{true};
 ghost use mathlib.Core.List.{[]};
 ghost use Prim.Native.Nat.{_≤_};
 ghost use lib.ListN.{length};
 ghost use Rattle.file_calendar.specs.Calendars.{calendarAnswer};
-ghost use Rattle.table.specs.Table.{openCall, openIn};
-ghost use Rattle.session_command.specs.Sessions.{restText};
-ghost use Rattle.session_parts.specs.TermsParts.{counted, Handed, Ran};
+ghost use Rattle.table.specs.Table.{openIn};
+ghost use Rattle.session_command.specs.Sessions.{restText, termsText};
+ghost use Rattle.session_parts.specs.TermsParts.{counted, Handed};
+ghost use Rattle.streams.specs.Inputs.{ForInput};
 
 // What is kept from one part of the input to the next: the table, the line so far, and what has been sent of the text.
 pub struct Carried {
     pub kept: Kept,
     pub line: Line,
+    pub text: SentText,
+}
+
+// How far the input was read, and what was sent of the text.
+pub struct Outcome {
+    pub input: Input,
     pub text: SentText,
 }
 
@@ -55,9 +63,15 @@ fn write_part(file: &[u8], judged: FileCalendar, k: Carried, part: &[u8], out: &
     }
 }
 
-// Writes the answer to a last line that no line feed ends.
-fn write_last(file: &[u8], judged: FileCalendar, k: Carried, out: &mut [u8]) -> SentText
-    requires { ⌜ 512 ≤ length (now out) ⌝ }
+// Writes the answer to a last line that no line feed ends, after the last read.
+fn write_last(
+    file: &[u8],
+    judged: FileCalendar,
+    k: Carried,
+    input: Input,
+    out: &mut [u8],
+) -> SentText
+    requires { ⌜ (512 ≤ length (now out)) × (input .left ≡ 0) ⌝ }
     ensures { λ r. ⌜ (r .sent .open ≡ true → r .sent .bytes ≡ counted (k .text .sent .bytes) (length (restText (openIn (calendarAnswer judged) (now (file .entry))) (k .kept) (k .line) []))) ⌝ }
 {
     let kept = k.kept;
@@ -78,10 +92,9 @@ fn write_last(file: &[u8], judged: FileCalendar, k: Carried, out: &mut [u8]) -> 
     output::write_out(k.text, file, judged, file, from, to, out)
 }
 
-// Judges the file once, and reads the input part by part. What is answered is written before the next read. A read that fails ends the input.
-// The loop has to be shown to end, so after 2^64 - 1 reads the input counts as ended.
-fn run(file: &[u8]) -> SentText
-    ensures { λ r. ⌜ (r .sent .open ≡ true → Ran (openCall (now (file .entry))) (r .sent .bytes)) ⌝ }
+// Judges the file once, and reads the input part by part, up to its end. What is answered is written before the next read. A read that fails ends the input.
+fn run(file: &[u8]) -> Outcome
+    ensures { λ r. ⌜ (r .text .sent .open ≡ true → ForInput (r .input) (λ input. r .text .sent .bytes ≡ counted 0 (length (termsText (now (file .entry)) input)))) ⌝ }
 {
     let judged = file_load::judge(file);
     let mut part = io::large_buffer();
@@ -90,19 +103,19 @@ fn run(file: &[u8]) -> SentText
     let line = session_lines::empty_line();
     let text = output::no_text();
     let mut k = Carried { kept, line, text };
-    let mut turns: u64 = 18446744073709551615;
-    while 0 < turns {
-        let n = input::read_part(&mut part);
-        if n == 0 {
-            break;
-        }
+    let mut input = streams::nothing_read();
+    while 0 < streams::reads_left(input) {
+        let read = input::read_part(input, &mut part);
+        input = read.input;
+        let n = read.length;
         k = write_part(file, judged, k, &part[..n], &mut out);
         if !output::is_open(k.text) {
-            return k.text;
+            let shut = k.text;
+            return Outcome { input, text: shut };
         }
-        turns -= 1;
     }
-    write_last(file, judged, k, &mut out)
+    let all = write_last(file, judged, k, input, &mut out);
+    Outcome { input, text: all }
 }
 
 fn main() {

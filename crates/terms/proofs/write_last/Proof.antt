@@ -11,7 +11,7 @@ write-out-requires : tie.Need-write-out-requires
 write-out-requires c κs =
     let at-answer-last = c .before .before .before in
     let start = at-answer-last .before .before .before .before .before .before in
-    (omega (arith, at-answer-last .answer-last .ensures .fits), last (at-answer-last .answer-last .ensures .text (start .pre)))
+    (omega (arith, at-answer-last .answer-last .ensures .fits), last (at-answer-last .answer-last .ensures .text (start .pre .0)))
 
 same-length : tie.Need-same-length
 same-length c = search needs
@@ -20,7 +20,7 @@ returns : tie.Need-returns
 returns c = λ e.
     let at-answer-last = c .before .before .before .before in
     let start = at-answer-last .before .before .before .before .before .before in
-    last-count _ _ _ _ _ _ _ _ (start .pre) (at-answer-last .answer-last .ensures) (c .write-out .ensures e)
+    last-count _ _ _ _ _ _ _ _ (start .pre .0) (at-answer-last .answer-last .ensures) (c .write-out .ensures e)
 
 pub write-last-spec : {M : Type 1} → statement M
 write-last-spec = tie.close (tie.spec (λ c κs. tt) write-out-requires same-length returns)
