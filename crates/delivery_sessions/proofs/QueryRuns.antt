@@ -3,12 +3,12 @@
 use mathlib.Core.Path.{_≡_, refl, sym, ap, _∙_, subst, fun-ext}
 use mathlib.Core.Bool.{Bool, true, false, _&&_, cond}
 use mathlib.Core.List.{List, [], _∷_, _++_, append-nil, append-assoc}
-use Prim.Native.Nat.{ℕ, _+_, _^_, _≤_, _<_}
+use Prim.Native.Nat.{ℕ, _+_, _%_, _^_, _≤_, _<_}
 use native.Mathlib.Omega.{arith}
 use lib.Dec.{eqb}
 use lib.ListN.{length, getD, take, drop, drop-of-length-le, length-append, List·getD-append}
 use lib.Seq.{length-take-le, drop-append-le}
-use borrow.Author.Tests.{eq-eqb}
+use borrow.Author.Tests.{eq-eqb, ne-eqb}
 use Rattle.questions.specs.Questions.{firstNo}
 use Rattle.file_load.specs.Load.{loadAsks}
 use Rattle.session_parts.specs.TermsParts.{counted, inOne}
@@ -85,11 +85,12 @@ unfolding inOne
 in-one part parts = refl
 
 -- after a first part of three bytes or more, which is taken without its mark
-pub came-first : (of : List ℕ → Standing) (k : ℕ) (l : LongLine) (n : ℕ) (part : List ℕ) → 3 ≤ length part
-    → QueryHanded of 1 emptyLong (unmarked part) 0 k l [] n → Came of k l n
-came-first of k l n part h d =
+pub came-first : (of : List ℕ → Standing) (k : ℕ) (l : LongLine) (n m : ℕ) (part : List ℕ) → 3 ≤ length part → m ≡ length part % 2 ^ 64
+    → QueryHanded of 1 emptyLong (unmarked part) 0 k l [] n → Came of k l n m
+came-first of k l n m part h e d =
     record {
       input = part;
+      long = e;
       parts = unmarked part ∷ [];
       cut = λ later. in-one (unmarked part) later ∙ unmarked-more part (inOne later) h;
       text = d .text;
@@ -97,17 +98,18 @@ came-first of k l n part h d =
     }
 
 -- after one more part is used up, the run is still the rest of a run from the first line on
-pub came-more : (of : List ℕ → Standing) (k k′ : ℕ) (l l′ : LongLine) (n m : ℕ) (part : List ℕ) → Came of k l n → QueryHanded of k l part n k′ l′ [] m
-    → Came of k′ l′ m
-came-more of k k′ l l′ n m part c d =
+pub came-more : (of : List ℕ → Standing) (k k′ : ℕ) (l l′ : LongLine) (n n′ m m′ : ℕ) (part : List ℕ) → Came of k l n m → QueryHanded of k l part n k′ l′ [] n′
+    → m′ ≡ (m + length part) % 2 ^ 64 → Came of k′ l′ n′ m′
+came-more of k k′ l l′ n n′ m m′ part c d e =
     record {
       input = c .input ++ part;
+      long = omega (arith, e, c .long, length-append (c .input) part);
       parts = c .parts ++ (part ∷ []);
       cut = λ later.
           ap inOne (append-assoc (c .parts) (part ∷ []) later) ∙ c .cut (part ∷ later)
           ∙ ap unmarked (ap (λ (x : List ℕ). c .input ++ x) (in-one part later) ∙ sym (append-assoc (c .input) part (inOne later)));
       text = c .text ++ d .text;
-      on = λ later t n′ r. rw (append-assoc (c .parts) (part ∷ []) later, append-assoc (c .text) (d .text) t) (c .on (part ∷ later) (d .text ++ t) n′
+      on = λ later t n″ r. rw (append-assoc (c .parts) (part ∷ []) later, append-assoc (c .text) (d .text) t) (c .on (part ∷ later) (d .text ++ t) n″
           (goes-on d r));
     }
 
@@ -116,10 +118,11 @@ unfolding inOne
 none-left = refl
 
 -- after the answer to the last line there is an input whose whole run writes the bytes counted
-pub came-all : (of : List ℕ → Standing) (k : ℕ) (l : LongLine) (n n′ : ℕ) → Came of k l n → n′ ≡ counted n (length (queryRest of k l [])) → QueryRan of n′
-came-all of k l n n′ c e =
+pub came-all : (of : List ℕ → Standing) (k : ℕ) (l : LongLine) (n n′ m : ℕ) → Came of k l n m → n′ ≡ counted n (length (queryRest of k l [])) → QueryRan of n′ m
+came-all of k l n n′ m c e =
     record {
       input = c .input;
+      long = c .long;
       parts = c .parts ++ [];
       cut = c .cut [] ∙ ap unmarked (ap (λ (x : List ℕ). c .input ++ x) none-left ∙ append-nil (c .input));
       text = c .text ++ queryRest of k l [];
@@ -127,11 +130,12 @@ came-all of k l n n′ c e =
     }
 
 -- an input of fewer bytes is one part
-pub came-short : (of : List ℕ → Standing) (k : ℕ) (l : LongLine) (n n′ : ℕ) (part : List ℕ) → QueryHanded of 1 emptyLong (unmarked part) 0 k l [] n → n′
-    ≡ counted n (length (queryRest of k l [])) → QueryRan of n′
-came-short of k l n n′ part d e =
+pub came-short : (of : List ℕ → Standing) (k : ℕ) (l : LongLine) (n n′ m : ℕ) (part : List ℕ) → m ≡ length part % 2 ^ 64
+    → QueryHanded of 1 emptyLong (unmarked part) 0 k l [] n → n′ ≡ counted n (length (queryRest of k l [])) → QueryRan of n′ m
+came-short of k l n n′ m part q d e =
     record {
       input = part;
+      long = q;
       parts = unmarked part ∷ [];
       cut = in-one (unmarked part) [] ∙ ap (λ (x : List ℕ). unmarked part ++ x) none-left ∙ append-nil (unmarked part);
       text = d .text ++ queryRest of k l [];
@@ -139,8 +143,8 @@ came-short of k l n n′ part d e =
     }
 
 -- a run by what is known is one by what is known of the file and the notices
-pub ran-own : (of known : List ℕ → Standing) (n : ℕ) → ((id : List ℕ) → of id ≡ known id) → QueryRan of n → QueryRan known n
-ran-own of known n e r = subst (λ (x : List ℕ → Standing). QueryRan x n) (fun-ext e) r
+pub ran-own : (of known : List ℕ → Standing) (n m : ℕ) → ((id : List ℕ) → of id ≡ known id) → QueryRan of n m → QueryRan known n m
+ran-own of known n m e r = subst (λ (x : List ℕ → Standing). QueryRan x n m) (fun-ext e) r
 
 -- ---- what a run writes, and the count of its bytes
 
@@ -163,13 +167,18 @@ accepted-text : (f notices input : List ℕ) → firstNo (loadAsks f) ≡ 0 → 
 unfolding queryText
 accepted-text f notices input a b = rw (eq-eqb (firstNo (loadAsks f)) 0 a, eq-eqb (textTold notices .bad) 0 b) refl
 
+-- of notices with a bad line nothing is answered, whatever the input
+pub no-answers : (f notices input : List ℕ) → firstNo (loadAsks f) ≡ 0 → (textTold notices .bad ≡ 0 → ⊥) → queryText f notices input ≡ []
+unfolding queryText
+no-answers f notices input a b = rw (eq-eqb (firstNo (loadAsks f)) 0 a, ne-eqb (textTold notices .bad) 0 b) refl
+
 -- for every file that is accepted, all notices without a bad line, every input and every way in which it arrives in parts, it is the text of the definition
-pub query-text : (f notices : List ℕ) (n : ℕ) (r : RanOn f notices n) → r .ran .text ≡ queryText f notices (r .ran .input)
-query-text f notices n r =
+pub query-text : (f notices : List ℕ) (n m : ℕ) (r : RanOn f notices n m) → r .ran .text ≡ queryText f notices (r .ran .input)
+query-text f notices n m r =
     sym (run-text (r .ran .run)) ∙ ap (queryRest (standingOf f (textTold notices .date) (textTold notices .notices)) 1 emptyLong) (r .ran .cut)
     ∙ whole-input (standingOf f (textTold notices .date) (textTold notices .notices)) (unmarked (r .ran .input))
     ∙ accepted-text f notices (r .ran .input) (r .accepted) (r .good)
 
 -- and so many bytes were written
-pub query-count : (f notices : List ℕ) (n : ℕ) (r : RanOn f notices n) → n ≡ counted 0 (length (queryText f notices (r .ran .input)))
-query-count f notices n r = run-count (r .ran .run) ∙ ap (λ (t : List ℕ). counted 0 (length t)) (query-text f notices n r)
+pub query-count : (f notices : List ℕ) (n m : ℕ) (r : RanOn f notices n m) → n ≡ counted 0 (length (queryText f notices (r .ran .input)))
+query-count f notices n m r = run-count (r .ran .run) ∙ ap (λ (t : List ℕ). counted 0 (length t)) (query-text f notices n m r)

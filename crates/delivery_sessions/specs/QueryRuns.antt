@@ -1,6 +1,6 @@
 -- A run of `query`: what it writes, and how many bytes that is (docs/DELIVERY.md, `query`).
 -- Assumes nothing.
-use Prim.Native.Nat.{ℕ}
+use Prim.Native.Nat.{ℕ, _%_, _^_}
 use mathlib.Core.Path.{_≡_}
 use mathlib.Core.List.{List, [], _∷_, _++_}
 use lib.ListN.{length, drop}
@@ -41,26 +41,29 @@ pub data QueryRun (of : List ℕ → Standing) : ℕ → LongLine → ℕ → Li
       → QueryRun of k′ l′ m parts text n′
       → QueryRun of k l n (part ∷ parts) (d .text ++ text) n′
 
--- there is an input, which is in parts without its mark, whose whole run, from line 1 on, writes so many bytes, modulo 2^64;
+-- there is an input of m bytes, which is in parts without its mark, whose whole run, from line 1 on, writes n bytes, both modulo 2^64;
 -- that it is the input that was read is not said
-pub record QueryRan (of : List ℕ → Standing) (n : ℕ) : Type 0 where
+pub record QueryRan (of : List ℕ → Standing) (n m : ℕ) : Type 0 where
   pub input : List ℕ
+  pub long : m ≡ length input % 2 ^ 64
   pub parts : List (List ℕ)
   pub cut : inOne parts ≡ unmarked input
   pub text : List ℕ
   pub run : QueryRun of 1 emptyLong 0 parts text n
 
--- only the code needs it: between two reads, whatever a run from here writes, it is the rest of a run from the first line on
-pub record Came (of : List ℕ → Standing) (k : ℕ) (l : LongLine) (n : ℕ) : Type 0 where
+-- only the code needs it: between two reads, m bytes having come, modulo 2^64:
+-- whatever a run from here writes, it is the rest of a run from the first line on
+pub record Came (of : List ℕ → Standing) (k : ℕ) (l : LongLine) (n m : ℕ) : Type 0 where
   pub input : List ℕ
+  pub long : m ≡ length input % 2 ^ 64
   pub parts : List (List ℕ)
   pub cut : (later : List (List ℕ)) → inOne (parts ++ later) ≡ unmarked (input ++ inOne later)
   pub text : List ℕ
   pub on : (later : List (List ℕ)) (t : List ℕ) (n′ : ℕ) → QueryRun of k l n later t n′ → QueryRun of 1 emptyLong 0 (parts ++ later) (text ++ t) n′
 
--- a run on a file and a text of notices: the file is accepted, no notice is bad, and so many bytes were written for an input;
+-- a run on a file and a text of notices: the file is accepted, no notice is bad, and n bytes were written for an input of m bytes, both modulo 2^64;
 -- then they are `queryText` of the three (proofs, Runs: `query-text`, `query-count`), and nothing is told
-pub record RanOn (f notices : List ℕ) (n : ℕ) : Type 0 where
+pub record RanOn (f notices : List ℕ) (n m : ℕ) : Type 0 where
   pub accepted : firstNo (loadAsks f) ≡ 0
   pub good : textTold notices .bad ≡ 0
-  pub ran : QueryRan (standingOf f (textTold notices .date) (textTold notices .notices)) n
+  pub ran : QueryRan (standingOf f (textTold notices .date) (textTold notices .notices)) n m

@@ -1,15 +1,15 @@
 -- The first part of an input without its mark, the lines that are told, and the run as a whole.
 -- Assumes nothing.
 use mathlib.Core.Path.{_≡_, refl, _∙_, sym, ap}
-use mathlib.Core.Bool.{Bool, true, false, not, _||_}
+use mathlib.Core.Bool.{true}
 use mathlib.Core.Logic.{_⊎_, inl, inr}
-use mathlib.Core.List.{List, []}
+use mathlib.Core.List.{List, [], append-nil}
 use Prim.Native.Nat.{ℕ, _-_, _≤_}
 use native.Mathlib.Omega.{arith}
 use lib.ListN.{length, take, drop, length-drop}
 use lib.Seq.{take-all, length-take-le}
 use Rattle.questions.specs.Questions.{Answer, answer, firstNo}
-use Rattle.questions.proofs.Bools.{and-both, clash}
+use Rattle.questions.proofs.Bools.{and-both}
 use Rattle.calendar.specs.declared.Calendar.{Calendar}
 use Rattle.file_calendar.specs.declared.FileCalendar.{FileCalendar}
 use Rattle.file_calendar.specs.Calendars.{calendarAnswer}
@@ -26,10 +26,13 @@ use Rattle.delivery_refusals.specs.Refusals.{masterText, badNoticeText}
 use Rattle.delivery_items.specs.declared.LongLine.{LongLine}
 use Rattle.delivery_items.specs.Items.{emptyLong}
 use Rattle.delivery_answers.specs.declared.Standing.{Standing}
-use Rattle.delivery_queries.specs.Queries.{standingIn, standingOf, queryTold}
+use Rattle.session_parts.specs.TermsParts.{counted}
+use Rattle.streams.specs.declared.reads.Input.{Input}
+use Rattle.streams.specs.Inputs.{ForInput}
+use Rattle.delivery_queries.specs.Queries.{standingIn, standingOf, queryText, queryTold}
 use Rattle.delivery_queries.proofs.NoticeCounts.{told-own, told-bad, told-master, told-line}
 use Rattle.delivery_sessions.specs.QueryRuns.{QueryHanded, QueryRan, RanOn}
-use Rattle.delivery_sessions.proofs.QueryRuns.{ran-own}
+use Rattle.delivery_sessions.proofs.QueryRuns.{ran-own, query-count, no-answers}
 use borrow.Author.Tests.{le-leb}
 
 -- ---- the mark
@@ -47,12 +50,6 @@ first-handed of line n part mark k l m e z q h = rw (e, z, without-mark part mar
 -- a first part of three bytes or more
 pub three : (n : ℕ) (part : List ℕ) → 3 ≤ n → n ≤ length part → 3 ≤ length (take n part)
 three n part h l = omega (arith, length-take-le n part l)
-
--- where it is not so that the first holds or the second does not, the second holds
-pub neither : (a b : Bool) → (a || not b) ≡ false → b ≡ true
-neither true b e = clash refl e
-neither false true e = refl
-neither false false e = clash refl e
 
 -- ---- what is told
 
@@ -94,12 +91,32 @@ module _ (judged : FileCalendar) (f text calls calls′ ids ids′ : List ℕ) (
   line-told l n made = rw (← told-line f text accepted (λ q. n (bad-is ∙ q)), ← bad-is) made
 
   -- a run on the lists is one on the file and the notices
-  pub all-answered : t .bad ≡ 0 → (room n : ℕ) → 65538 ≤ room → QueryRan (standingIn judged f t calls′ ids′ room) n → RanOn f text n
-  all-answered g room n h r =
+  on-file : t .bad ≡ 0 → (room n q : ℕ) → 65538 ≤ room → QueryRan (standingIn judged f t calls′ ids′ room) n q → RanOn f text n q
+  on-file g room n q h r =
       record {
         accepted = accepted;
         good = sym bad-is ∙ g;
         ran =
-            ran-own (standingIn judged f t calls′ ids′ room) (standingOf f (textTold text .date) (textTold text .notices)) n
+            ran-own (standingIn judged f t calls′ ids′ room) (standingOf f (textTold text .date) (textTold text .notices)) n q
             (told-own judged f text calls calls′ ids ids′ t m fits e room h) r;
+      }
+
+  -- after the last read, for an input with as many bytes as were read
+  pub all-answered : t .bad ≡ 0 → (room n : ℕ) (i : Input) → 65538 ≤ room → (i .left ≡ 0) × QueryRan (standingIn judged f t calls′ ids′ room) n (i .bytes)
+      → ForInput i (λ input. n ≡ counted 0 (length (queryText f text input)))
+  all-answered g room n i h r =
+      let o : RanOn f text n (i .bytes) = on-file g room n (i .bytes) h (r .1) in
+      record {
+        input = o .ran .input;
+        count = o .ran .long;
+        is = λ rest w. rw (w (r .0)) (query-count f text n (i .bytes) o ∙ ap (λ (x : List ℕ). counted 0 (length (queryText f text x))) (sym (append-nil (o .ran .input))));
+      }
+
+  -- of notices with a bad line nothing is written, whatever the input
+  pub none-answered : (t .bad ≡ 0 → ⊥) → (n : ℕ) (i : Input) → n ≡ 0 → i .bytes ≡ 0 → ForInput i (λ input. n ≡ counted 0 (length (queryText f text input)))
+  none-answered g n i z y =
+      record {
+        input = [];
+        count = omega (arith, y);
+        is = λ rest w. z ∙ ap (λ (x : List ℕ). counted 0 (length x)) (sym (no-answers f text rest accepted (λ q. g (bad-is ∙ q))));
       }

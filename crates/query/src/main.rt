@@ -6,6 +6,7 @@ use delivery_items::LongLine;
 use delivery_notices::NoticesTaken;
 use delivery_sessions::QueryProgress;
 use file_calendar::FileCalendar;
+use streams::Input;
 use streams::Sent;
 ghost use mathlib.Core.Path.{_≡_};
 ghost use mathlib.Core.Bool.{true, false};
@@ -17,9 +18,10 @@ ghost use Rattle.file_load.specs.Load.{judgeCall};
 ghost use Rattle.session_parts.specs.TermsParts.{counted};
 ghost use Rattle.delivery_items.specs.Items.{emptyLong};
 ghost use Rattle.delivery_lines.specs.NoticeLines.{unmarked};
-ghost use Rattle.delivery_queries.specs.Queries.{standingIn};
+ghost use Rattle.delivery_queries.specs.Queries.{standingIn, queryText};
 ghost use Rattle.delivery_sessions.specs.QueryParts.{queryRest};
-ghost use Rattle.delivery_sessions.specs.QueryRuns.{QueryHanded, Came, QueryRan, RanOn};
+ghost use Rattle.delivery_sessions.specs.QueryRuns.{QueryHanded, Came, QueryRan};
+ghost use Rattle.streams.specs.Inputs.{ForInput};
 
 // What is kept from one part of the input to the next: the number of the line that is begun, its bytes so far, and what has been written.
 pub struct Carried {
@@ -28,18 +30,10 @@ pub struct Carried {
     pub sent: Sent,
 }
 
-// Whether the input was read to its end and the output took all answers, and what has been written.
+// How far the input was read, and what has been written.
 pub struct QueryEnded {
-    pub whole: bool,
+    pub input: Input,
     pub sent: Sent,
-}
-
-// A run that ends before its input or its output does.
-fn cut_short(k: Carried) -> QueryEnded
-    ensures { λ r. ⌜ r .whole ≡ false ⌝ }
-{
-    let sent = k.sent;
-    QueryEnded { whole: false, sent }
 }
 
 // Writes the answers to all lines that end in a part of the input. A write that fails ends the run.
@@ -133,7 +127,7 @@ fn write_first(
     )
 }
 
-// Writes the answer to a last line that no line feed ends.
+// Writes the answer to a last line that no line feed ends, after an input that was read to its end.
 fn write_last(
     file: &[u8],
     judged: FileCalendar,
@@ -143,10 +137,11 @@ fn write_last(
     refusals: &mut [u8],
     room: usize,
     k: Carried,
+    input: Input,
     out: &mut [u8],
-) -> QueryEnded
-    requires { ⌜ (512 ≤ length (now out)) × (length (now refusals) ≡ room) ⌝ }
-    ensures { λ r. ⌜ (r .whole ≡ true → r .sent .bytes ≡ counted (k .sent .bytes) (length (queryRest (standingIn judged (now (file .entry)) t (now (calls .entry)) (now (ids .entry)) room) (k .number) (k .line) []))) ⌝ }
+) -> Sent
+    requires { ⌜ (512 ≤ length (now out)) × (length (now refusals) ≡ room) × (input .left ≡ 0) × (input .failed ≡ false) ⌝ }
+    ensures { λ r. ⌜ (r .open ≡ true → r .bytes ≡ counted (k .sent .bytes) (length (queryRest (standingIn judged (now (file .entry)) t (now (calls .entry)) (now (ids .entry)) room) (k .number) (k .line) []))) ⌝ }
 {
     let number = k.number;
     let line = k.line;
@@ -173,7 +168,7 @@ fn write_last(
         at: 0,
         length: n,
     };
-    let sent = output::write_out(
+    output::write_out(
         k.sent,
         file,
         judged,
@@ -185,13 +180,10 @@ fn write_last(
         from,
         to,
         out,
-    );
-    let whole = streams::is_open(sent);
-    QueryEnded { whole, sent }
+    )
 }
 
-// Reads the input part by part. What is answered is written before the next read.
-// The loop has to be shown to end, so after 2^64 - 1 reads the input counts as ended.
+// Reads the input part by part, up to its end. What is answered is written before the next read.
 fn write_rest(
     file: &[u8],
     judged: FileCalendar,
@@ -201,23 +193,19 @@ fn write_rest(
     refusals: &mut [u8],
     room: usize,
     first: Carried,
+    begun: Input,
     out: &mut [u8],
 ) -> QueryEnded
-    requires { ⌜ (512 ≤ length (now out)) × (length (now refusals) ≡ room) × Came (standingIn judged (now file) t (now calls) (now ids) room) (first .number) (first .line) (first .sent .bytes) ⌝ }
-    ensures { λ r. ⌜ (r .whole ≡ true → QueryRan (standingIn judged (now (file .entry)) t (now (calls .entry)) (now (ids .entry)) room) (r .sent .bytes)) ⌝ }
+    requires { ⌜ (512 ≤ length (now out)) × (length (now refusals) ≡ room) × Came (standingIn judged (now file) t (now calls) (now ids) room) (first .number) (first .line) (first .sent .bytes) (begun .bytes) ⌝ }
+    ensures { λ r. ⌜ (r .sent .open ≡ true → r .input .failed ≡ false → (r .input .left ≡ 0) × QueryRan (standingIn judged (now (file .entry)) t (now (calls .entry)) (now (ids .entry)) room) (r .sent .bytes) (r .input .bytes)) ⌝ }
 {
     let mut part = io::large_buffer();
     let mut k = first;
-    let mut turns: u64 = 18446744073709551615;
-    while 0 < turns {
-        let read = input::read_part(&mut part);
-        if read.failed {
-            return cut_short(k);
-        }
+    let mut input = begun;
+    while 0 < streams::reads_left(input) {
+        let read = input::read_part(input, &mut part);
+        input = read.input;
         let n = read.length;
-        if n == 0 {
-            break;
-        }
         k = write_part(
             k,
             file,
@@ -231,11 +219,22 @@ fn write_rest(
             out,
         );
         if !streams::is_open(k.sent) {
-            return cut_short(k);
+            return ended(k, input);
         }
-        turns -= 1;
     }
-    write_last(file, judged, t, calls, ids, refusals, room, k, out)
+    if streams::has_failed(input) {
+        return ended(k, input);
+    }
+    let sent = write_last(file, judged, t, calls, ids, refusals, room, k, input, out);
+    QueryEnded { input, sent }
+}
+
+// A run that ends here.
+fn ended(k: Carried, input: Input) -> QueryEnded
+    ensures { λ r. ⌜ (r .input ≡ input) × (r .sent ≡ k .sent) ⌝ }
+{
+    let sent = k.sent;
+    QueryEnded { input, sent }
 }
 
 // Answers the questions of standard input.
@@ -247,12 +246,16 @@ fn answer_input(
     ids: &[u8],
     refusals: &mut [u8],
 ) -> QueryEnded
-    ensures { λ r. ⌜ (r .whole ≡ true → QueryRan (standingIn judged (now (file .entry)) t (now (calls .entry)) (now (ids .entry)) (length (now (refusals .entry)))) (r .sent .bytes)) ⌝ }
+    ensures { λ r. ⌜ (r .sent .open ≡ true → r .input .failed ≡ false → (r .input .left ≡ 0) × QueryRan (standingIn judged (now (file .entry)) t (now (calls .entry)) (now (ids .entry)) (length (now (refusals .entry)))) (r .sent .bytes) (r .input .bytes)) ⌝ }
 {
     let room = refusals.len();
     let mut part = io::large_buffer();
     let mut out = io::large_buffer();
-    let read = input::read_first(&mut part);
+    let read = input::read_first(streams::nothing_read(), &mut part);
+    let begun = read.input;
+    if streams::has_failed(begun) {
+        return nothing_answered(begun);
+    }
     let n = read.length;
     let first = write_first(
         file,
@@ -265,13 +268,36 @@ fn answer_input(
         &part[..n],
         &mut out,
     );
-    if read.failed | !streams::is_open(first.sent) {
-        return cut_short(first);
+    if !streams::is_open(first.sent) {
+        return ended(first, begun);
     }
     if n < 3 {
-        return write_last(file, judged, t, calls, ids, refusals, room, first, &mut out);
+        let sent = write_last(
+            file,
+            judged,
+            t,
+            calls,
+            ids,
+            refusals,
+            room,
+            first,
+            begun,
+            &mut out,
+        );
+        return QueryEnded { input: begun, sent };
     }
-    write_rest(file, judged, t, calls, ids, refusals, room, first, &mut out)
+    write_rest(
+        file,
+        judged,
+        t,
+        calls,
+        ids,
+        refusals,
+        room,
+        first,
+        begun,
+        &mut out,
+    )
 }
 
 // Reads the notices, and answers the questions where none of them is bad.
@@ -284,22 +310,22 @@ fn answer_notices(
     refusals: &mut [u8],
 ) -> QueryEnded
     requires { ⌜ (calendarAnswer judged ≡ judgeCall (now file)) × (judged .refusal ≡ 0) × (32770 ≤ length (now calls)) × (26216 ≤ length (now ids)) × (65538 ≤ length (now refusals)) ⌝ }
-    ensures { λ r. ⌜ (r .whole ≡ true → RanOn (now (file .entry)) (now (text .entry)) (r .sent .bytes)) ⌝ }
+    ensures { λ r. ⌜ (r .sent .open ≡ true → r .input .failed ≡ false → ForInput (r .input) (λ input. r .sent .bytes ≡ counted 0 (length (queryText (now (file .entry)) (now (text .entry)) input)))) ⌝ }
 {
     let t = delivery_notices::read_notices(text, calls, ids);
     if t.bad != 0 {
         output::tell(file, text, delivery_refusals::bad_notice_line(t.bad));
-        return nothing_answered();
+        return nothing_answered(streams::nothing_read());
     }
     answer_input(file, judged, t, calls, ids, refusals)
 }
 
-// A run that tells a line on standard error, and answers nothing.
-fn nothing_answered() -> QueryEnded
-    ensures { λ r. ⌜ r .whole ≡ false ⌝ }
+// A run that answers nothing.
+fn nothing_answered(input: Input) -> QueryEnded
+    ensures { λ r. ⌜ (r .input ≡ input) × (r .sent .bytes ≡ 0) ⌝ }
 {
     let sent = streams::nothing_sent();
-    QueryEnded { whole: false, sent }
+    QueryEnded { input, sent }
 }
 
 // The file is judged first, and once; then the notices are read.

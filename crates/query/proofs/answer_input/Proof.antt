@@ -1,10 +1,13 @@
--- The first part, then the others; an input of fewer than three bytes is one part.
-use mathlib.Core.Path.{refl, sym, _∙_}
+-- The first part, then the others; an input of fewer than three bytes is one part, and has ended.
+use mathlib.Core.Path.{refl, sym, ap, _∙_}
 use mathlib.Core.Bool.{true≢false}
 use native.Mathlib.Omega.{arith}
 use lib.Seq.{length-take-le}
+use Rattle.questions.proofs.Bools.{said-no, said-yes}
+use Rattle.streams.specs.declared.output.Sent.{Sent}
+use Rattle.streams.specs.declared.reads.Input.{Input}
 use Rattle.delivery_sessions.proofs.QueryRuns.{came-first, came-short}
-use Rattle.query.proofs.WholeRun.{neither, three}
+use Rattle.query.proofs.WholeRun.{three}
 use borrow.Author.Needs.{needs}
 use Rattle.query.proofs.answer_input.Statement.{statement}
 use Rattle.query.proofs.answer_input.Tie as tie
@@ -12,68 +15,90 @@ use Rattle.query.proofs.answer_input.Tie as tie
 slice-aggregate-read-first : tie.Need-slice-aggregate-read-first
 slice-aggregate-read-first c = search needs
 
+returns : tie.Need-returns
+returns c = λ e f.
+    let at-if1 = c .before in
+    absurd (true≢false (sym (at-if1 .if1 .taken) ∙ at-if1 .before .has-failed .ensures ∙ ap (λ (i : Input). i .failed) (sym (c .nothing-answered .ensures .0)) ∙ f))
+
 array-share-prefix-part : tie.Need-array-share-prefix-part
 array-share-prefix-part c = search needs
 
 slice-aggregate-write-first : tie.Need-slice-aggregate-write-first
-slice-aggregate-write-first c = sym (length-take-le _ _ (c .before .before .before .read-first .ensures))
+slice-aggregate-write-first c = sym (length-take-le _ _ (c .before .before .before .before .before .before .read-first .ensures .within .0))
 
 slice-aggregate-write-first-2 : tie.Need-slice-aggregate-write-first-2
 slice-aggregate-write-first-2 c = search needs
 
 write-first-requires : tie.Need-write-first-requires
-write-first-requires c κs = (omega (arith, c .before .before .before .before .before .before .large-buffer2 .ensures), refl)
+write-first-requires c κs = (omega (arith, c .before .before .before .before .before .before .before .before .before .before .large-buffer2 .ensures), refl)
 
 same-length : tie.Need-same-length
 same-length c = search needs
 
-returns : tie.Need-returns
-returns c = λ e. absurd (true≢false (sym e ∙ c .cut-short .ensures))
+returns-2 : tie.Need-returns-2
+returns-2 c = λ e f.
+    absurd (true≢false (sym e ∙ ap (λ (s : Sent). s .open) (c .ended .ensures .1) ∙ said-no (c .before .before .is-open .ensures) (c .before .if2 .taken)))
 
 slice-aggregate-write-last : tie.Need-slice-aggregate-write-last
 slice-aggregate-write-last c = search needs
 
 write-last-requires : tie.Need-write-last-requires
-write-last-requires c κs = (omega (arith, c .before .before .before .before .before .before .out2 .given), omega arith)
+write-last-requires c κs =
+    let at-if3 = c .before .before in
+    let at-out2 = at-if3 .before .before .before in
+    let at-if1 = at-out2 .before .before .before .before .before .before .before in
+    let at-failed = at-if1 .before in
+    let at-part2 = at-failed .before .before in
+    let w = at-part2 .before .read-first .ensures in (
+      omega (arith, at-out2 .out2 .given),
+      omega arith,
+      w .ended (at-if3 .if3 .taken) (omega (arith, at-if3 .if3 .taken, at-part2 .part2 .given)),
+      sym (at-failed .has-failed .ensures) ∙ at-if1 .if1 .left,
+    )
 
 same-length-2 : tie.Need-same-length-2
 same-length-2 c = search needs
 
-returns-2 : tie.Need-returns-2
-returns-2 c = λ e.
+returns-3 : tie.Need-returns-3
+returns-3 c = λ e f.
     let at-write-last = c .before .before .before in
-    let at-if1 = at-write-last .before .before .before .before in
-    let at-is-open = at-if1 .before .before in
+    let at-if3 = at-write-last .before .before .before in
+    let at-if2 = at-if3 .before in
+    let at-is-open = at-if2 .before in
     let at-write-first = at-is-open .before .before .before .before in
-    let at-read-first = at-write-first .before .before .before .before .before in
-    came-short _ _ _ _ _ _
-    (at-write-first .write-first .ensures
-    (sym (at-is-open .is-open .ensures) ∙ neither (at-read-first .read-first .result .failed) (at-is-open .is-open .result)
-    (at-if1 .if1 .left))) (at-write-last .write-last .ensures e)
+    let at-part2 = at-write-first .before .before .before .before .before .before .before in
+    let at-read = at-part2 .before in
+    let w = at-read .read-first .ensures in
+    let none = at-read .before .before .nothing-read .ensures in (
+      w .ended (at-if3 .if3 .taken) (omega (arith, at-if3 .if3 .taken, at-part2 .part2 .given)),
+      came-short _ _ _ _ _ _ _ (omega (arith, w .count, w .within .1, none .1))
+          (at-write-first .write-first .ensures (said-yes (at-is-open .is-open .ensures) (at-if2 .if2 .left))) (at-write-last .write-last .ensures e),
+    )
 
 slice-aggregate-write-rest : tie.Need-slice-aggregate-write-rest
 slice-aggregate-write-rest c = search needs
 
 write-rest-requires : tie.Need-write-rest-requires
 write-rest-requires c κs =
-    let at-if2 = c .before .before in
-    let at-if1 = at-if2 .before in
-    let at-is-open = at-if1 .before .before in
+    let at-if3 = c .before .before in
+    let at-if2 = at-if3 .before in
+    let at-is-open = at-if2 .before in
     let at-out2 = at-is-open .before in
     let at-write-first = at-out2 .before .before .before in
-    let at-read-first = at-write-first .before .before .before .before .before in (
+    let at-read = at-write-first .before .before .before .before .before .before .before .before in
+    let w = at-read .read-first .ensures in
+    let none = at-read .before .before .nothing-read .ensures in (
       omega (arith, at-out2 .out2 .given),
       omega arith,
-      came-first _ _ _ _ _ (three _ _ (at-if2 .if2 .left) (at-read-first .read-first .ensures))
-          (at-write-first .write-first .ensures
-          (sym (at-is-open .is-open .ensures) ∙ neither (at-read-first .read-first .result .failed) (at-is-open .is-open .result) (at-if1 .if1 .left))),
+      came-first _ _ _ _ _ _ (three _ _ (at-if3 .if3 .left) (w .within .0)) (omega (arith, w .count, w .within .1, none .1))
+          (at-write-first .write-first .ensures (said-yes (at-is-open .is-open .ensures) (at-if2 .if2 .left))),
     )
 
 same-length-3 : tie.Need-same-length-3
 same-length-3 c = search needs
 
-returns-3 : tie.Need-returns-3
-returns-3 c = c .before .before .before .write-rest .ensures
+returns-4 : tie.Need-returns-4
+returns-4 c = c .before .before .before .write-rest .ensures
 
 pub answer-input-spec : {M : Type 1} → statement M
 answer-input-spec =
@@ -81,8 +106,12 @@ answer-input-spec =
     (tie.spec
     (λ c κs. tt)
     (λ c κs. tt)
+    (λ c κs. tt)
     slice-aggregate-read-first
     (λ c κs. tt)
+    (λ c κs. tt)
+    (λ c κs. tt)
+    returns
     array-share-prefix-part
     slice-aggregate-write-first
     slice-aggregate-write-first-2
@@ -90,12 +119,12 @@ answer-input-spec =
     (λ c κs. tt)
     (λ c κs. tt)
     same-length
-    returns
+    returns-2
     slice-aggregate-write-last
     write-last-requires
     same-length-2
-    returns-2
+    returns-3
     slice-aggregate-write-rest
     write-rest-requires
     same-length-3
-    returns-3)
+    returns-4)

@@ -1,5 +1,4 @@
 -- What stands in the buffer is the answer to the last line, and the count grows by it.
-use mathlib.Core.Path.{sym, _∙_}
 use native.Mathlib.Omega.{arith}
 use Rattle.delivery_sessions.specs.QueryRuns.{last}
 use Rattle.delivery_sessions.proofs.QueryRuns.{last-count}
@@ -22,11 +21,10 @@ same-length-2 c = search needs
 
 returns : tie.Need-returns
 returns c = λ e.
-    let at-write-out = c .before in
-    let at-answer-last = at-write-out .before .before .before .before .before .before in
+    let at-answer-last = c .before .before .before .before .before .before in
     let start = at-answer-last .before .before .before .before .before .before .before .before .before in
     let a = rw (start .pre .1) at (at-answer-last .answer-last .ensures) in
-    last-count _ _ _ _ _ _ _ _ (start .pre .0) a (at-write-out .write-out .ensures (sym (c .is-open .ensures) ∙ e))
+    last-count _ _ _ _ _ _ _ _ (start .pre .0) a (c .write-out .ensures e)
 
 pub write-last-spec : {M : Type 1} → statement M
 write-last-spec =
@@ -34,7 +32,6 @@ write-last-spec =
     (tie.spec
     (λ c κs. tt)
     write-out-requires
-    (λ c κs. tt)
     same-length
     same-length-2
     returns)
