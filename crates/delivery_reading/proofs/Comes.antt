@@ -1,35 +1,38 @@
--- Line after line: the input so far brought what the lists hold, and its bad lines were told.
+-- Part after part: the bytes so far brought what the lists hold and the line begun, and their bad lines were told.
 -- Assumes nothing.
 use mathlib.Core.Path.{_≡_, refl, sym, ap, _∙_}
-use mathlib.Core.Bool.{Bool, true, false, not, _&&_, _||_, cond}
-use mathlib.Core.List.{List, [], _∷_, _++_, append-assoc}
-use Prim.Native.Nat.{ℕ, _+_, _≤_, _<_}
+use mathlib.Core.Bool.{Bool, true, false, not, _&&_, cond}
+use mathlib.Core.List.{List, [], _∷_, _++_, append-nil, append-assoc}
+use mathlib.Core.Logic.{_⊎_, inl, inr}
+use Prim.Native.Nat.{ℕ, _+_, _-_, _%_, _^_, _≤_, _<_}
 use native.Mathlib.Omega.{arith}
 use lib.Dec.{eqb, ltb}
-use lib.ListN.{length, length-append}
-use borrow.Author.Tests.{eq-eqb, ne-eqb, eqb-true, eqb-false, ltb-true, not-true}
-use Rattle.questions.proofs.Bools.{clash, both}
+use lib.ListN.{length, take, drop, drop-of-length-le, length-drop, length-append}
+use lib.Seq.{take-all, length-take-le}
+use borrow.Author.Tests.{eq-eqb, ne-eqb, ltb-true, lt-ltb, not-true}
+use Rattle.questions.proofs.Bools.{clash, both, lt-or-ge}
 use Rattle.session_lines.specs.declared.Line.{Line}
 use Rattle.session_lines.specs.CommandLines.{emptyLine}
 use Rattle.file_text_print.specs.Contents.{LineWith}
 use Rattle.streams.specs.Transfers.{Grew}
 use Rattle.streams.specs.declared.output.Told as stream
+use Rattle.streams.specs.declared.reads.Input.{Input}
+use Rattle.delivery_lines.specs.NoticeLines.{markLength, unmarked}
+use Rattle.delivery_lines.proofs.Marks.{unmarked-more}
 use Rattle.delivery_items.specs.declared.LongLine.{LongLine}
 use Rattle.delivery_items.specs.declared.LineRead.{LineRead}
 use Rattle.delivery_items.specs.Items.{emptyLong, lengthened, heldRead}
+use Rattle.delivery_receipts.specs.declared.LineEnd.{LineEnd}
 use Rattle.delivery_receipts.specs.Receipts.{Receipt, noReceipt, sortOf, lineBrought, lineReceived, receiptOf, restReceived}
-use Rattle.delivery_receipts.specs.Receiving.{Lists, receivedTo, roomIn, toldOf, receiptIn, SameLengths}
+use Rattle.delivery_receipts.specs.Receiving.{Lists, receivedTo, roomIn, toldOf, receiptIn, SameLengths, LineFed}
 use Rattle.delivery_receipts.proofs.RowLinesFed.{whole-input}
 use Rattle.delivery_inputs.specs.declared.RowTaken.{RowTaken}
 use Rattle.delivery_inputs.specs.ReconcileInputs.{badRowsText, badsCounted, RowIn}
 use Rattle.delivery_inputs.proofs.ShortLines.{line-room, line-fits, line-long}
 use Rattle.delivery_inputs.proofs.BadLinesTold.{told-short, rows-append}
-use Rattle.delivery_reading.specs.declared.input.InputLine.{InputLine}
 use Rattle.delivery_reading.specs.declared.Reading.{Reading}
 use Rattle.delivery_reading.specs.declared.LinesRead.{LinesRead}
-use Rattle.delivery_reading.specs.declared.RowsRead.{RowsRead}
-use Rattle.delivery_reading.specs.Fetching.{leftIn, Fetched, Started}
-use Rattle.delivery_reading.specs.Reading.{RowTold, Told, Came, BeforeLast, RowsIn, Nothing, OneRead, Standing, LastRead}
+use Rattle.delivery_reading.specs.Reading.{BadsTold, RowTold, EndTold, PartTold, LastTold, Told, Came, FirstTold, ReadTo, RowsIn, Nothing}
 
 -- ---- one line
 
@@ -39,12 +42,6 @@ row-fits n l made =
     let room : length (l .bytes) ≡ 64 = line-room (badRowsText (toldOf n)) (told-short n) l made in
     (omega (arith, room, line-fits (badRowsText (toldOf n)) (told-short n) l made), line-long (badRowsText (toldOf n)) (told-short n) l made)
 
--- where the loop goes on, turns are left and reading is not done
-pub runs : (n : ℕ) (d : Bool) → (ltb 0 n && not d) ≡ true → (0 < n) × (d ≡ false)
-runs n d e =
-    let b : (ltb 0 n ≡ true) × (not d ≡ true) = both (ltb 0 n) (not d) e in
-    (ltb-true 0 n (b .0), not-true d (b .1))
-
 -- a line that is taken as a row is told and counted where the state and the count are those, and so many bytes more were told
 pub row-told : (f : List ℕ) (k : Reading) (l : LongLine) (before after : Lists) (t : RowTaken) → RowIn f (k .state) (k .bad) l before after t
     → (r : Reading) → r .state ≡ t .state → r .bad ≡ t .bad → Grew (k .told .bytes) (length (badRowsText (toldOf (t .state .bad)))) (r .told .bytes)
@@ -52,22 +49,15 @@ pub row-told : (f : List ℕ) (k : Reading) (l : LongLine) (before after : Lists
 row-told f k l before after t x r s b w =
     record {
       is = λ told. rw s (x .is told);
-      text = rw s w;
-      count = λ n e. b ∙ rw s (x .count n e);
+      tells = record { text = rw s w; count = λ n e. b ∙ rw s (x .count n e) };
       lengths = x .lengths;
     }
 
-module _ (told : ℕ) (bads : List ℕ) (s : Reading) (t : Told told bads s) where
-  -- where bad lines were told and counted, and some more are, all of them were told and counted
-  pub told-more : (more : List ℕ) (r : Reading) → Grew (s .told .bytes) (length (badRowsText more)) (r .told .bytes)
-      → ((n : ℕ) → s .bad ≡ badsCounted n → r .bad ≡ badsCounted (n + length more)) → Told told (bads ++ more) r
-  told-more more r e c =
-      record {
-        text = omega (arith, e, t .text, length-append (badRowsText bads) (badRowsText more), ap length (rows-append bads more));
-        count = c (length bads) (t .count) ∙ ap badsCounted (sym (length-append bads more));
-      }
-
 -- ---- the lists stay as long as they are
+
+-- lists are as long as they are
+pub same-lists : (a : Lists) → SameLengths a a
+same-lists a = record { ids = refl; keys = refl; days = refl; fulls = refl; numbers = refl; backs = refl }
 
 -- lists as long as lists that are as long as the first are as long as the first
 pub then-lists : (a b c : Lists) → SameLengths a b → SameLengths b c → SameLengths a c
@@ -81,12 +71,12 @@ then-lists a b c x y =
       backs = y .backs ∙ x .backs;
     }
 
--- lists of the same lengths have room for 65,536 rows where the others have it
-pub room-same : (a b : Lists) → SameLengths a b → roomIn a ≡ 65536 → roomIn b ≡ 65536
+-- lists of the same lengths have the same room
+pub room-same : (a b : Lists) → SameLengths a b → roomIn b ≡ roomIn a
 unfolding roomIn
-room-same a b x e = rw (x .ids, x .keys, x .days, x .fulls, x .numbers, x .backs) e
+room-same a b x = rw (x .ids, x .keys, x .days, x .fulls, x .numbers, x .backs) refl
 
--- ---- before the first line
+-- ---- bad lines
 
 none-text : length (badRowsText []) ≡ 0
 unfolding badRowsText
@@ -96,69 +86,230 @@ none-counted : 0 ≡ badsCounted 0
 unfolding badsCounted
 none-counted = refl
 
-none-held : (a : Lists) (s : Reading) → Nothing s → receiptIn (s .state) a [] ≡ noReceipt
+bads-none : (k : Reading) → BadsTold [] k k
+bads-none k =
+    record {
+      text = omega (arith, none-text);
+      count = λ n e. let z : n ≡ n + length {A = ℕ} [] = omega arith in e ∙ ap badsCounted z;
+    }
+
+bads-more : (x y : List ℕ) (k s r : Reading) → BadsTold x k s → BadsTold y s r → BadsTold (x ++ y) k r
+bads-more x y k s r a b =
+    record {
+      text = omega (arith, a .text, b .text, length-append (badRowsText x) (badRowsText y), ap length (rows-append x y));
+      count = λ n e.
+          let z : n + length x + length y ≡ n + length (x ++ y) = omega (arith, length-append x y) in
+          b .count (n + length x) (a .count n e) ∙ ap badsCounted z;
+    }
+
+told-more : (told : ℕ) (x y : List ℕ) (k r : Reading) → Told told x k → BadsTold y k r → Told told (x ++ y) r
+told-more told x y k r t b =
+    record {
+      text = omega (arith, t .text, b .text, length-append (badRowsText x) (badRowsText y), ap length (rows-append x y));
+      count = b .count (length x) (t .count) ∙ ap badsCounted (sym (length-append x y));
+    }
+
+-- ---- a part
+
+module _ (f : List ℕ) (k : LinesRead) (a : Lists) (part : List ℕ) where
+  -- before its first byte all of a part is left
+  pub part-none : PartTold f k a part k a (drop 0 part)
+  part-none =
+      record {
+        bads = [];
+        is = λ told rest. ap (λ (x : List ℕ). restReceived (roomIn a) f (receiptIn (k .kept .state) a x) (k .line) (part ++ rest)) (sym (append-nil told));
+        tells = bads-none (k .kept);
+        lengths = same-lists a;
+      }
+
+  module _ (s : LinesRead) (b : Lists) (at : ℕ) (d : PartTold f k a part s b (drop at part)) where
+    -- past its last byte nothing is left of a part
+    pub part-all : length part ≤ at → PartTold f k a part s b []
+    part-all h = rw (drop-of-length-le part h) at d
+
+    module _ (e : LineEnd) (fed : LineFed (s .line) part at e) (c : Lists) (r : LinesRead) (t : EndTold f (s .kept) e b c r) where
+      one-more : (y : e .ended ≡ true) (told rest : List ℕ)
+          → restReceived (roomIn a) f (receiptIn (s .kept .state) b (told ++ d .bads)) (s .line) (drop at part ++ rest)
+          ≡ restReceived (roomIn a) f (receiptIn (r .kept .state) c (told ++ (d .bads ++ toldOf (r .kept .state .bad)))) (r .line) (drop (e .next) part ++ rest)
+      one-more y told rest =
+          fed .ended y (roomIn a) f (receiptIn (s .kept .state) b (told ++ d .bads)) rest
+          ∙ ap (λ (n : ℕ). restReceived (roomIn a) f (lineReceived n f (receiptIn (s .kept .state) b (told ++ d .bads)) (heldRead (e .line))) emptyLong (drop (e .next) part ++ rest))
+          (sym (room-same a b (d .lengths)))
+          ∙ ap (λ (x : Receipt). restReceived (roomIn a) f x emptyLong (drop (e .next) part ++ rest)) (sym (t .ended y .0 .is (told ++ d .bads)))
+          ∙ ap (λ (x : List ℕ). restReceived (roomIn a) f (receiptIn (r .kept .state) c x) emptyLong (drop (e .next) part ++ rest))
+          (append-assoc told (d .bads) (toldOf (r .kept .state .bad)))
+          ∙ ap (λ (x : LongLine). restReceived (roomIn a) f (receiptIn (r .kept .state) c (told ++ (d .bads ++ toldOf (r .kept .state .bad)))) x (drop (e .next) part ++ rest))
+          (sym (t .ended y .1))
+
+      more-ended : e .ended ≡ true → PartTold f k a part r c (drop (e .next) part)
+      more-ended y =
+          record {
+            bads = d .bads ++ toldOf (r .kept .state .bad);
+            is = λ told rest. d .is told rest ∙ one-more y told rest;
+            tells = bads-more (d .bads) (toldOf (r .kept .state .bad)) (k .kept) (s .kept) (r .kept) (d .tells) (t .ended y .0 .tells);
+            lengths = then-lists a b c (d .lengths) (t .ended y .0 .lengths);
+          }
+
+      more-begun : e .ended ≡ false → PartTold f k a part r c (drop (e .next) part)
+      more-begun n =
+          rw (drop-of-length-le part (fed .used n), t .begun n .0, t .begun n .1 .0, t .begun n .1 .1)
+          (record {
+            bads = d .bads;
+            is = λ told rest. d .is told rest ∙ fed .begun n (roomIn a) f (receiptIn (s .kept .state) b (told ++ d .bads)) rest;
+            tells = d .tells;
+            lengths = d .lengths;
+          })
+
+      -- a line of a part more, up to its line feed or to the end of the part
+      pub part-more : PartTold f k a part r c (drop (e .next) part)
+      part-more = go (e .ended) refl
+        where
+          go : (y : Bool) → e .ended ≡ y → PartTold f k a part r c (drop (e .next) part)
+          go true y = more-ended y
+          go false n = more-begun n
+
+-- ---- the last line
+
+-- a last line with no bytes brings nothing
+pub last-none : (f : List ℕ) (k : LinesRead) (a : Lists) → k .line .length ≡ 0 → LastTold f k a a (k .kept)
+unfolding restReceived
+last-none f k a z =
+    record {
+      bads = [];
+      is = λ told. rw (append-nil told, eq-eqb (k .line .length) 0 z) refl;
+      tells = bads-none (k .kept);
+      lengths = same-lists a;
+    }
+
+-- a last line with bytes brings what it brings as a line
+pub last-some : (f : List ℕ) (k : LinesRead) (a b : Lists) (r : Reading) → (k .line .length ≡ 0 → ⊥) → RowTold f (k .kept) (k .line) a b r → LastTold f k a b r
+unfolding restReceived
+last-some f k a b r n t =
+    record {
+      bads = toldOf (r .state .bad);
+      is = λ told. t .is told ∙ rw (ne-eqb (k .line .length) 0 n) refl;
+      tells = t .tells;
+      lengths = t .lengths;
+    }
+
+-- ---- the first part
+
+none-held : (a : Lists) (s : Reading) → Nothing s → noReceipt ≡ receiptIn (s .state) a []
 unfolding receivedTo
 none-held a s n = rw (n .rows, n .begun, n .lines, n .over) refl
 
-came-none : (f : List ℕ) (a : Lists) (part : List ℕ) (l : InputLine) (s : Reading) → l .failed ≡ false → Started part l → Nothing s
-    → Came f (s .told .bytes) a part l s
-came-none f a part l s z d n =
+unmarked-all : (part rest : List ℕ) → (length part < 3 → rest ≡ []) → unmarked (part ++ rest) ≡ unmarked part ++ rest
+unmarked-all part rest z = go (lt-or-ge (length part) 3)
+  where
+    go : (length part < 3) ⊎ (3 ≤ length part) → unmarked (part ++ rest) ≡ unmarked part ++ rest
+    go (inl l) = rw (z l) (ap unmarked (append-nil part) ∙ sym (append-nil (unmarked part)))
+    go (inr l) = sym (unmarked-more part rest l)
+
+without-mark : (part : List ℕ) (mark : ℕ) → mark ≡ markLength part → unmarked part ≡ take (length part - mark) (drop mark part)
+unfolding unmarked
+without-mark part mark m =
+    ap (λ (n : ℕ). drop n part) (sym m) ∙ sym (take-all (length part - mark) (drop mark part) (omega (arith, length-drop mark part)))
+
+module _ (f : List ℕ) (t : stream.Told) (k : LinesRead) (own : k .kept .told ≡ t) (empty : k .line ≡ emptyLong) (nothing : Nothing (k .kept))
+    (part : List ℕ) (mark : ℕ) (m : mark ≡ markLength part) (a b : Lists) (r : LinesRead) (d : PartTold f k a (take (length part - mark) (drop mark part)) r b []) where
+  first-is : roomIn a ≡ 65536 → (rest : List ℕ) → (length part < 3 → rest ≡ [])
+      → receiptOf f (part ++ rest) ≡ restReceived 65536 f (receiptIn (r .kept .state) b (d .bads)) (r .line) rest
+  first-is room rest z =
+      sym (whole-input f (part ++ rest))
+      ∙ ap (restReceived 65536 f noReceipt emptyLong) (unmarked-all part rest z ∙ ap (λ (x : List ℕ). x ++ rest) (without-mark part mark m))
+      ∙ ap (λ (x : Receipt). restReceived 65536 f x emptyLong (take (length part - mark) (drop mark part) ++ rest)) (none-held a (k .kept) nothing)
+      ∙ ap (λ (x : LongLine). restReceived 65536 f (receiptIn (k .kept .state) a []) x (take (length part - mark) (drop mark part) ++ rest)) (sym empty)
+      ∙ ap (λ (n : ℕ). restReceived n f (receiptIn (k .kept .state) a []) (k .line) (take (length part - mark) (drop mark part) ++ rest)) (sym room)
+      ∙ d .is [] rest
+      ∙ ap (λ (n : ℕ). restReceived n f (receiptIn (r .kept .state) b (d .bads)) (r .line) rest) room
+
+  first-tells : Told (t .bytes) (d .bads) (r .kept)
+  first-tells =
+      let z : 0 + length (d .bads) ≡ length (d .bads) = omega arith in
+      rw (← own)
+      (record { text = d .tells .text; count = d .tells .count 0 (nothing .bad ∙ none-counted) ∙ ap badsCounted z })
+
+  -- the first part, without its mark, brought what is kept after it
+  pub first-told : FirstTold f (t .bytes) a part r b
+  first-told =
+      record {
+        came = λ room left z. record { bads = d .bads; is = λ rest e. first-is room rest (λ l. e (z l)); tells = first-tells };
+        lengths = d .lengths;
+      }
+
+-- ---- from part to part
+
+-- an input of which the first bytes were read to the start of a buffer
+pub read-first : (f : List ℕ) (told : ℕ) (before : Lists) (buffer : List ℕ) (m : ℕ) → m ≤ length buffer → (r : LinesRead) (after : Lists)
+    → FirstTold f told before (take m buffer) r after → roomIn before ≡ 65536
+    → (left n : ℕ) → (m < 3 → left ≡ 0) → n ≡ (0 + m) % 2 ^ 64 → ReadTo f told after left n r
+read-first f told before buffer m fits r after d room left n z e =
     record {
-      input = d .input;
-      bads = [];
-      is = λ rest e.
-          sym (whole-input f (d .input ++ rest)) ∙ ap (restReceived 65536 f noReceipt emptyLong) (d .left z rest e)
-          ∙ ap (λ (x : Receipt). restReceived 65536 f x emptyLong (leftIn part l ++ rest)) (sym (none-held a s n));
-      tells = record { text = omega (arith, none-text); count = n .bad ∙ none-counted };
+      input = take m buffer;
+      count = omega (arith, e, length-take-le m buffer fits);
+      came = d .came room left (λ l. z (omega (arith, length-take-le m buffer fits)));
     }
 
--- where reading starts, no read failed and nothing is received yet, reading stands between two lines
-pub stands-first : (f : List ℕ) (a : Lists) (part : List ℕ) (l : InputLine) (s : LinesRead) → Started part l → s .input ≡ l → s .done ≡ l .failed → Nothing (s .kept)
-    → Standing f (s .kept .told .bytes) a part s
-stands-first f a part l s d e q n =
-    let x : Started part (s .input) = rw e d in
-    let k : s .done ≡ s .input .failed = q ∙ sym (ap (λ (i : InputLine). i .failed) e) in
-    record { going = λ z. came-none f a part (s .input) (s .kept) (sym k ∙ z) x n; done = λ y z. clash y (k ∙ z) }
+module _ (f : List ℕ) (told : ℕ) (a : Lists) (room : roomIn a ≡ 65536) (left n : ℕ) (k : LinesRead) (c : ReadTo f told a left n k) (some : 0 < left)
+    (part : List ℕ) (r : LinesRead) (b : Lists) (d : PartTold f k a part r b []) where
+  more-is : (rest : List ℕ) → receiptOf f ((c .input ++ part) ++ rest)
+      ≡ restReceived 65536 f (receiptIn (r .kept .state) b (c .came .bads ++ d .bads)) (r .line) rest
+  more-is rest =
+      ap (receiptOf f) (append-assoc (c .input) part rest)
+      ∙ c .came .is (part ++ rest) (λ z. absurd (omega arith))
+      ∙ ap (λ (m : ℕ). restReceived m f (receiptIn (k .kept .state) a (c .came .bads)) (k .line) (part ++ rest)) (sym room)
+      ∙ d .is (c .came .bads) rest
+      ∙ ap (λ (m : ℕ). restReceived m f (receiptIn (r .kept .state) b (c .came .bads ++ d .bads)) (r .line) rest) room
 
--- the same where the lists have room for 65,536 rows, and what was read lies in the part
-pub stands-start : (f : List ℕ) (a : Lists) (part : List ℕ) (l : InputLine) (s : LinesRead) → Started part l → s .input ≡ l → s .done ≡ l .failed → Nothing (s .kept)
-    → (s .input .end ≤ length part) × (roomIn a ≡ 65536 → Standing f (s .kept .told .bytes) a part s)
-stands-start f a part l s d e q n =
-    let x : Started part (s .input) = rw e d in
-    (x .fits, λ room. stands-first f a part l s d e q n)
-
--- ---- one line more
-
-module _ (f : List ℕ) (told : ℕ) (a : Lists) (room : roomIn a ≡ 65536) (part : List ℕ) (l : InputLine) (s : Reading) (c : Came f told a part l s)
-    (part′ : List ℕ) (r : InputLine) (d : Fetched part part′ l r) where
-  rest-none : (rest : List ℕ) → (l .ended ≡ true → rest ≡ []) → l .ended ≡ true → d .more ++ rest ≡ []
-  rest-none rest e y = rw (d .none y, e y) refl
-
-  so-far : (rest : List ℕ) → (l .ended ≡ true → rest ≡ [])
-      → receiptOf f ((c .input ++ d .more) ++ rest) ≡ restReceived 65536 f (receiptIn (s .state) a (c .bads)) emptyLong (leftIn part l ++ (d .more ++ rest))
-  so-far rest e = ap (receiptOf f) (append-assoc (c .input) (d .more) rest) ∙ c .is (d .more ++ rest) (rest-none rest e)
-
-  -- after one line more, which a line feed ended and which was taken, reading stands between two lines again
-  pub came-more : r .whole ≡ true → (b : Lists) (k : Reading) → RowTold f s (r .line) a b k → Came f told b part′ r k
-  came-more w b k t =
+  -- one part more of an input
+  read-more : (left′ n′ : ℕ) → n′ ≡ (n + length part) % 2 ^ 64 → ReadTo f told b left′ n′ r
+  read-more left′ n′ e =
       record {
-        input = c .input ++ d .more;
-        bads = c .bads ++ toldOf (k .state .bad);
-        is = λ rest e.
-            so-far rest (λ y. e (d .on w ∙ y)) ∙ d .whole w 65536 f (receiptIn (s .state) a (c .bads)) rest
-            ∙ ap (λ (x : Receipt). restReceived 65536 f x emptyLong (leftIn part′ r ++ rest)) (sym (t .is (c .bads) ∙ ap (λ (n : ℕ). lineReceived n f (receiptIn (s .state) a (c .bads)) (heldRead (r .line))) room));
-        tells = told-more told (c .bads) s (c .tells) (toldOf (k .state .bad)) k (t .text) (t .count);
+        input = c .input ++ part;
+        count = omega (arith, e, c .count, length-append (c .input) part);
+        came =
+            record {
+              bads = c .came .bads ++ d .bads;
+              is = λ rest z. more-is rest;
+              tells = told-more told (c .came .bads) (d .bads) (k .kept) (r .kept) (c .came .tells) (d .tells);
+            };
       }
 
-  -- after a line that no line feed ended, and no failed read, reading stands before the last line
-  pub came-last : r .failed ≡ false → r .whole ≡ false → BeforeLast f told a (r .line) s
-  came-last z w =
-      record {
-        input = (c .input ++ d .more) ++ [];
-        bads = c .bads;
-        is = so-far [] (λ y. refl) ∙ d .last z w 65536 f (receiptIn (s .state) a (c .bads)) [];
-        tells = c .tells;
-      }
+-- the same of the bytes that a read left at the start of a buffer
+pub read-on : (f : List ℕ) (told : ℕ) (a : Lists) → roomIn a ≡ 65536 → (left n : ℕ) (k : LinesRead) → ReadTo f told a left n k → 0 < left
+    → (buffer : List ℕ) (m : ℕ) → m ≤ length buffer → (r : LinesRead) (b : Lists) → PartTold f k a (take m buffer) r b []
+    → (left′ n′ : ℕ) → n′ ≡ (n + m) % 2 ^ 64 → ReadTo f told b left′ n′ r
+read-on f told a room left n k c some buffer m fits r b d left′ n′ e =
+    read-more f told a room left n k c some (take m buffer) r b d left′ n′
+    (e ∙ ap (λ (x : ℕ). (n + x) % 2 ^ 64) (sym (length-take-le m buffer fits)))
+
+-- where reading goes on, reads are left
+pub goes : (left : ℕ) (over test : Bool) → test ≡ (ltb 0 left && not over) → test ≡ true → 0 < left
+goes left over test e t = ltb-true 0 left (both (ltb 0 left) (not over) (sym e ∙ t) .0)
+
+-- where it does not, and there was no good row too many, none is left
+pub stops : (left : ℕ) (over test : Bool) → test ≡ (ltb 0 left && not over) → test ≡ false → over ≡ false → left ≡ 0
+stops left true test e t z = clash refl z
+stops left false test e t z = go (lt-or-ge 0 left)
+  where
+    go : (0 < left) ⊎ (left ≤ 0) → left ≡ 0
+    go (inl l) = clash (rw (lt-ltb 0 left l) refl) (sym e ∙ t)
+    go (inr l) = omega arith
+
+-- after the last line the lists hold the rows of the input, and its bad lines were told
+rows-all : (f : List ℕ) (told : ℕ) (a : Lists) → roomIn a ≡ 65536 → (left n : ℕ) (k : LinesRead) → ReadTo f told a left n k
+    → (b : Lists) (r : Reading) → LastTold f k a b r → RowsIn f told b n r
+rows-all f told a room left n k c b r d =
+    record {
+      input = c .input;
+      count = c .count;
+      bads = c .came .bads ++ d .bads;
+      is =
+          d .is (c .came .bads)
+          ∙ ap (λ (m : ℕ). restReceived m f (receiptIn (k .kept .state) a (c .came .bads)) (k .line) []) room
+          ∙ sym (c .came .is [] (λ z. refl)) ∙ ap (receiptOf f) (append-nil (c .input));
+      tells = told-more told (c .came .bads) (d .bads) (k .kept) r (c .came .tells) (d .tells);
+    }
 
 -- ---- after a good row too many nothing changes
 
@@ -166,134 +317,34 @@ over-line : (room : ℕ) (f : List ℕ) (s : Receipt) (r : LineRead) → s .over
 unfolding lineReceived sortOf lineBrought
 over-line room f s r o = rw o refl
 
-over-stays : (room : ℕ) (f : List ℕ) (s : Receipt) (l : LongLine) (x : List ℕ) → s .over ≡ true → restReceived room f s l x ≡ s
+over-last : (room : ℕ) (f : List ℕ) (s : Receipt) (l : LongLine) → s .over ≡ true → restReceived room f s l [] ≡ s
 unfolding restReceived
-over-stays room f s l [] o = go (eqb (l .length) 0) (over-line room f s (heldRead l) o)
+over-last room f s l o = go (eqb (l .length) 0) (over-line room f s (heldRead l) o)
   where
     go : (b : Bool) → lineReceived room f s (heldRead l) ≡ s → cond b s (lineReceived room f s (heldRead l)) ≡ s
     go true e = refl
     go false e = e
-over-stays room f s l (byte ∷ x) o = go (eqb byte 10) (ap (λ (t : Receipt). restReceived room f t emptyLong x) (over-line room f s (heldRead l) o) ∙ over-stays room f s emptyLong x o) (over-stays room f s (lengthened l byte) x o)
+
+-- where there is no good row too many after the last line, there was none before it
+none-over : (f : List ℕ) (k : LinesRead) (a b : Lists) (r : Reading) → LastTold f k a b r → r .state .over ≡ false → k .kept .state .over ≡ false
+none-over f k a b r d z = go (k .kept .state .over) refl
   where
-    go : (b : Bool) → restReceived room f (lineReceived room f s (heldRead l)) emptyLong x ≡ s → restReceived room f s (lengthened l byte) x ≡ s
-        → cond b (restReceived room f (lineReceived room f s (heldRead l)) emptyLong x) (restReceived room f s (lengthened l byte) x) ≡ s
-    go true p q = p
-    go false p q = q
-
--- after a good row too many, reading stands before the last line whatever that line is, as it changes nothing
-pub came-over : (f : List ℕ) (told : ℕ) (a : Lists) (part : List ℕ) (l : InputLine) (s : Reading) → Came f told a part l s → s .state .over ≡ true
-    → (e : LongLine) → BeforeLast f told a e s
-came-over f told a part l s c o e =
-    record {
-      input = c .input ++ [];
-      bads = c .bads;
-      is = c .is [] (λ y. refl) ∙ over-stays 65536 f (receiptIn (s .state) a (c .bads)) emptyLong (leftIn part l ++ []) o
-          ∙ sym (over-stays 65536 f (receiptIn (s .state) a (c .bads)) e [] o);
-      tells = c .tells;
-    }
-
--- one line more that is read, while reading is not done, leaves reading between two lines or before the last one
-pub stands-more : (f : List ℕ) (told : ℕ) (a b : Lists) → roomIn a ≡ 65536 → (part part′ : List ℕ) (k r : LinesRead) → Standing f told a part k → k .done ≡ false
-    → OneRead f k a b part part′ r → Standing f told b part′ r
-stands-more f told a b room part part′ k r g n x = go (r .input .whole) refl
-  where
-    c : Came f told a part (k .input) (k .kept)
-    c = g .going n
-
-    go : (w : Bool) → r .input .whole ≡ w → Standing f told b part′ r
-    go true w =
-        let y : Came f told b part′ (r .input) (r .kept) = came-more f told a room part (k .input) (k .kept) c part′ (r .input) (x .fetched) w b (r .kept) (x .taken w .0) in
-        record { going = λ z. y; done = λ d z. came-over f told b part′ (r .input) (r .kept) y (sym (x .taken w .1) ∙ d) (r .input .line) }
-    go false w =
-        record {
-          going = λ z. clash (x .last w .1 .1) z;
-          done = λ d z. rw (x .last w .0, x .last w .1 .0) (came-last f told a room part (k .input) (k .kept) c part′ (r .input) (x .fetched) z w);
-        }
-
--- ---- the last line
-
-module _ (f : List ℕ) (told : ℕ) (a : Lists) (l : LongLine) (s : Reading) (b : BeforeLast f told a l s) where
-  -- where the last line has no bytes, the lists hold the rows of the input
-  pub rows-none : l .length ≡ 0 → RowsIn f told a s
-  unfolding restReceived
-  rows-none z =
-      record {
-        input = b .input;
-        bads = b .bads;
-        is = sym (b .is ∙ rw (eq-eqb (l .length) 0 z) refl);
-        tells = b .tells;
-      }
-
-  -- where the last line has bytes and is taken, the lists then hold the rows of the input
-  pub rows-last : (l .length ≡ 0 → ⊥) → roomIn a ≡ 65536 → (c : Lists) (k : Reading) → RowTold f s l a c k → RowsIn f told c k
-  unfolding restReceived
-  rows-last n room c k t =
-      record {
-        input = b .input;
-        bads = b .bads ++ toldOf (k .state .bad);
-        is =
-            t .is (b .bads)
-            ∙ ap (λ (m : ℕ). lineReceived m f (receiptIn (s .state) a (b .bads)) (heldRead l)) room
-            ∙ sym (b .is ∙ rw (ne-eqb (l .length) 0 n) refl);
-        tells = told-more told (b .bads) s (b .tells) (toldOf (k .state .bad)) k (t .text) (t .count);
-      }
-
-both-yes : (a b : Bool) → (a && not b) ≡ true → (a ≡ true) × (b ≡ false)
-both-yes true false e = (refl, refl)
-both-yes true true e = clash e refl
-both-yes false b e = clash e refl
-
--- after the last line, where no read failed, the lists hold the rows of an input and its bad lines were told
-pub rows-all : (f : List ℕ) (told : ℕ) (a b : Lists) → roomIn a ≡ 65536 → (part : List ℕ) (k : LinesRead) (r : RowsRead) → Standing f told a part k → LastRead f k a b r → r .there ≡ true
-    → RowsIn f told b (r .kept)
-rows-all f told a b room part k r g x y =
-    go (eqb (k .input .line .length) 0) refl
-  where
-    open-yes : (k .done ≡ true) × (k .input .failed ≡ false)
-    open-yes = both-yes (k .done) (k .input .failed) (sym (x .there) ∙ y)
-
-    before : BeforeLast f told a (k .input .line) (k .kept)
-    before = g .done (open-yes .0) (open-yes .1)
-
-    go : (z : Bool) → eqb (k .input .line .length) 0 ≡ z → RowsIn f told b (r .kept)
+    go : (o : Bool) → k .kept .state .over ≡ o → k .kept .state .over ≡ false
+    go false e = e
     go true e =
-        let n : k .input .line .length ≡ 0 = eqb-true (k .input .line .length) 0 e in
-        rw (x .none n .0, x .none n .1) (rows-none f told a (k .input .line) (k .kept) before n)
-    go false e =
-        let n : k .input .line .length ≡ 0 → ⊥ = eqb-false (k .input .line .length) 0 e in
-        rows-last f told a (k .input .line) (k .kept) before n room b (r .kept) (x .some n y)
+        clash e
+        (sym (ap (λ (x : Receipt). x .over) (d .is [] ∙ over-last (roomIn a) f (receiptIn (k .kept .state) a []) (k .line) e)) ∙ z)
 
--- ---- the code's tests
+-- ---- the whole input
 
-neither : (d f : Bool) (n : ℕ) → (not (d && not f) || eqb n 0) ≡ false → ((d && not f) ≡ true) × (n ≡ 0 → ⊥)
-neither true false n e = (refl, eqb-false n 0 e)
-neither true true n e = clash refl e
-neither false f n e = clash refl e
+module _ (f : List ℕ) (i : Input) (k : LinesRead) (a b : Lists) (r : Reading) (j : Input) (same : j ≡ i) (last : i .failed ≡ false → LastTold f k a b r) (z : j .failed ≡ false) where
+  taken : LastTold f k a b r
+  taken = last (sym (ap (λ (x : Input). x .failed) same) ∙ z)
 
-either : (d f : Bool) (n : ℕ) → (not (d && not f) || eqb n 0) ≡ true → (n ≡ 0 → ⊥) → (d && not f) ≡ false
-either true false n e z = clash e (ne-eqb n 0 z)
-either true true n e z = refl
-either false f n e z = refl
+  -- where no read failed, the lists hold the rows of an input with as many bytes as were counted
+  pub rows-read : (told : ℕ) → roomIn a ≡ 65536 → ReadTo f told a (i .left) (i .bytes) k → RowsIn f told b (j .bytes) r
+  rows-read told room c = rw same (rows-all f told a room (i .left) (i .bytes) k c b r taken)
 
-module _ (f : List ℕ) (k : LinesRead) where
-  -- where reading is not done, a read failed or the last line has no bytes, nothing more is taken
-  pub last-none : (a : Lists) → (not (k .done && not (k .input .failed)) || eqb (k .input .line .length) 0) ≡ true
-      → LastRead f k a a (record { there = k .done && not (k .input .failed); kept = k .kept })
-  last-none a e =
-      record {
-        there = refl;
-        none = λ z. (refl, refl);
-        some = λ n y. clash y (either (k .done) (k .input .failed) (k .input .line .length) e n);
-      }
-
-  -- where reading is done, no read failed and the last line has bytes, that line is taken
-  pub last-some : (a b : Lists) (s : Reading) → (not (k .done && not (k .input .failed)) || eqb (k .input .line .length) 0) ≡ false
-      → RowTold f (k .kept) (k .input .line) a b s → LastRead f k a b (record { there = true; kept = s })
-  last-some a b s e t =
-      let n = neither (k .done) (k .input .failed) (k .input .line .length) e in
-      record { there = sym (n .0); none = λ z. absurd (n .1 z); some = λ m y. t }
-
--- the same from the start of the reading on: the lists, as long as those that had room, hold the rows of an input
-pub rows-read : (f : List ℕ) (t : stream.Told) (s : LinesRead) → s .kept .told ≡ t → (c a b : Lists) → SameLengths c a → roomIn c ≡ 65536
-    → (part : List ℕ) (k : LinesRead) (r : RowsRead) → Standing f (s .kept .told .bytes) a part k → LastRead f k a b r → r .there ≡ true → RowsIn f (t .bytes) b (r .kept)
-rows-read f t s e c a b x room part k r g l y = rw (← e) (rows-all f (s .kept .told .bytes) a b (room-same c a x room) part k r g l y)
+  -- and where there was no good row too many, it was read to its end
+  pub to-end : (k .kept .state .over ≡ false → i .left ≡ 0) → r .state .over ≡ false → j .left ≡ 0
+  to-end h o = rw same (h (none-over f k a b r taken o))

@@ -1,2 +1,1 @@
-mod Fetches
-mod Comes
+pub mod Comes

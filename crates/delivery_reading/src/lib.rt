@@ -1,21 +1,23 @@
 // Standard input of `reconcile`: its good rows into lent lists, its bad lines told.
-mod input;
-
 use delivery_items::LongLine;
+use delivery_receipts::LineEnd;
 use delivery_receipts::Receiving;
-use input::InputLine;
 use session_lines::Line;
+use streams::Input;
 use streams::Told;
 ghost use mathlib.Core.Path.{_≡_};
-ghost use mathlib.Core.Bool.{true, false};
-ghost use Prim.Native.Nat.{_≤_};
+ghost use mathlib.Core.Bool.{false, not, _&&_};
+ghost use mathlib.Core.List.{[]};
+ghost use Prim.Native.Nat.{ℕ, _<_};
+ghost use lib.Dec.{ltb};
 ghost use lib.ListN.{length};
 ghost use Rattle.session_lines.specs.CommandLines.{emptyLine};
 ghost use Rattle.file_text_print.specs.Contents.{LineWith};
 ghost use Rattle.streams.specs.Transfers.{Grew};
-ghost use Rattle.delivery_receipts.specs.Receiving.{roomIn, toldOf};
+ghost use Rattle.delivery_items.specs.Items.{emptyLong};
+ghost use Rattle.delivery_receipts.specs.Receiving.{roomIn, toldOf, SameLengths};
 ghost use Rattle.delivery_inputs.specs.ReconcileInputs.{badRowsText};
-ghost use Rattle.delivery_reading.specs.Reading.{RowTold, Nothing, OneRead, Standing, LastRead, RowsIn};
+ghost use Rattle.delivery_reading.specs.Reading.{RowTold, Nothing, EndTold, PartTold, FirstTold, LastTold, ReadTo, RowsIn};
 
 // What is kept from one line to the next: what was received, how many lines were bad, at most 999,999,999, and what was told.
 pub struct Reading {
@@ -24,16 +26,21 @@ pub struct Reading {
     pub told: Told,
 }
 
-// How far standard input was read: up to a line, what is kept, and whether there is nothing more to take but the last line, which no line feed ends.
+// What is kept from one part of the input to the next: what its lines brought, and the line begun.
 pub struct LinesRead {
-    pub input: InputLine,
     pub kept: Reading,
-    pub done: bool,
+    pub line: LongLine,
 }
 
-// Whether standard input was read to its end, or to a good row too many, and what it brought.
+// How far standard input was read, and what is kept of it.
+pub struct InputRead {
+    pub input: Input,
+    pub lines: LinesRead,
+}
+
+// How far standard input was read, to its end or to a good row too many, and what it brought. Where a read failed this is nothing.
 pub struct RowsRead {
-    pub there: bool,
+    pub input: Input,
     pub kept: Reading,
 }
 
@@ -83,21 +90,46 @@ fn take_told(
 }
 
 // Before the first line.
-fn nothing_read(told: Told) -> Reading
-    ensures { λ r. ⌜ (r .told ≡ told) × Nothing r ⌝ }
+fn nothing_kept(told: Told) -> LinesRead
+    ensures { λ r. ⌜ (r .kept .told ≡ told) × (r .line ≡ emptyLong) × Nothing (r .kept) ⌝ }
 {
     let state = delivery_receipts::nothing_received();
-    Reading {
+    let line = delivery_items::empty_long_line();
+    let kept = Reading {
         state,
         bad: 0,
         told,
-    }
+    };
+    LinesRead { kept, line }
 }
 
-// The next line, which is taken where a line feed ended it. After a good row too many there is nothing more.
-fn read_one(
+// A line that a line feed ended is taken, and the next one begun; any other is begun.
+fn take_end(
+    k: Reading,
+    e: LineEnd,
+    file: &[u8],
+    ids: &mut [u8],
+    keys: &mut [u16],
+    days: &mut [u16],
+    fulls: &mut [u8],
+    numbers: &mut [u16],
+    backs: &mut [u16],
+) -> LinesRead
+    ensures { λ r. ⌜ EndTold (now (file .entry)) k e (record { ids = now (ids .entry); keys = now (keys .entry); days = now (days .entry); fulls = now (fulls .entry); numbers = now (numbers .entry); backs = now (backs .entry) }) (record { ids = now (ids .exit); keys = now (keys .exit); days = now (days .exit); fulls = now (fulls .exit); numbers = now (numbers .exit); backs = now (backs .exit) }) r ⌝ }
+{
+    let line = e.line;
+    if !e.ended {
+        return LinesRead { kept: k, line };
+    }
+    let kept = take_told(k, file, line, ids, keys, days, fulls, numbers, backs);
+    let next = delivery_items::empty_long_line();
+    LinesRead { kept, line: next }
+}
+
+// A part of the input: all lines that end in it are taken, and the line begun is kept with its bytes.
+pub fn take_part(
     k: LinesRead,
-    part: &mut [u8],
+    part: &[u8],
     file: &[u8],
     ids: &mut [u8],
     keys: &mut [u16],
@@ -106,55 +138,108 @@ fn read_one(
     numbers: &mut [u16],
     backs: &mut [u16],
 ) -> LinesRead
-    requires { ⌜ (k .input .end ≤ length (now part)) ⌝ }
-    ensures { λ r. ⌜ OneRead (now (file .entry)) k (record { ids = now (ids .entry); keys = now (keys .entry); days = now (days .entry); fulls = now (fulls .entry); numbers = now (numbers .entry); backs = now (backs .entry) }) (record { ids = now (ids .exit); keys = now (keys .exit); days = now (days .exit); fulls = now (fulls .exit); numbers = now (numbers .exit); backs = now (backs .exit) }) (now (part .entry)) (now (part .exit)) r ⌝ }
+    ensures { λ r. ⌜ PartTold (now (file .entry)) k (record { ids = now (ids .entry); keys = now (keys .entry); days = now (days .entry); fulls = now (fulls .entry); numbers = now (numbers .entry); backs = now (backs .entry) }) (now (part .entry)) r (record { ids = now (ids .exit); keys = now (keys .exit); days = now (days .exit); fulls = now (fulls .exit); numbers = now (numbers .exit); backs = now (backs .exit) }) [] ⌝ }
 {
-    let input = input::next_line(k.input, part);
-    let before = k.kept;
-    if !input.whole {
-        return LinesRead {
-            input,
-            kept: before,
-            done: true,
-        };
-    }
-    let line = input.line;
-    let kept = take_told(before, file, line, ids, keys, days, fulls, numbers, backs);
-    let state = kept.state;
-    LinesRead {
-        input,
-        kept,
-        done: state.over,
-    }
-}
-
-// The lines of standard input one after the other. The loop has to be shown to end, so after 2^64 - 1 lines nothing is judged.
-fn read_lines(
-    first: LinesRead,
-    part: &mut [u8],
-    file: &[u8],
-    ids: &mut [u8],
-    keys: &mut [u16],
-    days: &mut [u16],
-    fulls: &mut [u8],
-    numbers: &mut [u16],
-    backs: &mut [u16],
-) -> LinesRead
-    requires { ⌜ (first .input .end ≤ length (now part)) × (roomIn (record { ids = now ids; keys = now keys; days = now days; fulls = now fulls; numbers = now numbers; backs = now backs }) ≡ 65536 → Standing (now file) (first .kept .told .bytes) (record { ids = now ids; keys = now keys; days = now days; fulls = now fulls; numbers = now numbers; backs = now backs }) (now part) first) ⌝ }
-    ensures { λ r. ⌜ (roomIn (record { ids = now (ids .entry); keys = now (keys .entry); days = now (days .entry); fulls = now (fulls .entry); numbers = now (numbers .entry); backs = now (backs .entry) }) ≡ 65536 → Standing (now (file .entry)) (first .kept .told .bytes) (record { ids = now (ids .exit); keys = now (keys .exit); days = now (days .exit); fulls = now (fulls .exit); numbers = now (numbers .exit); backs = now (backs .exit) }) (now (part .exit)) r) ⌝ }
-{
-    let mut s = first;
-    let mut turns: u64 = 18446744073709551615;
-    while (0 < turns) & !s.done {
-        s = read_one(s, part, file, ids, keys, days, fulls, numbers, backs);
-        turns -= 1;
+    let mut s = k;
+    let mut at: usize = 0;
+    while at < part.len() {
+        let e = delivery_receipts::line_from(s.line, part, at);
+        s = take_end(s.kept, e, file, ids, keys, days, fulls, numbers, backs);
+        at = e.next;
     }
     s
 }
 
-// The last line, where there is one.
-fn take_last(
+// The first part, which is taken without its mark.
+fn take_first(
+    told: Told,
+    part: &[u8],
+    file: &[u8],
+    ids: &mut [u8],
+    keys: &mut [u16],
+    days: &mut [u16],
+    fulls: &mut [u8],
+    numbers: &mut [u16],
+    backs: &mut [u16],
+) -> LinesRead
+    ensures { λ r. ⌜ FirstTold (now (file .entry)) (told .bytes) (record { ids = now (ids .entry); keys = now (keys .entry); days = now (days .entry); fulls = now (fulls .entry); numbers = now (numbers .entry); backs = now (backs .entry) }) (now (part .entry)) r (record { ids = now (ids .exit); keys = now (keys .exit); days = now (days .exit); fulls = now (fulls .exit); numbers = now (numbers .exit); backs = now (backs .exit) }) ⌝ }
+{
+    let k = nothing_kept(told);
+    let mark = delivery_lines::mark_length(part);
+    take_part(
+        k,
+        &part[mark..],
+        file,
+        ids,
+        keys,
+        days,
+        fulls,
+        numbers,
+        backs,
+    )
+}
+
+// The last line, which no line feed ends, where it has bytes.
+pub fn take_last(
     k: LinesRead,
+    file: &[u8],
+    ids: &mut [u8],
+    keys: &mut [u16],
+    days: &mut [u16],
+    fulls: &mut [u8],
+    numbers: &mut [u16],
+    backs: &mut [u16],
+) -> Reading
+    ensures { λ r. ⌜ LastTold (now (file .entry)) k (record { ids = now (ids .entry); keys = now (keys .entry); days = now (days .entry); fulls = now (fulls .entry); numbers = now (numbers .entry); backs = now (backs .entry) }) (record { ids = now (ids .exit); keys = now (keys .exit); days = now (days .exit); fulls = now (fulls .exit); numbers = now (numbers .exit); backs = now (backs .exit) }) r ⌝ }
+{
+    let line = k.line;
+    let kept = k.kept;
+    if line.length == 0 {
+        return kept;
+    }
+    take_told(kept, file, line, ids, keys, days, fulls, numbers, backs)
+}
+
+// Whether to read on: reads are left, and there was no good row too many.
+fn goes_on(input: Input, k: LinesRead) -> bool
+    ensures { λ r. ⌜ r ≡ (ltb 0 (input .left) && not (k .kept .state .over)) ⌝ }
+{
+    let kept = k.kept;
+    let state = kept.state;
+    (0 < streams::reads_left(input)) & !state.over
+}
+
+// The rest of the input, part by part, up to its end or to a good row too many.
+fn read_rest(
+    first: InputRead,
+    part: &mut [u8],
+    file: &[u8],
+    ids: &mut [u8],
+    keys: &mut [u16],
+    days: &mut [u16],
+    fulls: &mut [u8],
+    numbers: &mut [u16],
+    backs: &mut [u16],
+) -> InputRead
+    requires { ⌜ 0 < length (now part) ⌝ }
+    ensures { λ r. ⌜ SameLengths (record { ids = now (ids .entry); keys = now (keys .entry); days = now (days .entry); fulls = now (fulls .entry); numbers = now (numbers .entry); backs = now (backs .entry) }) (record { ids = now (ids .exit); keys = now (keys .exit); days = now (days .exit); fulls = now (fulls .exit); numbers = now (numbers .exit); backs = now (backs .exit) }) ⌝ }
+    ensures { λ r. ⌜ ((told : ℕ) → roomIn (record { ids = now (ids .entry); keys = now (keys .entry); days = now (days .entry); fulls = now (fulls .entry); numbers = now (numbers .entry); backs = now (backs .entry) }) ≡ 65536 → ReadTo (now (file .entry)) told (record { ids = now (ids .entry); keys = now (keys .entry); days = now (days .entry); fulls = now (fulls .entry); numbers = now (numbers .entry); backs = now (backs .entry) }) (first .input .left) (first .input .bytes) (first .lines) → ReadTo (now (file .entry)) told (record { ids = now (ids .exit); keys = now (keys .exit); days = now (days .exit); fulls = now (fulls .exit); numbers = now (numbers .exit); backs = now (backs .exit) }) (r .input .left) (r .input .bytes) (r .lines)) ⌝ }
+    ensures { λ r. ⌜ (r .lines .kept .state .over ≡ false → r .input .left ≡ 0) ⌝ }
+{
+    let mut input = first.input;
+    let mut k = first.lines;
+    while goes_on(input, k) {
+        let read = streams::read_on_or_tell(b"reconcile: standard input", input, 1, part);
+        input = read.input;
+        let n = read.length;
+        k = take_part(k, &part[..n], file, ids, keys, days, fulls, numbers, backs);
+    }
+    InputRead { input, lines: k }
+}
+
+// What is kept after the last line; where a read failed, what was kept before it.
+fn take_all(
+    r: InputRead,
     file: &[u8],
     ids: &mut [u8],
     keys: &mut [u16],
@@ -163,32 +248,16 @@ fn take_last(
     numbers: &mut [u16],
     backs: &mut [u16],
 ) -> RowsRead
-    ensures { λ r. ⌜ LastRead (now (file .entry)) k (record { ids = now (ids .entry); keys = now (keys .entry); days = now (days .entry); fulls = now (fulls .entry); numbers = now (numbers .entry); backs = now (backs .entry) }) (record { ids = now (ids .exit); keys = now (keys .exit); days = now (days .exit); fulls = now (fulls .exit); numbers = now (numbers .exit); backs = now (backs .exit) }) r ⌝ }
+    ensures { λ s. ⌜ (s .input ≡ r .input) × (r .input .failed ≡ false → LastTold (now (file .entry)) (r .lines) (record { ids = now (ids .entry); keys = now (keys .entry); days = now (days .entry); fulls = now (fulls .entry); numbers = now (numbers .entry); backs = now (backs .entry) }) (record { ids = now (ids .exit); keys = now (keys .exit); days = now (days .exit); fulls = now (fulls .exit); numbers = now (numbers .exit); backs = now (backs .exit) }) (s .kept)) ⌝ }
 {
-    let input = k.input;
-    let kept = k.kept;
-    let line = input.line;
-    let there = k.done & !input.failed;
-    if !there | (line.length == 0) {
-        return RowsRead { there, kept };
+    let input = r.input;
+    let lines = r.lines;
+    if streams::has_failed(input) {
+        let kept = lines.kept;
+        return RowsRead { input, kept };
     }
-    let last = take_told(kept, file, line, ids, keys, days, fulls, numbers, backs);
-    RowsRead {
-        there: true,
-        kept: last,
-    }
-}
-
-// Where reading begins.
-fn at_start(told: Told, first: InputLine) -> LinesRead
-    ensures { λ r. ⌜ (r .input ≡ first) × (r .done ≡ first .failed) × (r .kept .told ≡ told) × Nothing (r .kept) ⌝ }
-{
-    let kept = nothing_read(told);
-    LinesRead {
-        input: first,
-        kept,
-        done: first.failed,
-    }
+    let kept = take_last(lines, file, ids, keys, days, fulls, numbers, backs);
+    RowsRead { input, kept }
 }
 
 // Standard input: its good rows in six lists, its bad lines told after what was told before.
@@ -202,12 +271,35 @@ pub fn read_rows(
     numbers: &mut [u16],
     backs: &mut [u16],
 ) -> RowsRead
-    ensures { λ r. ⌜ (roomIn (record { ids = now (ids .entry); keys = now (keys .entry); days = now (days .entry); fulls = now (fulls .entry); numbers = now (numbers .entry); backs = now (backs .entry) }) ≡ 65536 → r .there ≡ true → RowsIn (now (file .entry)) (told .bytes) (record { ids = now (ids .exit); keys = now (keys .exit); days = now (days .exit); fulls = now (fulls .exit); numbers = now (numbers .exit); backs = now (backs .exit) }) (r .kept)) ⌝ }
+    ensures { λ r. ⌜ (roomIn (record { ids = now (ids .entry); keys = now (keys .entry); days = now (days .entry); fulls = now (fulls .entry); numbers = now (numbers .entry); backs = now (backs .entry) }) ≡ 65536 → r .input .failed ≡ false → RowsIn (now (file .entry)) (told .bytes) (record { ids = now (ids .exit); keys = now (keys .exit); days = now (days .exit); fulls = now (fulls .exit); numbers = now (numbers .exit); backs = now (backs .exit) }) (r .input .bytes) (r .kept)) ⌝ }
+    ensures { λ r. ⌜ (r .input .failed ≡ false → r .kept .state .over ≡ false → r .input .left ≡ 0) ⌝ }
 {
     let mut part = io::large_buffer();
-    let first = input::read_start(&mut part);
-    let start = at_start(told, first);
-    let r = read_lines(
+    let nothing = streams::nothing_read();
+    let first = streams::read_on_or_tell(b"reconcile: standard input", nothing, 3, &mut part);
+    let begun = first.input;
+    if streams::has_failed(begun) {
+        let lines = nothing_kept(told);
+        let kept = lines.kept;
+        return RowsRead { input: begun, kept };
+    }
+    let n = first.length;
+    let lines = take_first(
+        told,
+        &part[..n],
+        file,
+        ids,
+        keys,
+        days,
+        fulls,
+        numbers,
+        backs,
+    );
+    let start = InputRead {
+        input: begun,
+        lines,
+    };
+    let r = read_rest(
         start,
         &mut part,
         file,
@@ -218,5 +310,5 @@ pub fn read_rows(
         numbers,
         backs,
     );
-    take_last(r, file, ids, keys, days, fulls, numbers, backs)
+    take_all(r, file, ids, keys, days, fulls, numbers, backs)
 }

@@ -1,4 +1,4 @@
 mod RowsStored
-mod RowsSoFar
+pub mod RowsSoFar
 pub mod RowLinesFed
 pub mod Gathering

@@ -60,6 +60,7 @@ module _ (l₀ : LongLine) (part : List ℕ) (from : ℕ) (l : LongLine) (i : �
         begun = λ t. clash refl t;
         on = λ w. omega (arith, g .on);
         within = λ w. omega arith;
+        used = λ t. clash refl t;
       }
 
   -- at the end of the part the line is begun and has not ended
@@ -71,6 +72,7 @@ module _ (l₀ : LongLine) (part : List ℕ) (from : ℕ) (l : LongLine) (i : �
         begun = λ t room f s rest. g .same room f s rest ∙ ap (λ (x : List ℕ). restReceived room f s l (x ++ rest)) z;
         on = λ w. omega arith;
         within = g .within;
+        used = λ t. h;
       }
 
 -- ---- the whole input

@@ -68,7 +68,7 @@ unfolding stateBrought lineBrought
 good-row s b a item bads e = rw (append-nil bads, e) refl
 
 -- a good row has room
-good-room : (room : ℕ) (f : List ℕ) (over begun : Bool) (count : ℕ) (r : LineRead) → sortOf room f over begun count r ≡ good → count < room
+pub good-room : (room : ℕ) (f : List ℕ) (over begun : Bool) (count : ℕ) (r : LineRead) → sortOf room f over begun count r ≡ good → count < room
 unfolding sortOf
 good-room room f over begun count r e = go over (r .empty) (not begun && r .heading) (r .item .there && formFits f (r .item)) (ltb count room) refl e
   where

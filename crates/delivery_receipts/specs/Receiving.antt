@@ -111,6 +111,7 @@ pub record LineFed (l : LongLine) (part : List ℕ) (from : ℕ) (r : LineEnd) :
       → restReceived room f s l (drop from part ++ rest) ≡ restReceived room f s (r .line) rest
   pub on : from < length part → from < r .next
   pub within : from ≤ length part → r .next ≤ length part
+  pub used : r .ended ≡ false → length part ≤ r .next
 
 -- the places of a product's rows among the first n
 unfoldable pub placesTo : List ℕ → List ℕ → ℕ → List ℕ

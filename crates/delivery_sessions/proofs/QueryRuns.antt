@@ -1,7 +1,6 @@
 -- All that a run of the program writes is the text of the definition, however its input arrives, and so many bytes were counted.
 -- Assumes nothing.
 use mathlib.Core.Path.{_≡_, refl, sym, ap, _∙_, subst, fun-ext}
-use mathlib.Core.Bool.{Bool, true, false, _&&_, cond}
 use mathlib.Core.List.{List, [], _∷_, _++_, append-nil, append-assoc}
 use Prim.Native.Nat.{ℕ, _+_, _%_, _^_, _≤_, _<_}
 use native.Mathlib.Omega.{arith}
@@ -13,7 +12,8 @@ use Rattle.questions.specs.Questions.{firstNo}
 use Rattle.file_load.specs.Load.{loadAsks}
 use Rattle.session_parts.specs.TermsParts.{counted, inOne}
 use Rattle.session_parts.proofs.TermsRuns.{counted-none}
-use Rattle.delivery_lines.specs.NoticeLines.{markLength, unmarked}
+use Rattle.delivery_lines.specs.NoticeLines.{unmarked}
+use Rattle.delivery_lines.proofs.Marks.{unmarked-more}
 use Rattle.delivery_notices.specs.Notices.{textTold}
 use Rattle.delivery_items.specs.declared.LongLine.{LongLine}
 use Rattle.delivery_items.specs.Items.{emptyLong}
@@ -56,27 +56,6 @@ module _ (of : List ℕ → Standing) (k : ℕ) (l : LongLine) (part : List ℕ)
 pub last-count : (of : List ℕ → Standing) (k : ℕ) (l : LongLine) (before after : List ℕ) (n n′ r : ℕ) → 512 ≤ length before
     → QueryLastAnswer of k l before after r → n′ ≡ counted n r → n′ ≡ counted n (length (queryRest of k l []))
 last-count of k l before after n n′ r room a c = c ∙ ap (counted n) (sym (length-take-le r after (a .fits)) ∙ ap length (sym (a .text room)))
-
--- ---- the mark
-
--- it is told by the first three bytes
-mark-same : (p rest : List ℕ) → 3 ≤ length p → markLength (p ++ rest) ≡ markLength p
-unfolding markLength
-mark-same p rest h =
-    rw (List·getD-append p rest 0 0 (omega arith), List·getD-append p rest 0 1 (omega arith), List·getD-append p rest 0 2 (omega arith)) refl
-
-mark-most : (p : List ℕ) → 3 ≤ length p → markLength p ≤ length p
-unfolding markLength
-mark-most p h = go (eqb (getD p 0 0) 239 && (eqb (getD p 1 0) 187 && eqb (getD p 2 0) 191))
-  where
-    go : (b : Bool) → cond b 3 0 ≤ length p
-    go true = h
-    go false = omega arith
-
--- a first part of three bytes or more loses its mark as the whole input does
-pub unmarked-more : (p rest : List ℕ) → 3 ≤ length p → unmarked p ++ rest ≡ unmarked (p ++ rest)
-unfolding unmarked
-unmarked-more p rest h = sym (ap (λ (n : ℕ). drop n (p ++ rest)) (mark-same p rest h) ∙ drop-append-le (markLength p) p rest (mark-most p h))
 
 -- ---- from part to part
 

@@ -93,7 +93,7 @@ fn reconcile(file: &[u8], judged: FileCalendar, t: NoticesTaken, calls: &[u32], 
     );
     let kept = r.kept;
     let state = kept.state;
-    if !r.there | state.over {
+    if streams::has_failed(r.input) | state.over {
         return;
     }
     let printed = print_all(

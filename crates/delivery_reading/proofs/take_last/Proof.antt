@@ -1,11 +1,14 @@
 -- A last line with bytes is taken.
-use Rattle.delivery_reading.proofs.Comes.{last-none, last-some}
 use borrow.Author.Needs.{needs}
+use Rattle.delivery_reading.proofs.Comes.{last-none, last-some}
 use Rattle.delivery_reading.proofs.take_last.Statement.{statement}
 use Rattle.delivery_reading.proofs.take_last.Tie as tie
 
 returns : tie.Need-returns
-returns c = last-none _ (c .before .before .before .before .before .before .before .before .before .before .before .before .before .before .args .k) _ (c .if1 .taken)
+returns c = last-none _ (c .before .before .before .before .before .before .before .before .before .before .before .args .k) _ (c .if1 .taken)
+
+take-told-requires : tie.Need-take-told-requires
+take-told-requires c κs = search needs
 
 same-length : tie.Need-same-length
 same-length c = search needs
@@ -26,14 +29,14 @@ same-length-6 : tie.Need-same-length-6
 same-length-6 c = search needs
 
 returns-2 : tie.Need-returns-2
-returns-2 c = last-some _ (c .before .before .before .before .before .before .before .before .before .before .before .before .before .before .before .before .before .before .before .before .before .before .before .before .before .before .before .before .before .before .before .before .before .args .k) _ _ _ (c .before .before .before .before .before .before .before .before .before .before .before .before .before .before .before .before .before .before .before .if1 .left) (c .before .before .before .before .before .before .before .before .before .before .before .before .take-told .ensures)
+returns-2 c = last-some _ (c .before .before .before .before .before .before .before .before .before .before .before .before .before .before .before .before .before .before .before .before .before .before .before .before .before .before .before .before .before .before .args .k) _ _ _ (c .before .before .before .before .before .before .before .before .before .before .before .before .before .before .before .before .before .before .before .if1 .left) (c .before .before .before .before .before .before .before .before .before .before .before .before .take-told .ensures)
 
 pub take-last-spec : {M : Type 1} → statement M
 take-last-spec =
     tie.close
     (tie.spec
     returns
-    (λ c κs. tt)
+    take-told-requires
     same-length
     same-length-2
     same-length-3
