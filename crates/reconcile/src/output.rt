@@ -1,39 +1,47 @@
 // Writing to standard output, and telling on standard error.
+use delivery_judging::Printed;
+use delivery_reading::Reading;
 use session_lines::Line;
 use streams::Sent;
-ghost use Prim.Native.Nat.{_≤_};
+use streams::Told;
+ghost use mathlib.Core.Path.{_≡_};
+ghost use mathlib.Core.Bool.{true};
+ghost use mathlib.Core.List.{[]};
+ghost use Prim.Native.Nat.{_<_};
 ghost use lib.ListN.{length};
+ghost use Rattle.session_lines.specs.CommandLines.{emptyLine};
+ghost use Rattle.file_text_print.specs.Contents.{LineWith};
+ghost use Rattle.streams.specs.Transfers.{Grew};
+ghost use Rattle.file_ids.specs.Ids.{recordCount};
+ghost use Rattle.delivery_reports.specs.Reports.{differencesHeading};
+ghost use Rattle.delivery_reconciled.specs.Reconciled.{summaryText, reconcileTold};
 
-// How many bytes of a buffer there are, at most as many as it has.
-fn within(out: &[u8], n: usize) -> usize
-    ensures { λ r. ⌜ r ≤ length (now (out .entry)) ⌝ }
+// Writes a line before anything else, which has to be the heading.
+pub(crate) fn write_heading(line: Line) -> Sent
+    requires { ⌜ LineWith emptyLine differencesHeading line ⌝ }
+    ensures { λ r. ⌜ (r .open ≡ true → Grew 0 (length differencesHeading) (r .bytes)) ⌝ }
 {
-    if out.len() < n {
-        return out.len();
-    }
-    n
-}
-
-// Writes the first n bytes of a buffer to standard output. Where it does not take them, one line on standard error says why.
-pub(crate) fn write_first(sent: Sent, out: &[u8], n: usize) -> Sent {
-    let end = within(out, n);
-    streams::write_next(sent, b"reconcile: standard output", &out[..end])
-}
-
-// Writes a line to standard output.
-pub(crate) fn write_line(sent: Sent, line: Line) -> Sent {
     let bytes = line.bytes;
-    write_first(sent, &bytes, line.length)
+    let n = line.length;
+    let nothing = streams::nothing_sent();
+    streams::write_next(nothing, b"reconcile: standard output", &bytes[..n])
 }
 
-// Tells the first n bytes of a buffer.
-pub(crate) fn tell_first(out: &[u8], n: usize) {
-    let end = within(out, n);
-    streams::tell(&out[..end]);
-}
-
-// Tells a line.
-pub(crate) fn tell(line: Line) {
+// Tells a line after what was told, which has to be that of the counts.
+pub(crate) fn tell_last(kept: Reading, file: &[u8], p: Printed, line: Line) -> Told
+    requires { ⌜ (length (summaryText (recordCount (now file)) (kept .state .rows) (p .lines) (kept .bad)) < 64) × LineWith emptyLine (summaryText (recordCount (now file)) (kept .state .rows) (p .lines) (kept .bad)) line ⌝ }
+    ensures { λ r. ⌜ Grew (kept .told .bytes) (length (summaryText (recordCount (now (file .entry))) (kept .state .rows) (p .lines) (kept .bad))) (r .bytes) ⌝ }
+{
     let bytes = line.bytes;
-    tell_first(&bytes, line.length);
+    let n = line.length;
+    streams::tell_next(kept.told, &bytes[..n])
+}
+
+// Tells a line, which has to be all that is told of a file and notices of which no rows are judged.
+pub(crate) fn tell(file: &[u8], text: &[u8], line: Line)
+    requires { ⌜ (length (reconcileTold (now file) (now text) []) < 64) × LineWith emptyLine (reconcileTold (now file) (now text) []) line ⌝ }
+{
+    let bytes = line.bytes;
+    let n = line.length;
+    streams::tell(&bytes[..n]);
 }

@@ -1,0 +1,262 @@
+-- The pieces that a run writes and tells, in their order, make up the two texts of the definition.
+-- Assumes nothing.
+use mathlib.Core.Path.{_≡_, refl, sym, ap, _∙_, fun-ext}
+use mathlib.Core.Bool.{Bool, true, false, not, _&&_, cond}
+use mathlib.Core.List.{List, [], _∷_, _++_, append-nil}
+use mathlib.Core.Logic.{_⊎_, inl, inr}
+use Prim.Native.Nat.{ℕ, zero, suc, _+_, _*_, _%_, _^_, _≤_, _<_}
+use native.Mathlib.Omega.{arith}
+use lib.Dec.{eqb, ltb}
+use lib.ListN.{length, length-append}
+use borrow.Author.Tests.{eq-eqb, lt-ltb, le-ltb}
+use Rattle.questions.specs.Questions.{Answer, answer, firstNo}
+use Rattle.questions.proofs.Bools.{lt-or-ge}
+use Rattle.calendar.specs.declared.Calendar.{Calendar}
+use Rattle.streams.specs.Transfers.{Grew}
+use Rattle.streams.specs.declared.output.Sent.{Sent}
+use Rattle.file_ids.specs.Ids.{placeCount, recordCount}
+use Rattle.file_load.specs.Load.{loadAsks, judgeCall}
+use Rattle.table.specs.declared.Outcome.{Outcome}
+use Rattle.table.specs.Table.{openIn, openCall}
+use Rattle.table.proofs.Opens.{open-is}
+use Rattle.session_lines.specs.CommandLines.{linesFrom}
+use Rattle.delivery_lines.specs.NoticeLines.{unmarked}
+use Rattle.delivery_notices.specs.declared.NoticesTaken.{NoticesTaken}
+use Rattle.delivery_notices.specs.Notices as notice
+use Rattle.delivery_notices.specs.Notices.{textTold}
+use Rattle.delivery_parts.specs.PlaceParts.{partsText}
+use Rattle.delivery_parts.specs.Handing.{Runs}
+use Rattle.delivery_parts.proofs.Handing.{count-few}
+use Rattle.delivery_reports.specs.Reports.{differencesHeading}
+use Rattle.delivery_items.specs.declared.ItemRead.{ItemRead}
+use Rattle.delivery_items.specs.declared.LineRead.{LineRead}
+use Rattle.delivery_items.specs.Items.{lineRead}
+use Rattle.delivery_receipts.specs.Receipts.{Receipt, Sort, ended, empty, heading, bad, tooMany, good, receivedOf, sortOf, lineBrought, lineReceived, linesReceived, noReceipt, receiptOf}
+use Rattle.delivery_receipts.specs.Receiving.{Lists, receivedTo, receiptIn, firstUnknown}
+use Rattle.delivery_receipts.proofs.RowsSoFar.{good-room}
+use Rattle.delivery_inputs.specs.ReconcileInputs.{badRowsText, badsCounted}
+use Rattle.delivery_reconciled.specs.Reconciled.{sumTo, keysAt, placeText, strangerText, isStranger, differencesText, differCount, openingText, summaryText, lastText, toldText, reconcileText, reconcileTold}
+use Rattle.delivery_reconciled.specs.Standings.{idRowText, rowCount}
+use Rattle.delivery_reconciled.proofs.RowIds.{received-count, strangers-are, strangers-counted}
+use Rattle.delivery_reading.specs.declared.Reading.{Reading}
+use Rattle.delivery_reading.specs.Reading.{RowsIn}
+use Rattle.delivery_judging.specs.declared.Printed.{Printed}
+use Rattle.delivery_judging.specs.Judging.{Held, PlacesOut, StrangersOut}
+use Rattle.delivery_reconciling.specs.ReconcileRuns.{ProductsOut, DifferencesOut, ReconcileRan}
+
+-- ---- no more than 65,536 rows are received
+
+brought-few : (room : ℕ) (k : Sort) (s : Receipt) (i : ItemRead) → length (s .rows) ≤ room → (k ≡ good → length (s .rows) < room) → length (lineBrought k s i .rows) ≤ room
+unfolding lineBrought
+brought-few room ended s i h g = h
+brought-few room empty s i h g = h
+brought-few room heading s i h g = h
+brought-few room bad s i h g = h
+brought-few room tooMany s i h g = h
+brought-few room good s i h g = omega (arith, g refl, length-append (s .rows) (receivedOf i ∷ []))
+
+lines-few : (room : ℕ) (f : List ℕ) (s : Receipt) (lines : List (List ℕ)) → length (s .rows) ≤ room → length (linesReceived room f s lines .rows) ≤ room
+unfolding linesReceived lineReceived
+lines-few room f s [] h = h
+lines-few room f s (line ∷ lines) h =
+    lines-few room f (lineReceived room f s (lineRead line)) lines
+    (brought-few room (sortOf room f (s .over) (s .begun) (length (s .rows)) (lineRead line)) s (lineRead line .item) h
+    (good-room room f (s .over) (s .begun) (length (s .rows)) (lineRead line)))
+
+received-few : (f input : List ℕ) → length (receiptOf f input .rows) ≤ 65536
+unfolding receiptOf
+received-few f input = lines-few 65536 f noReceipt (linesFrom [] (unmarked input)) (omega arith)
+
+-- there are at most 65,536 good rows
+pub rows-few : (f : List ℕ) (told : ℕ) (a : Lists) (n : ℕ) (s : Reading) → RowsIn f told a n s → s .state .rows ≤ 65536
+rows-few f told a n s x =
+    omega (
+      arith,
+      received-few f (x .input),
+      ap (λ (r : Receipt). length (r .rows)) (x .is),
+      received-count a (s .state .rows),
+    )
+
+counted-few : (n : ℕ) → badsCounted n < 1000000000
+unfolding badsCounted
+counted-few n = go (lt-or-ge n 999999999)
+  where
+    go : (n < 999999999) ⊎ (999999999 ≤ n) → cond (ltb n 999999999) n 999999999 < 1000000000
+    go (inl l) = rw (lt-ltb n 999999999 l) (omega arith)
+    go (inr l) = rw (le-ltb n 999999999 l) (omega arith)
+
+-- the count of bad lines has at most nine digits
+pub bads-few : (f : List ℕ) (told : ℕ) (a : Lists) (n : ℕ) (s : Reading) → RowsIn f told a n s → s .bad < 1000000000
+bads-few f told a n s x = omega (arith, x .tells .count, counted-few (length (x .bads)))
+
+-- ---- the lines of the ids that are not in the file
+
+count-one : (f ids : List ℕ) (i : ℕ) → rowCount f ids i ≤ 1
+unfolding rowCount
+count-one f ids i = go (firstUnknown f ids i)
+  where
+    go : (b : Bool) → cond b 1 0 ≤ 1
+    go true = omega arith
+    go false = omega arith
+
+sum-few : (f ids : List ℕ) (n : ℕ) → sumTo (rowCount f ids) n ≤ n
+unfolding sumTo
+sum-few f ids zero = omega arith
+sum-few f ids (suc n) = omega (arith, sum-few f ids n, count-one f ids n)
+
+-- they are no more than the rows
+pub strangers-few : (f ids : List ℕ) (n : ℕ) (s : Sent) (r : Printed) → StrangersOut f ids n s r → r .lines ≤ n
+strangers-few f ids n s r x = omega (arith, x .lines, sum-few f ids n)
+
+-- ---- what is written
+
+module _ (f notices : List ℕ) (verdict : Answer Calendar) (t : NoticesTaken) (calls ids : List ℕ) (g : Runs f notices verdict t calls ids) where
+  own-opening : openIn verdict f ≡ openCall f
+  own-opening = ap (λ (v : Answer Calendar). openIn v f) (g .own) ∙ fun-ext (λ id. fun-ext (λ date. open-is f id date))
+
+  module _ (a : Lists) (rows places : ℕ) (most : rows ≤ 65536) (room : rows ≤ places) where
+    held : Held (t .date) (t .count) calls ids rows places (textTold notices)
+    held =
+        record {
+          few = omega (arith, count-few notices calls ids t (g .held));
+          most = most;
+          room = room;
+          dated = ap (λ (x : notice.Told). x .date) (g .held);
+          notices = ap (λ (x : notice.Told). x .notices) (g .held);
+        }
+
+    -- the lines of all products after the heading
+    pub products-out : (headed : Sent) → (headed .open ≡ true → Grew 0 (length differencesHeading) (headed .bytes))
+        → (r : Printed) → PlacesOut (openIn verdict f) f (t .date) (t .count) calls ids a rows places (placeCount f) headed r → ProductsOut f notices a rows r
+    products-out headed h r y =
+        let x : PlacesOut (openCall f) f (t .date) (t .count) calls ids a rows places (placeCount f) headed r = rw own-opening at y in
+        record {
+          text = λ o.
+              let w = x .text (textTold notices) held o in
+              omega (arith, w .1, h (w .0), length-append differencesHeading (partsText (placeText (openCall f) f (textTold notices) (receivedTo a rows)) (placeCount f)));
+          lines = x .lines (textTold notices) held;
+          few = x .few;
+        }
+
+module _ (f notices : List ℕ) (a : Lists) (rows : ℕ) where
+  whole-text : length (differencesText (openCall f) f (textTold notices) (receivedTo a rows))
+      ≡ length (differencesHeading ++ partsText (placeText (openCall f) f (textTold notices) (receivedTo a rows)) (placeCount f)) + length (partsText (idRowText f (a .ids)) rows)
+  unfolding differencesText
+  whole-text =
+      let places = partsText (placeText (openCall f) f (textTold notices) (receivedTo a rows)) (placeCount f) in
+      let others = partsText (strangerText f (receivedTo a rows)) (length (receivedTo a rows)) in
+      omega (
+        arith,
+        length-append differencesHeading (places ++ others),
+        length-append places others,
+        length-append differencesHeading places,
+        ap length (strangers-are f a rows),
+      )
+
+  whole-count : sumTo (λ p. length (keysAt (openCall f) f (textTold notices) (receivedTo a rows) p)) (placeCount f) + sumTo (rowCount f (a .ids)) rows
+      ≡ differCount (openCall f) f (textTold notices) (receivedTo a rows)
+  unfolding differCount
+  whole-count =
+      ap (λ (n : ℕ). sumTo (λ p. length (keysAt (openCall f) f (textTold notices) (receivedTo a rows) p)) (placeCount f) + n) (sym (strangers-counted f a rows))
+
+  -- the lines of the ids that are not in the file, after those of the products
+  pub differences-out : (p : Printed) → ProductsOut f notices a rows p → (o : Printed) → StrangersOut f (a .ids) rows (p .sent) o
+      → DifferencesOut f notices a rows (record { sent = o .sent; lines = p .lines + o .lines })
+  differences-out p x o y =
+      record {
+        text = λ e. let w = y .text e in omega (arith, w .1, x .text (w .0), whole-text);
+        lines = ap (λ (n : ℕ). n + o .lines) (x .lines)
+            ∙ ap (λ (n : ℕ). sumTo (λ q. length (keysAt (openCall f) f (textTold notices) (receivedTo a rows) q)) (placeCount f) + n) (y .lines)
+            ∙ whole-count;
+        few = omega (arith, x .few, strangers-few f (a .ids) rows (p .sent) o y);
+      }
+
+-- ---- the whole run
+
+grew-then : (n m k a b : ℕ) → Grew n a m → Grew m b k → Grew n (a + b) k
+grew-then n m k a b x y = omega (arith, x, y)
+
+last-none : (opening : List ℕ → ℕ → Outcome) (f : List ℕ) (t : notice.Told) (r : Receipt) → r .over ≡ true → lastText opening f t r ≡ []
+unfolding lastText
+last-none opening f t r e = rw e refl
+
+last-some : (opening : List ℕ → ℕ → Outcome) (f : List ℕ) (t : notice.Told) (r : Receipt) → r .over ≡ false
+    → lastText opening f t r ≡ summaryText (recordCount f) (length (r .rows)) (differCount opening f t (r .rows)) (badsCounted (length (r .bads)))
+unfolding lastText
+last-some opening f t r e = rw e refl
+
+first-is : (f : List ℕ) (verdict : Answer Calendar) → verdict ≡ judgeCall f → verdict .refusal ≡ firstNo (loadAsks f)
+unfolding judgeCall answer
+first-is f verdict e = ap (λ (a : Answer Calendar). a .refusal) e
+
+module _ (f notices : List ℕ) (verdict : Answer Calendar) (t : NoticesTaken) (calls ids : List ℕ) (g : Runs f notices verdict t calls ids) where
+  accepted : eqb (firstNo (loadAsks f)) 0 ≡ true
+  accepted = eq-eqb (firstNo (loadAsks f)) 0 (sym (first-is f verdict (g .own)) ∙ g .accepted)
+
+  none-bad : eqb (textTold notices .bad) 0 ≡ true
+  none-bad = eq-eqb (textTold notices .bad) 0 (sym (ap (λ (x : notice.Told). x .bad) (g .held)) ∙ g .good)
+
+  text-of : (input : List ℕ) → reconcileText f notices input
+      ≡ cond (not (receiptOf f input .over)) (differencesText (openCall f) f (textTold notices) (receiptOf f input .rows)) []
+  unfolding reconcileText
+  text-of input = rw (accepted, none-bad) refl
+
+  told-of : (input : List ℕ) → reconcileTold f notices input ≡ toldText (openCall f) f (textTold notices) (receiptOf f input)
+  unfolding reconcileTold
+  told-of input = rw (accepted, none-bad) refl
+
+  openings-own : partsText (openingText (openIn verdict f) f (t .opened) (t .date)) (placeCount f)
+      ≡ partsText (openingText (openCall f) f (textTold notices .opened) (textTold notices .date)) (placeCount f)
+  openings-own =
+      rw (own-opening f notices verdict t calls ids g, ap (λ (x : notice.Told). x .opened) (g .held), ap (λ (x : notice.Told). x .date) (g .held)) refl
+
+  module _ (opened : ℕ) (o : Grew 0 (length (partsText (openingText (openIn verdict f) f (t .opened) (t .date)) (placeCount f))) opened)
+      (a : Lists) (n : ℕ) (s : Reading) (x : RowsIn f opened a n s) where
+    over-is : s .state .over ≡ receiptOf f (x .input) .over
+    over-is = ap (λ (r : Receipt). r .over) (x .is)
+
+    told-long : length (reconcileTold f notices (x .input))
+        ≡ length (partsText (openingText (openIn verdict f) f (t .opened) (t .date)) (placeCount f))
+        + (length (badRowsText (x .bads)) + length (lastText (openCall f) f (textTold notices) (receiptIn (s .state) a (x .bads))))
+    unfolding toldText
+    told-long =
+        let openings = partsText (openingText (openCall f) f (textTold notices .opened) (textTold notices .date)) (placeCount f) in
+        let last = lastText (openCall f) f (textTold notices) (receiptIn (s .state) a (x .bads)) in
+        let whole : reconcileTold f notices (x .input) ≡ openings ++ (badRowsText (x .bads) ++ last) = told-of (x .input) ∙ rw (← x .is) refl in
+        omega (arith, ap length whole, length-append openings (badRowsText (x .bads) ++ last), length-append (badRowsText (x .bads)) last, ap length openings-own)
+
+    -- where there were too many rows nothing is written, and no counts are told
+    pub ran-over : s .state .over ≡ true → (bytes : ℕ) → bytes ≡ 0 → (taken : Bool) → ReconcileRan f notices n taken bytes (s .told .bytes)
+    ran-over e bytes z taken =
+        record {
+          input = x .input;
+          count = x .count;
+          text = λ y. omega (arith, z, ap length none-written);
+          said = λ y. omega (arith, o, x .tells .text, told-long, ap length none-last);
+        }
+      where
+        none-written : reconcileText f notices (x .input) ≡ []
+        none-written = text-of (x .input) ∙ rw (← over-is, e) refl
+
+        none-last : lastText (openCall f) f (textTold notices) (receiptIn (s .state) a (x .bads)) ≡ []
+        none-last = last-none (openCall f) f (textTold notices) (receiptIn (s .state) a (x .bads)) e
+
+    -- else the differences are written, and the counts told last
+    pub ran-all : s .state .over ≡ false → (p : Printed) → DifferencesOut f notices a (s .state .rows) p → (told : ℕ)
+        → (p .sent .open ≡ true → Grew (s .told .bytes) (length (summaryText (recordCount f) (s .state .rows) (p .lines) (s .bad))) told)
+        → ReconcileRan f notices n (p .sent .open) (p .sent .bytes) told
+    ran-all e p d told w =
+        record {
+          input = x .input;
+          count = x .count;
+          text = λ y. omega (arith, d .text y, ap length all-written);
+          said = λ y. rw (told-long, ap length the-counts) (grew-then 0 opened told _ _ o (grew-then opened (s .told .bytes) told _ _ (x .tells .text) (w y)));
+        }
+      where
+        all-written : reconcileText f notices (x .input) ≡ differencesText (openCall f) f (textTold notices) (receivedTo a (s .state .rows))
+        all-written = text-of (x .input) ∙ rw (← x .is, e) refl
+
+        the-counts : lastText (openCall f) f (textTold notices) (receiptIn (s .state) a (x .bads)) ≡ summaryText (recordCount f) (s .state .rows) (p .lines) (s .bad)
+        the-counts =
+            last-some (openCall f) f (textTold notices) (receiptIn (s .state) a (x .bads)) e
+            ∙ rw (received-count a (s .state .rows), d .lines, x .tells .count) refl

@@ -1,0 +1,33 @@
+-- The heading, the products, the unknown ids.
+use borrow.Author.Needs.{needs}
+use Rattle.reconcile.proofs.print_all.Statement.{statement}
+use Rattle.reconcile.proofs.print_all.Tie as tie
+
+heading-line-requires : tie.Need-heading-line-requires
+heading-line-requires c κs = search needs
+
+write-heading-requires : tie.Need-write-heading-requires
+write-heading-requires c κs = search needs
+
+print-products-requires : tie.Need-print-products-requires
+print-products-requires c κs = search needs
+
+print-others-requires : tie.Need-print-others-requires
+print-others-requires c κs = (c .before .before .before .before .before .before .before .before .before .before .before .before .before .before .before .before .before .pre .0 .size, c .before .before .before .before .before .before .before .before .before .before .before .before .before .before .before .before .before .pre .1, c .before .before .print-products .ensures)
+
+same-length : tie.Need-same-length
+same-length c = search needs
+
+returns : tie.Need-returns
+returns c = search needs
+
+pub print-all-spec : {M : Type 1} → statement M
+print-all-spec =
+    tie.close
+    (tie.spec
+    heading-line-requires
+    write-heading-requires
+    print-products-requires
+    print-others-requires
+    same-length
+    returns)
