@@ -281,6 +281,15 @@ static void set(void) {
     else exit(3);
 }
 
+/* The bytes of the table, those that are not used zeros, and back. */
+static void print_stored(void) {
+    uint8_t bytes[sizeof table];
+    memcpy(bytes, &table, sizeof table);
+    memset(bytes + offsetof(scullpouch_product, tick) + 2, 0, 2);
+    memcpy(&table, bytes, sizeof table);
+    printf("%lu\n", sum_of(bytes, sizeof bytes));
+}
+
 static void keep(void) { kept = table; }
 static void restore(void) { table = kept; }
 static void take_calendar(void) { calendar = table.calendar; }
@@ -376,6 +385,58 @@ static void call_write(void) {
 
 static void print_marked(void) { printf("%d\n", scullpouch_marked_after_cover(&calendar)); }
 
+/* ---- A calendar by its days ---- */
+
+static void print_trades(void) { printf("%d\n", scullpouch_calendar_trades(&calendar, (uint16_t)number[0])); }
+
+static void print_changed(unsigned refusal) {
+    printf("%u", refusal);
+    print_calendar(&calendar);
+    putchar('\n');
+}
+
+static void close_day(void) { print_changed(scullpouch_calendar_close(&calendar, (uint16_t)number[0])); }
+static void reopen_day(void) { print_changed(scullpouch_calendar_reopen(&calendar, (uint16_t)number[0])); }
+
+/* ---- Texts. The room is as long as the text may be, so that a byte too many is seen ---- */
+
+static void print_text(size_t room, const char *text) {
+    if (strlen(text) >= room) exit(3);
+    puts(text);
+}
+
+static void print_day(void) {
+    char text[SCULLPOUCH_DAY_TEXT];
+    print_text(sizeof text, scullpouch_day_text(text, (uint16_t)number[0]));
+}
+
+static void print_month(void) {
+    char text[SCULLPOUCH_MONTH_TEXT];
+    print_text(sizeof text, scullpouch_month_text(text, (uint16_t)number[0]));
+}
+
+static void print_key(void) {
+    char text[SCULLPOUCH_DAY_TEXT];
+    print_text(sizeof text, scullpouch_key_text(text, (uint8_t)number[0], (uint16_t)number[1]));
+}
+
+static void print_decimal(void) {
+    char text[SCULLPOUCH_DECIMAL_TEXT];
+    print_text(sizeof text, scullpouch_decimal_text(text, (uint32_t)number[0]));
+}
+
+static void read_decimal(void) {
+    uint32_t found = 0;
+    bool read = scullpouch_decimal_of(word, &found);
+    printf("%d %lu\n", read, (unsigned long)found);
+}
+
+static void print_amount(void) {
+    char text[SCULLPOUCH_AMOUNT_TEXT];
+    scullpouch_amount amount = {number[0] != 0, number[1], (uint16_t)number[2]};
+    print_text(sizeof text, scullpouch_amount_text(text, amount));
+}
+
 /* ---- A delivery ---- */
 
 static void print_product(const scullpouch_product *p) {
@@ -396,6 +457,19 @@ static void call_product(void) {
     printf("%d ", r.refusal);
     print_product(&r.product);
     putchar('\n');
+}
+
+/* The products of the file: how many, and the sum of their records. */
+static void call_products(void) {
+    static scullpouch_products_list list;
+    static uint8_t records[SCULLPOUCH_PRODUCTS * SCULLPOUCH_RECORD];
+    uint8_t *bytes = lent(file, file_length);
+    list.count = 0;
+    unsigned refusal = scullpouch_products_into(&list, bytes, file_length);
+    free(bytes);
+    for (size_t i = 0; i < list.count; i++)
+        memcpy(records + SCULLPOUCH_RECORD * i, scullpouch_record(list.products[i]).bytes, SCULLPOUCH_RECORD);
+    printf("%u %zu %lu\n", refusal, list.count, sum_of(records, SCULLPOUCH_RECORD * list.count));
 }
 
 /* The notices are kept where no line is bad. Lists that are one element too short get nothing. */
@@ -644,7 +718,10 @@ static const struct {
     {"handle", false, call_handle}, {"join", false, call_join}, {"leave", false, call_leave},
     {"product", false, call_product}, {"notices", true, call_notices}, {"deliver", true, call_deliver},
     {"rows", false, call_rows}, {"delivery", false, call_delivery}, {"differences", true, call_differences},
-    {"time", false, time_rolls},
+    {"products", false, call_products}, {"stored", false, print_stored}, {"trades", false, print_trades},
+    {"calendar_close", false, close_day}, {"calendar_reopen", false, reopen_day}, {"day_text", false, print_day},
+    {"month_text", false, print_month}, {"key_text", false, print_key}, {"decimal", false, print_decimal},
+    {"read_decimal", true, read_decimal}, {"amount", false, print_amount}, {"time", false, time_rolls},
 };
 
 static void answer(char *line) {

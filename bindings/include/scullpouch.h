@@ -43,6 +43,13 @@ extern "C" {
 #define SCULLPOUCH_YEAR_MAP 46
 #define SCULLPOUCH_TABLES 200
 #define SCULLPOUCH_WEEKLY 5 /* the kind whose keys are days */
+#define SCULLPOUCH_PRODUCTS 1905 /* the most products of a file */
+
+/* Room for the texts of a day, a month or a key, a number of ten-thousandths and an amount, with their zero at the end. */
+#define SCULLPOUCH_DAY_TEXT 11
+#define SCULLPOUCH_MONTH_TEXT 8
+#define SCULLPOUCH_DECIMAL_TEXT 12
+#define SCULLPOUCH_AMOUNT_TEXT 27
 
 /* Of a delivery. The lists and buffers that a call fills have room for so many elements, or more. */
 #define SCULLPOUCH_NOTICES 6554     /* the most notices of a text: the bytes of their refusals */
@@ -577,6 +584,148 @@ static inline unsigned scullpouch_make_into(scullpouch_calendar *calendar, uint3
     return m.refusal;
 }
 
+/* ---- Texts: short C over the proved calls. Each answers the text that it was handed room for ---- */
+
+/* No call: writes a number with at least so many digits and a zero after it, and answers where the zero stands. */
+static inline char *scullpouch_put_number(char *at, uint64_t number, unsigned digits) {
+    char back[20];
+    unsigned n = 0;
+    do {
+        back[n++] = (char)('0' + number % 10);
+        number /= 10;
+    } while (number != 0 || n < digits);
+    while (n != 0) *at++ = back[--n];
+    *at = 0;
+    return at;
+}
+
+/* A day as 2008-03-20, one after 2099 as 0000-00-00, in SCULLPOUCH_DAY_TEXT bytes. */
+static inline char *scullpouch_day_text(char *text, uint16_t day) {
+    scullpouch_date_reply date = scullpouch_date(day);
+    char *at = scullpouch_put_number(text, date.year, 4);
+    *at = '-';
+    at = scullpouch_put_number(at + 1, date.month, 2);
+    *at = '-';
+    scullpouch_put_number(at + 1, date.day, 2);
+    return text;
+}
+
+/* A month as 2008-03, in SCULLPOUCH_MONTH_TEXT bytes. */
+static inline char *scullpouch_month_text(char *text, uint16_t month) {
+    char *at = scullpouch_put_number(text, 2000u + month / 12u, 4);
+    *at = '-';
+    scullpouch_put_number(at + 1, month % 12u + 1u, 2);
+    return text;
+}
+
+/* The key of a maturity of a kind: its month, or the Friday of a weekly option, in SCULLPOUCH_DAY_TEXT bytes. */
+static inline char *scullpouch_key_text(char *text, uint8_t kind, uint16_t key) {
+    return kind == SCULLPOUCH_WEEKLY ? scullpouch_day_text(text, key) : scullpouch_month_text(text, key);
+}
+
+/* A number of ten-thousandths, as a price, a tick or a size, as 12.3400, in SCULLPOUCH_DECIMAL_TEXT bytes. */
+static inline char *scullpouch_decimal_text(char *text, uint32_t number) {
+    char *at = scullpouch_put_number(text, number / 10000u, 1);
+    *at = '.';
+    scullpouch_put_number(at + 1, number % 10000u, 4);
+    return text;
+}
+
+/* The ten-thousandths of digits, perhaps with a point and one to four digits after it; false, and nothing is written,
+ * for another text and for one that is above 429496.7295. */
+static inline bool scullpouch_decimal_of(const char *text, uint32_t *number) {
+    uint64_t sum = 0;
+    unsigned digits = 0, after = 0;
+    bool point = false;
+    for (; *text != 0; text++) {
+        if (*text == '.' && !point && digits != 0) {
+            point = true;
+            continue;
+        }
+        if (*text < '0' || *text > '9' || after == 4 || sum > UINT32_MAX) return false;
+        sum = 10 * sum + (uint64_t)(*text - '0');
+        digits++;
+        after += point;
+    }
+    if (digits == 0 || (point && after == 0)) return false;
+    for (; after < 4; after++) sum *= 10;
+    if (sum > UINT32_MAX) return false;
+    *number = (uint32_t)sum;
+    return true;
+}
+
+/* An amount in the currency as 48.00000000, -0.00000001, zero without a sign, in SCULLPOUCH_AMOUNT_TEXT bytes. */
+static inline char *scullpouch_amount_text(char *text, scullpouch_amount amount) {
+    uint64_t parts = amount.amount % 10000 + amount.rest / 10000;
+    char *at = text;
+    if (amount.negative && (amount.amount != 0 || amount.rest != 0)) *at++ = '-';
+    at = scullpouch_put_number(at, amount.amount / 10000 + parts / 10000, 1);
+    *at = '.';
+    at = scullpouch_put_number(at + 1, parts % 10000, 4);
+    scullpouch_put_number(at, amount.rest % 10000u, 4);
+    return text;
+}
+
+/* ---- A calendar by its days: short C over the proved calls ---- */
+
+/* No call: the place of a day's bit in both maps; SIZE_MAX where the day is not in the cover. */
+static inline size_t scullpouch_calendar_place(const scullpouch_calendar *calendar, uint16_t day) {
+    scullpouch_date_reply date = scullpouch_date(day);
+    int year = date.year - calendar->cover.first_year;
+    if (date.refusal != 0 || year < 0 || year >= calendar->cover.years) return SIZE_MAX;
+    return 8u * SCULLPOUCH_YEAR_MAP * (size_t)year + (size_t)(day - scullpouch_day(date.year, 1, 1).day);
+}
+
+/* No call: whether the day of a place is closed; none is after the maps' end. */
+static inline bool scullpouch_calendar_is_closed(const scullpouch_calendar *calendar, size_t place) {
+    return place / 8 < SCULLPOUCH_MAP && (calendar->closed[place / 8] & (128u >> place % 8)) != 0;
+}
+
+/* No call: Monday to Friday. Day 0 is a Saturday. */
+static inline bool scullpouch_is_weekday(uint16_t day) { return (day + 5) % 7 < 5; }
+
+/* What scullpouch_write would refuse of a calendar, 3-6; 0 where it is right. Write is handed one record that is right
+ * and no room for the file, so that 25 says that all else is right. */
+static inline unsigned scullpouch_calendar_refusal(const scullpouch_calendar *calendar) {
+    const scullpouch_product product = {
+        {'A', ' ', ' ', ' '}, {'A', 'A', '0', '0'}, {'A', 'A', 'A', 'A'}, 0, {'E', 'U', 'R'}, 10000, 1};
+    scullpouch_record_bytes record = scullpouch_record(product);
+    uint8_t none = 0;
+    unsigned refusal = scullpouch_write(*calendar, record.bytes, SCULLPOUCH_RECORD, &none, 0).refusal;
+    return refusal == 25 ? 0 : refusal;
+}
+
+/* Whether a day is a trading day: a Monday to Friday in the cover that is not closed. */
+static inline bool scullpouch_calendar_trades(const scullpouch_calendar *calendar, uint16_t day) {
+    size_t place = scullpouch_calendar_place(calendar, day);
+    return place != SIZE_MAX && scullpouch_is_weekday(day) && !scullpouch_calendar_is_closed(calendar, place);
+}
+
+/* Closes a trading day. 3-6 of the calendar, 11, 14, 15; refused, the calendar is as it was. */
+static inline unsigned scullpouch_calendar_close(scullpouch_calendar *calendar, uint16_t day) {
+    size_t place = scullpouch_calendar_place(calendar, day);
+    unsigned refusal = scullpouch_calendar_refusal(calendar);
+    if (refusal != 0) return refusal;
+    if (place == SIZE_MAX) return 11;
+    if (!scullpouch_calendar_trades(calendar, day)) return 14;
+    calendar->closed[place / 8] = (uint8_t)(calendar->closed[place / 8] ^ (128u >> place % 8));
+    if (scullpouch_calendar_refusal(calendar) == 0) return 0;
+    calendar->closed[place / 8] = (uint8_t)(calendar->closed[place / 8] ^ (128u >> place % 8));
+    return 15;
+}
+
+/* Opens a closed day again, in both maps. 3-6 of the calendar, 11, 26; refused, the calendar is as it was. */
+static inline unsigned scullpouch_calendar_reopen(scullpouch_calendar *calendar, uint16_t day) {
+    size_t place = scullpouch_calendar_place(calendar, day);
+    unsigned refusal = scullpouch_calendar_refusal(calendar), others = 255u ^ (128u >> place % 8);
+    if (refusal != 0) return refusal;
+    if (place == SIZE_MAX) return 11;
+    if (!scullpouch_is_weekday(day) || !scullpouch_calendar_is_closed(calendar, place)) return 26;
+    calendar->closed[place / 8] = (uint8_t)(calendar->closed[place / 8] & others);
+    calendar->exchange[place / 8] = (uint8_t)(calendar->exchange[place / 8] & others);
+    return 0;
+}
+
 /* ---- A delivery by pointers ---- */
 
 /* The notices of a text, 164 KB. */
@@ -609,6 +758,23 @@ static inline unsigned scullpouch_product_at_into(scullpouch_product *product, c
     scullpouch_product_reply r = scullpouch_product_at(file, length, place);
     if (r.refusal == 0) *product = r.product;
     return r.refusal;
+}
+
+/* The products of a file in its order, 46 KB. */
+typedef struct {
+    size_t count;
+    scullpouch_product products[SCULLPOUCH_PRODUCTS];
+} scullpouch_products_list;
+
+/* 1-8 */
+static inline unsigned scullpouch_products_into(scullpouch_products_list *list, const uint8_t *file, size_t length) {
+    unsigned refusal = scullpouch_load(file, length).refusal;
+    size_t count = 0;
+    if (refusal != 0) return refusal;
+    for (size_t place = 0; place < scullpouch_places(length) && count < SCULLPOUCH_PRODUCTS; place++)
+        if (scullpouch_product_at_into(&list->products[count], file, length, place) == 0) count++;
+    list->count = count;
+    return 0;
 }
 
 /* 0, or the number of the first bad line. */

@@ -11,7 +11,7 @@ await scullpouch.start();
 
 const { LAYOUT, Table } = scullpouch;
 const LOOPS = 50;
-const TEXTS = ['file', 'open', 'open_in', 'set', 'write', 'notices', 'deliver', 'differences']; // the commands whose first word is a text
+const TEXTS = ['file', 'open', 'open_in', 'set', 'write', 'notices', 'deliver', 'differences', 'read_decimal']; // the commands whose first word is a text
 const TABLE = LAYOUT.table[1], ONE = LAYOUT.maturity;
 const ZERO_TABLE = Table.from_bytes(new Uint8Array(LAYOUT.table[0]));
 const hex = bytes => Buffer.from(bytes).toString('hex');
@@ -75,8 +75,29 @@ const commands = {
   day: (...date) => asked(() => scullpouch.day(...date), 0),
   date: day => asked(() => scullpouch.date(day), [0, 0, 0]).flat(),
 
+  // ---- Texts ----
+
+  // a day that is none is a refusal here, and 0000-00-00 in the other languages
+  day_text: day => [asked(() => scullpouch.date_text(day), '0000-00-00')[1]],
+  month_text: month => [scullpouch.month_text(month)],
+  key_text: (kind, key) => [asked(() => new scullpouch.Product({ kind }).key_text(key), '0000-00-00')[1]],
+  decimal: number => [scullpouch.decimal_text(number)],
+  read_decimal: word => {
+    try {
+      return [1, scullpouch.decimal_of(word)];
+    } catch (error) {
+      if (error instanceof RangeError) return [0, 0];
+      throw error;
+    }
+  },
+  amount: (negative, amount, rest) => [scullpouch.amount_text({ negative: negative !== 0, amount: BigInt(amount), rest })],
+
   // ---- Files ----
 
+  products: () => {
+    const [refusal, one] = asked(() => new scullpouch.Master(bytes)), records = one ? one.products.map(product => product.record()) : [];
+    return [refusal, records.length, sum_of(Buffer.concat(records))];
+  },
   file: name => { bytes = readFileSync(name); },
   load: () => { const [refusal, counts] = asked(() => scullpouch.load(bytes), { years: 0, records: 0 }); return [refusal, counts.years, counts.records]; },
   judge_file: () => {
@@ -95,6 +116,9 @@ const commands = {
     return [refusal, length, sum_of(buffer)];
   },
   marked: () => [Number(days.marked_after_cover())],
+  trades: day => [Number(days.trades(day))],
+  calendar_close: day => [asked(() => days.close(day))[0], ...calendar_words(days)],
+  calendar_reopen: day => [asked(() => days.reopen(day))[0], ...calendar_words(days)],
 
   // ---- Tables ----
 
@@ -135,6 +159,7 @@ const commands = {
     for (let i = 0; i < size; i++) data[from + i] = Math.floor(number / 256 ** i);
     held = Table.from_bytes(data, held.moved);
   },
+  stored: () => { const data = held.to_bytes(); held = Table.from_bytes(data, held.moved); return [sum_of(data)]; },
   keep: () => { kept = held.copy(); },
   restore: () => { held = kept.copy(); },
   calendar: () => { days = held.calendar; },

@@ -2,6 +2,8 @@
 
 /** A day: a number from 0, 1 January 2000, or a text as 2008-03-20. */
 export type Day = number | string;
+/** A price: a number of 1/10,000 of the currency, or a text as 12.34. */
+export type Price = number | string;
 /** Bytes: an ArrayBuffer or any view of one. */
 export type Bytes = ArrayBuffer | ArrayBufferView;
 /** How many maturities entered and left. */
@@ -52,6 +54,10 @@ export function kit(): string;
 export function day(year: number, month: number, day: number): number;
 export function date(day: Day): [year: number, month: number, day: number];
 export function date_text(day: Day): string;
+export function month_text(month: number): string;
+export function decimal_text(number: number): string;
+export function decimal_of(text: string): number;
+export function amount_text(cash: Cash): string;
 
 export function product_at(file: Bytes, place: number): Product;
 export function load(file: Bytes): Counts;
@@ -67,6 +73,9 @@ export class Calendar {
   closed: Uint8Array;
   exchange: Uint8Array;
   marked_after_cover(): boolean;
+  trades(day: Day): boolean;
+  close(day: Day): void;
+  reopen(day: Day): void;
 }
 
 export class Product {
@@ -79,6 +88,7 @@ export class Product {
   size: number;
   tick: number;
   record(): Uint8Array;
+  key_text(key: number): string;
 }
 
 export class Intake {
@@ -104,11 +114,11 @@ export class Table {
   roll(date: Day): Moved;
   close(day: Day): Moved;
   reopen(day: Day): Moved;
-  measure(p: number, q: number, price: number): number;
+  measure(p: number, q: number, price: Price): number;
   last_trading_day(key: number): { day: number; back: number };
   due(day: Day): number;
-  tick(price: number): void;
-  cash(contracts: number, agreed: number, final_price: number): Cash;
+  tick(price: Price): void;
+  cash(contracts: number, agreed: Price, final_price: Price): Cash;
   judge(numbers: Iterable<number>): Verdict;
   rows(): string;
   get product(): Product;

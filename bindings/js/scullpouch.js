@@ -6,8 +6,9 @@
 //     table.roll('2008-03-21');
 //
 // A day is a number from 0, 1 January 2000; where one is asked for, a text as 2008-03-20 is taken too. A month is a
-// number from 0, January 2000. The key of a maturity is its month, or the day of a weekly option's Friday. A call gives
-// its value or throws Refused; a refused call leaves the table, queue or load as it was. A number that does not fit its C
+// number from 0, January 2000. The key of a maturity is its month, or the day of a weekly option's Friday. A price is a
+// number of 1/10,000 of the currency; where one is asked for, a text as 12.34 is taken too. A call gives its value or
+// throws Refused; a refused call leaves the table, queue, load or calendar as it was. A number that does not fit its C
 // type, a map or a stored table of another length is a RangeError, a value of another type a TypeError. Files, records,
 // blocks, maps and stored tables are the bytes of an ArrayBuffer or of any view of one.
 //
@@ -395,6 +396,9 @@ function day_of(value) {
   return day(...match.slice(1).map(Number));
 }
 
+// The ten-thousandths of a number of them, or of a text as 12.34.
+const price_of = value => typeof value === 'string' ? decimal_of(value) : fit(value, 32);
+
 const getter = (prototype, name) => Object.getOwnPropertyDescriptor(prototype, name).get;
 const measures_of = prototype => ['buffer', 'byteOffset', 'byteLength'].map(name => getter(prototype, name));
 const TYPED = Object.getPrototypeOf(Uint8Array.prototype);
@@ -482,6 +486,39 @@ export function date_text(day) {
   return `${year}-${String(month).padStart(2, '0')}-${String(of_month).padStart(2, '0')}`;
 }
 
+/** A month as 2008-03. */
+export function month_text(month) {
+  const number = fit(month);
+  return `${2000 + Math.floor(number / 12)}-${String(number % 12 + 1).padStart(2, '0')}`;
+}
+
+// ---- Decimals ----
+
+// An integer with a point before so many of its digits.
+function pointed(digits, after) {
+  const padded = digits.padStart(after + 1, '0');
+  return `${padded.slice(0, -after)}.${padded.slice(-after)}`;
+}
+
+/** A number of ten-thousandths, such as a price, a tick or a size, as 12.3400. */
+export const decimal_text = number => pointed(String(fit(number, 32)), 4);
+
+/** The ten-thousandths of digits, perhaps with a point and one to four digits after it. Another text, and one above
+ * 429496.7295, is a RangeError. */
+export function decimal_of(text) {
+  if (typeof text !== 'string') throw new TypeError('a decimal is a text');
+  const match = /^([0-9]+)(?:\.([0-9]{1,4}))?$/.exec(text);
+  const number = match ? Number(match[1] + (match[2] ?? '').padEnd(4, '0')) : NaN;
+  if (!(number < 2 ** 32)) throw new RangeError(`${JSON.stringify(text)} is not a decimal as 12.34, at most 429496.7295`);
+  return number;
+}
+
+/** Cash in the currency as 48.00000000, -0.00000001, zero without a sign. */
+export function amount_text({ negative, amount, rest }) {
+  const parts = 10_000n * amount + BigInt(rest);
+  return (negative && parts > 0n ? '-' : '') + pointed(String(parts), 8);
+}
+
 // ---- Files ----
 
 const product_of = bytes => new Product({
@@ -536,7 +573,61 @@ export class Calendar {
     const bytes = calendar_bytes(this), after = YEAR_MAP * this.years;
     return ['closed', 'exchange'].some(map => get(bytes, 'calendar', map).subarray(after).some(byte => byte !== 0));
   }
+
+  // The place of a day's bit in both maps; null where the day is not in the cover.
+  #place(day) {
+    const reply = call('date', day), year = get(reply, 'date_reply', 'year'), after = year - fit(this.first_year);
+    if (get(reply, 'date_reply', 'refusal') || after < 0 || after >= fit(this.years)) return null;
+    return 8 * YEAR_MAP * after + day - get(call('day', year, 1, 1), 'day_reply', 'day');
+  }
+
+  // Whether the day of a place is closed; none is after the maps' end.
+  #is_closed(place) {
+    return ((bytes_of(this.closed)[Math.floor(place / 8)] ?? 0) & 128 >> place % 8) !== 0;
+  }
+
+  // What write would refuse of it, 3 to 6, or 0: it is handed one record that is right, and no room for the file, so that 25
+  // says that all else is right.
+  #refusal() {
+    const record = new Product({ id: 'A', group: 'AA00', market: 'AAAA', kind: 0, currency: 'EUR', size: 10_000, tick: 1 }).record();
+    const refusal = get(call('write', calendar_bytes(this), record, new Uint8Array(0)), 'written', 'refusal');
+    return refusal === 25 ? 0 : refusal;
+  }
+
+  // What close and reopen ask first; the place of the day.
+  #asked_place(day) {
+    const refusal = this.#refusal(), place = this.#place(day);
+    if (refusal || place === null) throw new Refused(refusal || 11);
+    return place;
+  }
+
+  /** Whether a day is a trading day: a Monday to Friday in the cover that is not closed. */
+  trades(day) {
+    const number = day_of(day), place = this.#place(number);
+    return place !== null && is_weekday(number) && !this.#is_closed(place);
+  }
+
+  /** Closes a trading day. It asks what write asks of a calendar (3 to 6), then 11, 14, 15. */
+  close(day) {
+    const number = day_of(day), place = this.#asked_place(number), closed = bytes_of(this.closed), at = Math.floor(place / 8);
+    if (!this.trades(number)) throw new Refused(14);
+    closed[at] ^= 128 >> place % 8;
+    if (this.#refusal()) {
+      closed[at] ^= 128 >> place % 8;
+      throw new Refused(15);
+    }
+  }
+
+  /** Opens a closed day again, in both maps. It asks what write asks of a calendar (3 to 6), then 11, 26. */
+  reopen(day) {
+    const number = day_of(day), place = this.#asked_place(number);
+    if (!is_weekday(number) || !this.#is_closed(place)) throw new Refused(26);
+    for (const map of [this.closed, this.exchange]) bytes_of(map)[Math.floor(place / 8)] &= ~(128 >> place % 8);
+  }
 }
+
+// Monday to Friday. Day 0 is a Saturday.
+const is_weekday = day => (day + 5) % 7 < 5;
 
 /** A product. kind: 0 a future, 1, 2, 3 an option of 12, 24, 60 months, 4 a future of 2005, 5 a weekly option; size in
  * 1/10,000 of a share, tick in 1/10,000 of the currency. */
@@ -551,6 +642,11 @@ export class Product {
       id: code_of(this.id), group: code_of(this.group), market: code_of(this.market), kind: fit(this.kind, 8),
       currency: code_of(this.currency, 3), size: fit(this.size, 32), tick: fit(this.tick),
     }));
+  }
+
+  /** The key of a maturity: its month as 2008-04, of a weekly option its Friday as 2008-04-25. */
+  key_text(key) {
+    return this.kind === WEEKLY ? date_text(key) : month_text(key);
   }
 }
 
@@ -684,7 +780,7 @@ export class Table {
 
   /** A capital measure on a future, p for q, with the settlement price before it: the price after it. */
   measure(p, q, price) {
-    const reply = asked('measure', this.#held, fit(p), fit(q), fit(price, 32));
+    const reply = asked('measure', this.#held, fit(p), fit(q), price_of(price));
     this.#held = get(reply, 'measured', 'table');
     return get(reply, 'measured', 'price');
   }
@@ -700,16 +796,16 @@ export class Table {
     return get(asked('due', this.#held, day_of(day)), 'day_reply', 'day');
   }
 
-  /** Throws Refused where a price, in 1/10,000 of the currency, does not pass. */
+  /** Throws Refused where a price does not pass. */
   tick(price) {
-    const refusal = call('tick', this.#held, fit(price, 32));
+    const refusal = call('tick', this.#held, price_of(price));
     if (refusal) throw new Refused(refusal);
   }
 
   /** The cash of a future: whether the buyer pays the seller, the amount in 1/10,000 of the currency, a BigInt, and the
-   * rest, 0 to 9,999, in 1/100,000,000. */
+   * rest, 0 to 9,999, in 1/100,000,000; amount_text makes a text of it. */
   cash(contracts, agreed, final_price) {
-    const cash = get(asked('cash', this.#held, fit(contracts, 32), fit(agreed, 32), fit(final_price, 32)), 'cash_reply', 'cash');
+    const cash = get(asked('cash', this.#held, fit(contracts, 32), price_of(agreed), price_of(final_price)), 'cash_reply', 'cash');
     return { negative: get(cash, 'amount', 'negative') !== 0, amount: get(cash, 'amount', 'amount'), rest: get(cash, 'amount', 'rest') };
   }
 

@@ -3,6 +3,7 @@
 
 import sys
 import time
+from decimal import Decimal, InvalidOperation
 from operator import mul
 
 import scullpouch
@@ -11,7 +12,7 @@ LOOPS = 50
 SUM_MODULUS = 65521
 PRODUCT = ('id', 'group', 'market', 'kind', 'currency', 'size', 'tick')
 # The commands whose first word is a text.
-TEXTS = ('file', 'open', 'open_in', 'set', 'write', 'notices', 'deliver', 'differences')
+TEXTS = ('file', 'open', 'open_in', 'set', 'write', 'notices', 'deliver', 'differences', 'read_decimal')
 ZERO_TABLE = scullpouch.Table.from_bytes(bytes(1624))
 
 
@@ -73,7 +74,35 @@ class Calls:
         refusal, date = asked(scullpouch.date, day, refused=(0, 0, 0))
         return (refusal, *date)
 
+    # ---- Texts ----
+
+    def day_text(self, day):
+        return (scullpouch.day_text(day),)
+
+    def month_text(self, month):
+        return (scullpouch.month_text(month),)
+
+    def key_text(self, kind, key):
+        return (self.held.product._replace(kind=kind).key_text(key),)
+
+    def decimal(self, number):
+        return (scullpouch.as_decimal(number),)
+
+    def read_decimal(self, word):
+        try:
+            return 1, scullpouch._price(Decimal(word), 'word')
+        except (ValueError, InvalidOperation):
+            return 0, 0
+
+    def amount(self, negative, amount, rest):
+        return (format(scullpouch.Cash(bool(negative), amount, rest).decimal, 'f'),)
+
     # ---- Files ----
+
+    def products(self):
+        refusal, master = asked(scullpouch.Master, self.bytes)
+        records = [one.record() for one in master.products] if master else []
+        return refusal, len(records), sum_of(b''.join(records))
 
     def file(self, name):
         self.bytes = read(name)
@@ -111,6 +140,17 @@ class Calls:
 
     def marked(self):
         return (int(self.days.marked_after_cover()),)
+
+    def trades(self, day):
+        return (int(self.days.trades(day)),)
+
+    def calendar_close(self, day):
+        refusal, self.days = asked(self.days.with_closed, day, refused=self.days)
+        return (refusal, *calendar_words(self.days))
+
+    def calendar_reopen(self, day):
+        refusal, self.days = asked(self.days.with_reopened, day, refused=self.days)
+        return (refusal, *calendar_words(self.days))
 
     # ---- Tables ----
 
@@ -188,6 +228,11 @@ class Calls:
             setattr(part, name, value)
         else:
             getattr(part, name)[place] = value
+
+    def stored(self):
+        data = bytes(self.held)
+        self.held = scullpouch.Table.from_bytes(data, self.held.moved)
+        return (sum_of(data),)
 
     def keep(self):
         self.kept = self.held.copy()

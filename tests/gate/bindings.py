@@ -494,20 +494,23 @@ def attempted(name, built):
 # instead.
 ATTEMPTS = {
     'ids': ("str.encode(text, 'ascii', 'replace')", "str.encode(text, 'latin-1')"),
-    'items': ('    data = _bytes(data)\n    if len(data)', '    if len(data)'),
-    'counts': ('_fit(entered), _fit(left)', 'entered, left'),
-    'numbers': ('    number = int(index(number))\n', ''),
+    'items': ('    data = _bytes(data, name)\n    if len(data)', '    if len(data)'),
+    'counts': ("_fit(entered, 'entered'), _fit(left, 'left')", 'entered, left'),
+    'numbers': ('        number = int(index(number))\n', '        index(number)\n'),
     'lengths': ('if type(data) is bytes', 'if isinstance(data, bytes)'),
-    'room': ('    room = memoryview(buffer).nbytes\n    lent = (c_uint8 * room).from_buffer(buffer)\n',
-             '    lent = (c_uint8 * len(buffer)).from_buffer(buffer)\n    room = len(buffer)\n'),
-    'changes': ("        self._lent = _lent(file)\n        self._said = _judged(_call['judge_file'](*self._lent))\n",
-                "        self._said = _judged(_call['judge_file'](*_lent(file)))\n        self._file = file\n\n"
-                '    @property\n    def _lent(self):\n        return _lent(self._file)\n'),
+    'room': ('        room = memoryview(buffer).nbytes\n        lent = (c_uint8 * room).from_buffer(buffer)\n',
+             '        lent = (c_uint8 * len(buffer)).from_buffer(buffer)\n        room = len(buffer)\n'),
+    'changes': ("        self._lent = _lent(file, 'file')\n        self._said = _judged(_call['judge_file'](*self._lent))\n",
+                "        self._said = _judged(_call['judge_file'](*_lent(file, 'file')))\n        self._file = file\n\n"
+                "    @property\n    def _lent(self):\n        return _lent(self._file, 'file')\n"),
     'locks': ('del lent', 'pass'),
     'verdicts': ('return self.same', 'return bool(self.key)'),
     'marks': ('after = YEAR_MAP * held.cover.years', 'after = MAP'),
-    'deliveries': ("_call['read_notices'](*_lent(text), *self._lists)",
+    'deliveries': ("_call['read_notices'](*_lent(text, 'text'), *self._lists)",
                    "_call['read_notices'](bytes(text), len(text), *self._lists)"),
+    'days': ('    if isinstance(value, datetime.datetime):\n', '    if value is None:\n'),
+    'decimals': ('number % 10 ** max(0, more)', 'False'),
+    'names': ("f'{name}: {number} does not fit", "f'{number} does not fit"),
 }
 
 
@@ -535,6 +538,15 @@ FAULTS = (
      '(size_t)SCULLPOUCH_PLACES * (length / SCULLPOUCH_BLOCK - 1)'),
     ('rust', 'src/delivery.rs', '(self.calls[5 * i], *number)', '(self.calls[5 * i + 1], *number)'),
     ('python', MODULE, 'for i in range(self._said.count + 1)', 'for i in range(self._said.count)'),
+    ('include', 'scullpouch.h', 'if (scullpouch_calendar_refusal(calendar) == 0) return 0;', 'return 0;'),
+    ('include', 'scullpouch.h', 'for (; after < 4; after++) sum *= 10;', 'for (; after < 3; after++) sum *= 10;'),
+    ('include', 'scullpouch.h', 'scullpouch_put_number(at, amount.rest % 10000u, 4);',
+     'scullpouch_put_number(at, amount.rest % 10000u, 1);'),
+    ('rust', 'src/calendars.rs', '        self.exchange[place / 8] &= !(128 >> (place % 8));\n', ''),
+    ('rust', 'src/stored.rs', '&size, &tick, &[0; 2]', '&size, &[0; 2], &tick'),
+    ('rust', 'src/texts.rs', '{parts:0<4}', '{parts:0>4}'),
+    ('python', MODULE, 'for one in (held.closed, held.exchange):', 'for one in (held.closed,):'),
+    ('python', MODULE, 'if self.kind == WEEKLY else month_text', 'if self.kind > WEEKLY else month_text'),
 )
 
 

@@ -217,6 +217,26 @@ const attempts = {
     for (const kind of [256, -1]) expect(came(() => new s.Product({ ...product, kind }).record()), 'RangeError', kind);
     expect(came(() => new s.Product({ ...product, size: 2 ** 32 }).record()), 'RangeError');
   },
+
+  // Prices as texts; days of a calendar whose fields are others than they were made.
+  decimals() {
+    const future = new s.Master(FILE).products.find(one => one.kind === 0).id, table = s.open(FILE, future, DATE);
+    expect(table.cash(3, '12.50', '12.34'), table.cash(3, 125000, 123400));
+    expect(s.amount_text(table.cash(3, '12.50', '12.34')).startsWith('-'), true);
+    for (const [text, number] of [['12.34', 123400], ['0.0001', 1], ['7', 70000], ['429496.7295', 2 ** 32 - 1]]) expect(s.decimal_of(text), number, text);
+    for (const text of ['12.34567', '12.', '.5', '', '-1', '+1', '1e3', ' 1', '1 ', '１', '1,5', '429496.7296', '9'.repeat(400)]) {
+      expect(came(() => s.decimal_of(text)), 'RangeError', text);
+      expect(came(() => table.tick(text)), 'RangeError', text);
+    }
+    for (const one of [null, undefined, 12.34, 12n, ['1']]) expect(came(() => s.decimal_of(one)), 'TypeError', String(one));
+    const calendar = s.make(7, 2008, 1), right = s.make(7, 2008, 1);
+    right.close('2008-03-20');
+    calendar.closed = new Uint16Array(calendar.closed.slice().buffer);
+    calendar.close('2008-03-20');
+    expect(new Uint8Array(calendar.closed.buffer), right.closed);
+    calendar.years = '1';
+    expect(came(() => calendar.trades(DATE)), 'TypeError');
+  },
 };
 
 if (attempt === 'names') {

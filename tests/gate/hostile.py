@@ -10,6 +10,8 @@ second program says.
 import os
 import sys
 from array import array
+from datetime import date, datetime
+from decimal import Decimal
 
 import scullpouch
 
@@ -187,7 +189,7 @@ def locks():
             (calendar._replace(years=65536), record, ValueError), (calendar._replace(closed=b''), record, ValueError),
             (calendar, 'A' * 32, TypeError), (calendar._replace(exchange=None), record, TypeError),
             (calendar._replace(years=0), record, scullpouch.Refused), (calendar, record[:31], scullpouch.Refused),
-            (None, record, AttributeError)):
+            (None, record, TypeError)):
         buffer = bytearray(LARGEST)
         try:
             scullpouch.write_into(buffer, held, records)
@@ -244,6 +246,78 @@ def deliveries():
     for place in (-1, 2**64):
         expect(came(scullpouch.product_at, file, place), 'ValueError', place)
     expect(came(scullpouch.product_at, file, 2**64 - 1), ('refused', 9))
+
+
+# A date is its day wherever a day is taken, and is given back; a time of a day is no day, nor is a date the key of a month,
+# and one of another century is refused.
+def days():
+    day, next_day = date(2008, 3, 20), date(2008, 3, 21)
+    judged = scullpouch.Master(FILE)
+    held, other = judged.open('AXA', day), judged.open('AXA', DATE)
+    expect(bytes(held), bytes(scullpouch.open(FILE, 'AXA', day)))
+    for name in ('close', 'roll', 'reopen', 'due'):
+        expect(came(getattr(held, name), next_day), came(getattr(other, name), DATE + 1), name)
+        expect(came(getattr(held, name), date(1999, 12, 31)), ('refused', 23), name)
+        expect(came(getattr(held, name), datetime(2008, 3, 24)), 'TypeError', name)
+    expect((scullpouch.date(day), scullpouch.as_date(DATE), scullpouch.day_text(day)), ((2008, 3, 20), day, '2008-03-20'))
+    expect(came(scullpouch.as_date, 36525), ('refused', 23))
+    expect([one.date for one in held.maturities], [date(*dates.date_of(one.day)) for one in held.maturities])
+    fresh = [number for one in held.maturities for number in (one.key, one.date)]
+    expect(bool(held.judge(fresh)), True)
+    for call, key in ((held.last_trading_day, day), (held.judge, [day])):
+        expect(came(call, key), 'TypeError')
+    weekly = scullpouch.open(read('examples', 'morning', 'master.bin'), 'AXAW', date(2008, 4, 17))
+    friday = weekly.maturities[0]
+    expect(weekly.last_trading_day(scullpouch.as_date(friday.key)), (friday.day, friday.back))
+    calendar = judged.calendar
+    expect(calendar.with_closed(day).closed, calendar.with_closed(DATE).closed)
+    expect((calendar.trades(day), calendar.with_closed(day).trades(day)), (True, False))
+
+
+# A decimal is its ten-thousandths wherever a price is taken; one that has more digits, is negative or none is not.
+def decimals():
+    future = next(one for one in scullpouch.Master(FILE).products if one.kind == 0).id
+    held = scullpouch.open(FILE, future, DATE)
+    _, negative, amount, rest = table.cash(table.open_table(FILE, future.encode().ljust(4), DATE)[1], 3, 125000, 123400)
+    cash = held.cash(3, Decimal('12.50'), Decimal('12.34'))
+    expect(cash, (negative, amount, rest))
+    expect(cash.decimal, -Decimal(amount) / 10_000 - Decimal(rest) / 100_000_000)
+    expect(held.copy().measure(3, 2, Decimal('12.34')), held.copy().measure(3, 2, 123400))
+    for text in ('12.34', '1234e-2', '12.340000', '0.00e5'):
+        expect(came(held.tick, Decimal(text)), came(held.tick, int(10_000 * Decimal(text))), text)
+    for text in ('12.34567', '1e-99999999', '-0.0001', '-1', 'NaN', 'sNaN', 'Infinity', '1e99999999', '429496.7296'):
+        expect(came(held.tick, Decimal(text)), 'ValueError', text)
+    for price in (12.34, '12.34', None):
+        expect(came(held.tick, price), 'TypeError', price)
+    expect([str(scullpouch.as_decimal(number)) for number in (0, 1, 123400)], ['0.0000', '0.0001', '12.3400'])
+
+
+# What an error says begins with the argument's name; what a value is shows what it stands for.
+def names():
+    judged = scullpouch.Master(FILE)
+    held, calendar = judged.open('AXA', DATE), judged.calendar
+    for name, call, *arguments in (
+            ('date', held.roll, 70000), ('date', scullpouch.open, FILE, 'AXA', '2008-03-20'), ('day', held.close, -1),
+            ('day', held.due, datetime(2008, 3, 20)), ('p', held.measure, -1, 1, 1), ('q', held.measure, 1, 1.5, 1),
+            ('price', held.measure, 1, 1, 2**32), ('price', held.tick, Decimal('1.23456')), ('key', held.last_trading_day, None),
+            ('contracts', held.cash, -1, 1, 1), ('agreed', held.cash, 1, '1', 1), ('final_price', held.cash, 1, 1, -1),
+            ('numbers[1]', held.judge, [1, 65536]), ('file', scullpouch.load, 'text'), ('id', judged.open, b'AXA', DATE),
+            ('closed', calendar._replace(closed=b'').trades, DATE), ('years', calendar._replace(years=-1).trades, DATE),
+            ('records', scullpouch.write, calendar, None), ('calendar', scullpouch.write, None, b''),
+            ('buffer', scullpouch.write_into, b'', calendar, b''), ('data', scullpouch.Table.from_bytes, b''),
+            ('block', scullpouch.Intake(2).take, None), ('blocks', scullpouch.Intake, 65536), ('b', scullpouch.Queue().handle, -1),
+            ('table', scullpouch.Queue().join, 65536), ('text', scullpouch.Notices, 'O 2008-03-20'), ('seed', scullpouch.make, -1, 1, 1),
+            ('master', scullpouch.Notices(b'O 2008-03-20').rows, None), ('group', held.product._replace(group='FR010').record)):
+        try:
+            call(*arguments)
+        except (TypeError, ValueError) as error:
+            expect(str(error).split(':')[0], name, error)
+        else:
+            expect('accepted', 'an error', name)
+    expect(repr(held), "<Table of 'AXA' on 2008-03-20: 12 maturities, 2008-03 to 2012-12>")
+    years, records = master.load(FILE)[1:]
+    expect(repr(judged), f'<Master of {years} years from {calendar.first_year}, {records} products>')
+    expect(f'{len(master.contents(FILE)[0].closed)} days closed' in repr(calendar) and len(repr(calendar)) < 120, True)
 
 
 # The first bad line of a text of notices, 0 where there is none.

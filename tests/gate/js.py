@@ -279,6 +279,9 @@ FAULTS = (
     ('for (let i = 0; i <= this.count; i++)', 'for (let i = 0; i < this.count; i++)'),
     ('const found = lines.join(\'\') + rows.unknown(products);', "const found = lines.join('');"),
     ("get(reply, 'measured', 'price')", "0 * get(reply, 'measured', 'price')"),
+    ('for (const map of [this.closed, this.exchange])', 'for (const map of [this.closed])'),
+    ('pointed(String(parts), 8)', 'pointed(String(parts), 7)'),
+    ("if (this.#refusal()) {", 'if (false) {'),
 )
 ATTEMPTS = {
     'starts': ("if (!held) throw new Error('scullpouch: call start() first, and wait for it');", ''),
@@ -295,6 +298,7 @@ ATTEMPTS = {
     'verdicts': ("const same = get(reply, 'verdict', 'same') !== 0;", "const same = get(reply, 'verdict', 'key') === 0;"),
     'deliveries': ("call('read_notices', bytes_of(text),", "call('read_notices', text,"),
     'codes': ('text.length > length || ', ''),
+    'decimals': ('{1,4}))?$/.exec(text)', '{1,5}))?$/.exec(text)'),
 }
 
 

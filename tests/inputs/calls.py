@@ -5,6 +5,7 @@ python3 -m tests.inputs.calls SEED FOLDER writes one script: script, expected an
 """
 
 import os
+import struct
 import sys
 from types import SimpleNamespace
 
@@ -20,7 +21,7 @@ from tests.inputs.tables.script import (BACK, CALLS, CLOSED, CURRENCY, DATE, DAY
                                         map_sum)
 from tests.inputs.verdicts import numbers_of
 from tests.second import (dates, deliver, generated, intake, listing, master, notices, product, reconcile, replay,
-                          rounds, rows, table, trading, vendor, writing)
+                          rounds, rows, table, terms, trading, vendor, words, writing)
 from tests.second.trading import Calendar
 
 COVERS = (1, 2, 3, 5, 16)
@@ -54,6 +55,28 @@ def product_at(file, place):
     block = blocks[place // master.RECORDS_AT_MOST]
     held = block[0] == master.PRODUCTS and place % master.RECORDS_AT_MOST < master.number_of(block)
     return master.product_of(master.record_at(block, place % master.RECORDS_AT_MOST)) if held else None
+
+
+# What a file with this calendar and a record that is right would be refused for: 3 to 6.
+def calendar_refusal(calendar):
+    record = master.record_of(files.all_products()[0])
+    draft = writing.Draft(calendar.first_year, calendar.years, calendar.to_map(), calendar.to_second_map(), record)
+    return writing.refusal_of(draft, master.FILE_AT_MOST)
+
+
+# A table as C holds it on x86-64, the bytes that are not used zeros.
+def stored(held):
+    item, calendar = held.product, held.calendar
+    return b''.join((
+        struct.pack('<4s4s4sB3sIH2x', item.id, item.group, item.market, item.kind, item.currency, item.size, item.tick),
+        struct.pack('<HH', calendar.first_year, calendar.years), calendar.to_map(), calendar.to_second_map(),
+        struct.pack('<HH60H', held.date, held.given, *(number for place in held.places for number in place))))
+
+
+# An amount in the currency, as `query` prints it.
+def amount_text(negative, amount, rest):
+    sign = '-' if negative and (amount or rest) else ''
+    return f'{sign}{amount // words.PARTS}.{amount % words.PARTS:04}{rest:04}'
 
 
 # The lines written so far, the answers to them, and what they leave.
@@ -103,7 +126,41 @@ class Script:
     def date(self, day):
         self.ask(('date', day), *dates.day_to_date(day))
 
+    # ---- Texts ----
+
+    # A line and its answer, which is a text or words that begin with no refusal.
+    def tell(self, line, *answer):
+        self.say(*line)
+        self.answers.append(words_of(*answer))
+
+    def day_text(self, day):
+        self.tell(('day_text', day), terms.day_text(day) if dates.is_day(day) else '0000-00-00')
+
+    def month_text(self, month):
+        self.tell(('month_text', month), terms.month_text(month))
+
+    def key_text(self, kind, key):
+        self.tell(('key_text', kind, key), terms.key_text(kind, key))
+
+    def decimal(self, number):
+        self.tell(('decimal', number), f'{number // words.PARTS}.{number % words.PARTS:04}')
+
+    # A decimal of digits, with a point and one to four digits, or none, that fits 32 bits in ten-thousandths.
+    def read_decimal(self, word):
+        whole, _, parts = word.partition('.')
+        right = whole.isdigit() and (parts.isdigit() or whole == word) and len(parts) <= 4
+        number = int(whole + parts.ljust(4, '0')) if right else 2**32
+        self.tell(('read_decimal', word), *((1, number) if number < 2**32 else (0, 0)))
+
+    def amount(self, negative, amount, rest):
+        self.tell(('amount', negative, amount, rest), amount_text(negative, amount, rest))
+
     # ---- Files ----
+
+    def products(self):
+        refusal = master.file_refusal(self.file)
+        records = [] if refusal else [master.record_of(one) for one in master.read_products(self.file)]
+        return self.ask(('products',), refusal, len(records), map_sum(b''.join(records)))
 
     def use(self, file):
         self.file = file
@@ -148,6 +205,26 @@ class Script:
     def marked(self):
         self.say('marked')
         self.answers.append(words_of(marked_after_cover(self.calendar)))
+
+    # ---- A calendar by its days ----
+
+    def trades(self, day):
+        self.tell(('trades', day), trading.is_trading_day(self.calendar, day))
+
+    # A call on the calendar's days: what a file of it is refused for, 11, then the call's own questions.
+    def change_day(self, name, day, questions, changed):
+        refusal = calendar_refusal(self.calendar) or (0 if trading.in_cover(self.calendar, day) else 11)
+        refusal = refusal or next((number for number, right in questions if not right(self.calendar, day)), 0)
+        self.calendar = self.calendar if refusal else changed(self.calendar, day)
+        now = self.calendar
+        return self.ask((name, day), refusal, now.first_year, now.years, *calendar_sums(now))
+
+    def calendar_close(self, day):
+        questions = ((14, trading.is_trading_day), (15, trading.every_week_trades_without))
+        return self.change_day('calendar_close', day, questions, trading.close_day)
+
+    def calendar_reopen(self, day):
+        return self.change_day('calendar_reopen', day, ((26, trading.is_closed_weekday),), trading.reopen_day)
 
     # ---- Tables ----
 
@@ -210,6 +287,9 @@ class Script:
         if self.table.product.size <= product.SIZE_AT_MOST:
             self.say('record')
             self.answers.append(master.record_of(self.table.product).hex())
+
+    def stored(self):
+        self.tell(('stored',), map_sum(stored(self.table)))
 
     def keep(self):
         self.kept = self.table
@@ -609,7 +689,90 @@ def some_deliveries(script):
         too_many_rows(script)
 
 
-PARTS = (some_days, some_files, some_histories, some_writings, some_deliveries, some_rounds)
+# Days, months and keys as texts, and decimals: those at the ends, and any.
+def some_texts(script):
+    chance = script.chance
+    for day in (0, 59, dates.DAYS - 1, dates.DAYS, 65535, chance.below(dates.DAYS)):
+        script.day_text(day)
+    for month in (0, 11, 12, dates.MONTHS - 1, dates.MONTHS, 65535, chance.below(dates.MONTHS)):
+        script.month_text(month)
+    for kind in range(6):
+        script.key_text(kind, chance.below(dates.MONTHS))
+    for number in (0, 1, 9_999, 10_000, 123_400, 999_999_999, 2**32 - 1, chance.below(2**32)):
+        script.decimal(number)
+    some = f'{chance.below(10**5)}.{chance.below(10**4):04}'
+    for word in ('0', '7', '007', '12.3', '12.34', '12.3400', '0.0001', '99999.9999', '429496', '429497', '429496.7295',
+                 '429496.7296', '42949672960', '9' * 40, '12.34567', '0.00001', 'x', '1x', '-1', '1.2.3', some):
+        script.read_decimal(word)
+    for amount in (0, 1, 9_999, 10_000, 480_000, 2**53 - 1, chance.below(2**50)):
+        script.amount(chance.below(2), amount, chance.choice((0, 1, 9_999, chance.below(10_000))))
+    script.amount(True, 0, 0)
+
+
+# The changes that close a week of a table's calendar.
+def a_week_closed(calendar):
+    if not trading.cover_fits(calendar):
+        return ()
+    monday = next(day for day in range(trading.first_day(calendar) + 30, 40000) if dates.weekday(day) == 0)
+    places = [trading.position_of(calendar.first_year, day) for day in range(monday, monday + 5) if day not in calendar.closed]
+    return [(CLOSED, place // 8, 128 >> place % 8) for place in places]
+
+
+# Days of a calendar closed and opened again: of a made-up one, one after the other, until a week has one day left; and of
+# calendars that no file has.
+def some_calendar_days(script):
+    chance = script.chance
+    years = chance.choice((1, 2, 5, 16))
+    script.make(chance.below(2**32), chance.randint(2000, 2100 - years), years)
+    first, last = trading.first_day(script.calendar), trading.last_day(script.calendar)
+    start = chance.randint(first, last - 14)
+    for day in (first, last, first - 1 if first else 65535, last + 1, 65535, *range(start, start + 14)):
+        script.trades(day)
+        script.calendar_close(day)
+    for day in (*range(start, start + 14), *chance.sample(sorted(script.calendar.closed), 3), last + 1):
+        script.calendar_reopen(day)
+        script.trades(day)
+    closed = next(day for day in range(first, last) if trading.is_trading_day(script.calendar, day))
+    script.restore()
+    script.take_calendar()
+    held = script.calendar
+    for day in (*sorted(held.exchange)[:3], *sorted(held.closed - held.exchange)[:3], closed):
+        script.calendar_reopen(day)
+        script.calendar_close(day)
+    wrong = ((FIRST_YEAR, 0, 1999), (YEARS, 0, 0), (YEARS, 0, 17), (CLOSED, 0, 255), (EXCHANGE, 1, 16))
+    for changes in (*((change,) for change in wrong), a_week_closed(script.kept.calendar)):
+        script.restore()
+        for change in changes:
+            script.damage(*change)
+        script.take_calendar()
+        for day in (closed, first, 3000):
+            script.trades(day)
+            script.calendar_close(day)
+            script.calendar_reopen(day)
+
+
+# Tables to bytes and back, and the products of a file.
+def some_stores(script):
+    calendar, items, file = file_of_histories(script.chance)
+    script.use(file)
+    script.judge_file()
+    script.products()
+    if opened(script, calendar, items):
+        script.stored()
+        script.show()
+        script.keep()
+        for change in some_changes(script)[:4]:
+            script.restore()
+            script.damage(*change)
+            script.stored()
+            script.show()
+    for _ in range(4):
+        script.use(some_file(script.chance)[1])
+        script.products()
+
+
+PARTS = (some_days, some_files, some_histories, some_writings, some_deliveries, some_rounds, some_texts, some_calendar_days,
+         some_stores)
 
 # What the scripts of a set must have: every refusal of every call, both verdicts on a list, files written from calendars
 # with and without days after their cover, notices with and without a bad line, and differences.
@@ -620,7 +783,8 @@ ANSWERS = {
     'last': (0, 10, 18), 'due': (0, 10, 11, 17), 'tick': (0, 10, 19, 20), 'cash': (0, 10, 19, 20, 21, 22),
     'judge': (0, 10), 'announce': (0, 1), 'take': (0, 1), 'finish': range(9), 'make': (0, 4),
     'write': (0, *range(3, 9), 25), 'handle': (0, 10, 30), 'join': (0, 10, 30, 31), 'leave': (0, 10, 30, 31),
-    'product': range(10), 'deliver': (0, 9, 11, 16), 'rows': (0, 10),
+    'product': range(10), 'deliver': (0, 9, 11, 16), 'rows': (0, 10), 'products': range(9),
+    'calendar_close': (0, *range(3, 7), 11, 14, 15), 'calendar_reopen': (0, *range(3, 7), 11, 26),
 }
 WANTED = frozenset((name, number) for name, numbers in ANSWERS.items() for number in numbers) | {
     ('verdict', True), ('verdict', False), ('written', True), ('written', False), ('notices', True), ('notices', False),

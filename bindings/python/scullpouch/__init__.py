@@ -3,28 +3,37 @@
     table = scullpouch.open(file, 'AXA', scullpouch.day(2008, 3, 20))
     table.roll(scullpouch.day(2008, 3, 21))
 
-A day is a number from 0, 1 January 2000; a month is a number from 0, January 2000. The key
-of a maturity is its month, or the day of a weekly option's Friday. A call gives its value
-or raises Refused; a refused call leaves the table, queue or load as it was. A number, a
-map or a stored table that does not fit its C type is a ValueError. Files, records, blocks,
-maps and stored tables are the bytes of anything that has the buffer protocol, however it
-measures itself.
+A day is a number from 0, 1 January 2000; where one is taken, a datetime.date is taken too,
+and as_date gives it back. A month is a number from 0, January 2000. The key of a maturity
+is its month, or the day of a weekly option's Friday. A price is a number of 1/10,000 of the
+currency; where one is taken, a decimal.Decimal of the currency is taken too, and as_decimal
+gives it back. A call gives its value or raises Refused; a refused call leaves the table,
+queue or load as it was. A number, a map or a stored table that does not fit its C type is a
+ValueError, a value of another type a TypeError; each names the argument. Files, records,
+blocks, maps and stored tables are the bytes of anything that has the buffer protocol,
+however it measures itself.
 
-The shared object is libscullpouch.so.2, or the file that the variable SCULLPOUCH names.
+The shared object is libscullpouch.so.2 beside this file, or else the one that the loader
+finds; or the file that the variable SCULLPOUCH names.
 """
 
 from __future__ import annotations
 
 import ctypes
+import datetime
 import os
 from collections.abc import Callable, Iterable
 from ctypes import c_bool, c_size_t, c_uint8, c_uint16, c_uint32, c_uint64
+from decimal import Decimal
 from itertools import takewhile
 from operator import index
-from typing import TYPE_CHECKING, Any, NamedTuple, SupportsIndex
+from typing import TYPE_CHECKING, Any, NamedTuple, SupportsIndex, Union
 
 if TYPE_CHECKING:
     from _typeshed import ReadableBuffer, WriteableBuffer
+
+Day = Union[SupportsIndex, datetime.date]
+Price = Union[SupportsIndex, Decimal]
 
 __version__ = '2.1.0'
 INTERFACE = 2
@@ -344,41 +353,78 @@ def _calls_of(path: str) -> dict[str, Callable[..., Any]]:
 for _struct, _layout in _LAYOUT.items():
     if _layout_of(_struct) != _layout:
         raise ImportError(f'scullpouch: the layout of {_struct.__name__}')
-_call = _calls_of(os.environ.get('SCULLPOUCH', 'libscullpouch.so.2'))
+
+
+# The shared object beside this file, where there is one.
+def _found() -> str:
+    name = 'libscullpouch.so.2'
+    beside = os.path.join(os.path.dirname(os.path.abspath(__file__)), name)
+    return beside if os.path.exists(beside) else name
+
+
+_call = _calls_of(os.environ.get('SCULLPOUCH') or _found())
 
 
 # ---- Arguments and answers ----
 
-# ctypes would cut a number that does not fit its C type, so each is held to its range.
-def _fit(number: SupportsIndex, bits: int = 16) -> int:
-    number = int(index(number))
+# ctypes would cut a number that does not fit its C type, so each is held to its range. name: the argument's.
+def _fit(number: SupportsIndex, name: str, bits: int = 16) -> int:
+    try:
+        number = int(index(number))
+    except TypeError:
+        raise TypeError(f'{name}: a whole number is expected, not {type(number).__name__}') from None
     if not 0 <= number < 1 << bits:
-        raise ValueError(f'{number} does not fit {bits} bits')
+        raise ValueError(f'{name}: {number} does not fit {bits} bits')
     return number
+
+
+# The day of a number or of a date. A datetime has a time too, and in another zone another day.
+def _day(value: Day, name: str) -> int:
+    if isinstance(value, datetime.datetime):
+        raise TypeError(f'{name}: a day is expected, not a time of a day; hand in its date()')
+    if isinstance(value, datetime.date):
+        return _judged(_call['day'](value.year, value.month, value.day)).day
+    return _fit(value, name)
+
+
+# The ten-thousandths of a number of them, or of a decimal, which has no more than four digits after the point.
+def _price(value: Price, name: str) -> int:
+    if not isinstance(value, Decimal):
+        return _fit(value, name, 32)
+    sign, digits, exponent = value.as_tuple()
+    if not isinstance(exponent, int) or (value and (sign or value.adjusted() > 5)):
+        raise ValueError(f'{name}: {value} is not 0 to 429496.7295')
+    number, more = int(''.join(map(str, digits))), -4 - exponent
+    if value and (more > len(digits) or number % 10 ** max(0, more)):
+        raise ValueError(f'{name}: {value} has more than four digits after the point')
+    return _fit(number // 10 ** more if more > 0 else number * 10 ** -more, name, 32) if value else 0
 
 
 # The bytes that an object lends. They are copied where they could change meanwhile, or where the object could measure
 # itself otherwise than its bytes are.
-def _bytes(data: ReadableBuffer) -> bytes:
-    return data if type(data) is bytes else memoryview(data).tobytes()
+def _bytes(data: ReadableBuffer, name: str) -> bytes:
+    try:
+        return data if type(data) is bytes else memoryview(data).tobytes()
+    except TypeError:
+        raise TypeError(f'{name}: bytes are expected, not {type(data).__name__}') from None
 
 
 # Bytes and their length.
-def _lent(data: ReadableBuffer) -> tuple[bytes, int]:
-    data = _bytes(data)
+def _lent(data: ReadableBuffer, name: str) -> tuple[bytes, int]:
+    data = _bytes(data, name)
     return data, len(data)
 
 
 # Bytes that have the size of a C type, which would cut longer ones.
 def _sized(kind: Any, data: ReadableBuffer, name: str) -> Any:
-    data = _bytes(data)
+    data = _bytes(data, name)
     if len(data) != ctypes.sizeof(kind):
-        raise ValueError(f'a {name} has {ctypes.sizeof(kind)} bytes')
+        raise ValueError(f'{name}: {ctypes.sizeof(kind)} bytes are expected, not {len(data)}')
     return kind.from_buffer_copy(data)
 
 
-def _map(data: ReadableBuffer) -> Any:
-    return _sized(c_uint8 * MAP, data, 'map')
+def _map(data: ReadableBuffer, name: str) -> Any:
+    return _sized(c_uint8 * MAP, data, name)
 
 
 def _judged(reply: Any) -> Any:
@@ -387,17 +433,28 @@ def _judged(reply: Any) -> Any:
     return reply
 
 
+# A value that has to be of a type.
+def _of(kind: Any, value: Any, name: str) -> Any:
+    if not isinstance(value, kind):
+        raise TypeError(f'{name}: a {kind.__name__} is expected, not {type(value).__name__}')
+    return value
+
+
 # The bytes of a code, such as an id, filled up with spaces.
-def _code(text: str, length: int = 4) -> Any:
-    code = str.encode(text, 'latin-1')
+def _code(text: str, name: str, length: int = 4) -> Any:
+    try:
+        code = str.encode(_of(str, text, name), 'latin-1')
+    except UnicodeEncodeError:
+        raise ValueError(f'{name}: {text!r} has a character that is no byte') from None
     if len(code) > length:
-        raise ValueError(f'{text!r} has more than {length} characters')
+        raise ValueError(f'{name}: {text!r} has more than {length} characters')
     return (c_uint8 * length)(*code.ljust(length))
 
 
 # The id of a text. A character that is not ASCII becomes '?', a text of more than 4 characters four spaces: no record
 # has either, so open refuses them as any id that is not there.
 def _id(text: str) -> _Id:
+    _of(str, text, 'id')
     code = str.encode(text, 'ascii', 'replace')
     return _Id((c_uint8 * 4)(*(code if len(code) <= 4 else b'').ljust(4)))
 
@@ -413,6 +470,11 @@ class Maturity(NamedTuple):
     day: int
     back: int
     number: int
+
+    @property
+    def date(self) -> datetime.date:
+        """The last trading day, as a date."""
+        return as_date(self.day)
 
 
 class Counts(NamedTuple):
@@ -435,6 +497,12 @@ class Cash(NamedTuple):
     negative: bool
     amount: int
     rest: int
+
+    @property
+    def decimal(self) -> Decimal:
+        """The amount in the currency, with its sign and eight digits after the point."""
+        digits = map(int, str(10_000 * self.amount + self.rest))
+        return Decimal((int(self.negative and self.amount + self.rest > 0), tuple(digits), -8))
 
 
 class Verdict(NamedTuple):
@@ -461,12 +529,17 @@ class Product(NamedTuple):
     tick: int
 
     def _held(self) -> _Product:
-        return _Product(_code(self.id), _code(self.group), _code(self.market), _fit(self.kind, 8),
-                        _code(self.currency, 3), _fit(self.size, 32), _fit(self.tick))
+        return _Product(_code(self.id, 'id'), _code(self.group, 'group'), _code(self.market, 'market'),
+                        _fit(self.kind, 'kind', 8), _code(self.currency, 'currency', 3), _fit(self.size, 'size', 32),
+                        _fit(self.tick, 'tick'))
 
     def record(self) -> bytes:
         """Its 32 bytes in a master file, whatever its fields are; write judges them."""
         return bytes(_call['record'](self._held()).bytes)
+
+    def key_text(self, key: SupportsIndex) -> str:
+        """The key of a maturity: its month as 2008-04, of a weekly option its Friday as 2008-04-25."""
+        return day_text(key) if self.kind == WEEKLY else month_text(key)
 
 
 class Calendar(NamedTuple):
@@ -479,13 +552,91 @@ class Calendar(NamedTuple):
     exchange: ReadableBuffer
 
     def _held(self) -> _Calendar:
-        return _Calendar(_Cover(_fit(self.first_year), _fit(self.years)), _map(self.closed), _map(self.exchange))
+        return _Calendar(_Cover(_fit(self.first_year, 'first_year'), _fit(self.years, 'years')),
+                         _map(self.closed, 'closed'), _map(self.exchange, 'exchange'))
 
     def marked_after_cover(self) -> bool:
         """Whether a map has days marked after the cover's last year, which are in no file that write makes."""
         held = self._held()
         after = YEAR_MAP * held.cover.years
         return any(bytes(held.closed)[after:] + bytes(held.exchange)[after:])
+
+    def trades(self, day: Day) -> bool:
+        """Whether a day is a trading day: a Monday to Friday in the cover that is not closed."""
+        held, number = self._held(), _day(day, 'day')
+        place = _place(held, number)
+        return place is not None and _is_weekday(number) and not _is_closed(held, place)
+
+    def with_closed(self, day: Day) -> Calendar:
+        """This calendar with a trading day closed. It asks what write asks of a calendar (3 to 6), then 11, 14, 15."""
+        held, number = self._held(), _day(day, 'day')
+        place = _asked_place(held, number)
+        if not _is_weekday(number) or _is_closed(held, place):
+            raise Refused(14)
+        held.closed[place // 8] |= 128 >> place % 8
+        if _calendar_refusal(held):
+            raise Refused(15)
+        return _calendar_of(held)
+
+    def with_reopened(self, day: Day) -> Calendar:
+        """This calendar with a closed day open again, in both maps. It asks what write asks of a calendar (3 to 6),
+        then 11, 26."""
+        held, number = self._held(), _day(day, 'day')
+        place = _asked_place(held, number)
+        if not _is_weekday(number) or not _is_closed(held, place):
+            raise Refused(26)
+        for one in (held.closed, held.exchange):
+            one[place // 8] &= ~(128 >> place % 8)
+        return _calendar_of(held)
+
+    def __repr__(self) -> str:
+        try:
+            closed, exchange = (_marks(getattr(self, name), name) for name in ('closed', 'exchange'))
+        except TypeError:
+            return f'Calendar{tuple.__repr__(self)}'
+        days = f'{closed} days closed, payments and deliveries on {exchange} of them'
+        return f'<Calendar of {self.years} years from {self.first_year}: {days}>'
+
+
+# Day 0 is a Saturday.
+def _is_weekday(day: int) -> bool:
+    return (day + 5) % 7 < 5
+
+
+# The place of a day's bit in both maps; None where the day is not in the cover.
+def _place(held: Any, day: int) -> int | None:
+    date = _call['date'](day)
+    year = date.year - held.cover.first_year
+    if date.refusal or not 0 <= year < held.cover.years:
+        return None
+    return 8 * YEAR_MAP * year + day - _call['day'](date.year, 1, 1).day
+
+
+# Whether the day of a place is closed; none is after the maps' end.
+def _is_closed(held: Any, place: int) -> bool:
+    return place // 8 < MAP and bool(held.closed[place // 8] & 128 >> place % 8)
+
+
+# What write would refuse of a calendar, 3 to 6: it is handed one record that is right, and no room for the file, so
+# that 25 says that all else is right.
+def _calendar_refusal(held: Any) -> int:
+    record = Product('A', 'AA00', 'AAAA', 0, 'EUR', 10_000, 1).record()
+    refusal = _call['write'](held, record, len(record), (c_uint8 * 1)(), 0).refusal
+    return 0 if refusal == 25 else refusal
+
+
+# The place of a day in the cover of a calendar that write would take.
+def _asked_place(held: Any, day: int) -> int:
+    refusal = _calendar_refusal(held)
+    place = _place(held, day)
+    if refusal or place is None:
+        raise Refused(refusal or 11)
+    return place
+
+
+# How many days a map has.
+def _marks(data: ReadableBuffer, name: str) -> int:
+    return bin(int.from_bytes(_bytes(data, name), 'big')).count('1')
 
 
 def _calendar_of(held: Any) -> Calendar:
@@ -496,13 +647,35 @@ def _calendar_of(held: Any) -> Calendar:
 
 def day(year: SupportsIndex, month: SupportsIndex, day: SupportsIndex) -> int:  # noqa: A002
     """The day of a date."""
-    return _judged(_call['day'](_fit(year), _fit(month), _fit(day))).day
+    return _judged(_call['day'](_fit(year, 'year'), _fit(month, 'month'), _fit(day, 'day'))).day
 
 
-def date(day: SupportsIndex) -> tuple[int, int, int]:
+def date(day: Day) -> tuple[int, int, int]:
     """Year, month and day of the month of a day."""
-    reply = _judged(_call['date'](_fit(day)))
+    reply = _judged(_call['date'](_day(day, 'day')))
     return reply.year, reply.month, reply.day
+
+
+def as_date(day: Day) -> datetime.date:
+    """A day as a datetime.date."""
+    return datetime.date(*date(day))
+
+
+def day_text(day: Day) -> str:
+    """A day as 2008-03-20; one after 2099 as 0000-00-00."""
+    reply = _call['date'](_day(day, 'day'))
+    return f'{reply.year:04}-{reply.month:02}-{reply.day:02}'
+
+
+def month_text(month: SupportsIndex) -> str:
+    """A month as 2008-03."""
+    number = _fit(month, 'month')
+    return f'{2000 + number // 12}-{number % 12 + 1:02}'
+
+
+def as_decimal(number: SupportsIndex) -> Decimal:
+    """A number of ten-thousandths, such as a price, a tick or a size, as a decimal with four digits after the point."""
+    return Decimal((0, tuple(map(int, str(_fit(number, 'number', 64)))), -4))
 
 
 def _product_of(held: Any) -> Product:
@@ -515,27 +688,31 @@ def _product_of(held: Any) -> Product:
 def product_at(file: ReadableBuffer, place: SupportsIndex) -> Product:
     """The product at a place of a master file: place p is record p % 15 of block p // 15, and one that holds no record
     gets 9. Master.products has all of them."""
-    return _product_of(_judged(_call['product_at'](*_lent(file), _fit(place, 64))).product)
+    return _product_of(_judged(_call['product_at'](*_lent(file, 'file'), _fit(place, 'place', 64))).product)
 
 
 def load(file: ReadableBuffer) -> Counts:
     """Judges a master file, bytes: the counts of years and of records."""
-    counts = _judged(_call['load'](*_lent(file))).counts
+    counts = _judged(_call['load'](*_lent(file, 'file'))).counts
     return Counts(counts.years, counts.records)
 
 
 def make(seed: SupportsIndex, first_year: SupportsIndex, years: SupportsIndex) -> Calendar:
     """A made-up calendar for load tests."""
-    return _calendar_of(_judged(_call['make'](_fit(seed, 32), _Cover(_fit(first_year), _fit(years)))).calendar)
+    cover = _Cover(_fit(first_year, 'first_year'), _fit(years, 'years'))
+    return _calendar_of(_judged(_call['make'](_fit(seed, 'seed', 32), cover)).calendar)
 
 
 def write_into(buffer: WriteableBuffer, calendar: Calendar, records: ReadableBuffer) -> int:
     """Writes the master file of a calendar and of records, 32 bytes each, into a bytearray that nobody else uses
     meanwhile: the file's length. What stands after the file stays; refused, everything does. Days that are marked
     after the cover's last year are not in the file (Calendar.marked_after_cover)."""
-    held, (records, length) = calendar._held(), _lent(records)
-    room = memoryview(buffer).nbytes
-    lent = (c_uint8 * room).from_buffer(buffer)
+    held, (records, length) = _of(Calendar, calendar, 'calendar')._held(), _lent(records, 'records')
+    try:
+        room = memoryview(buffer).nbytes
+        lent = (c_uint8 * room).from_buffer(buffer)
+    except TypeError as error:
+        raise TypeError(f'buffer: {error}') from None
     try:
         reply = _call['write'](held, records, length, lent, room)
     finally:
@@ -554,31 +731,34 @@ class Intake:
     """A load of a file of so many blocks, block by block: take each 512 bytes, then finish."""
 
     def __init__(self, blocks: SupportsIndex) -> None:
-        self._held = _judged(_call['announce'](_fit(blocks))).state
+        self._held = _judged(_call['announce'](_fit(blocks, 'blocks'))).state
 
     def take(self, block: ReadableBuffer) -> None:
         """Takes the next block."""
-        self._held = _judged(_call['take'](self._held, *_lent(block))).state
+        self._held = _judged(_call['take'](self._held, *_lent(block, 'block'))).state
 
     def finish(self) -> Counts:
         """The counts of years and of records, as load gives them."""
         counts = _judged(_call['finish'](self._held)).counts
         return Counts(counts.years, counts.records)
 
+    def __repr__(self) -> str:
+        return f'<Intake: {self._held.taken} of {self._held.announced} blocks taken>'
+
 
 # ---- Tables ----
 
-def open(file: ReadableBuffer, id: str, date: SupportsIndex) -> Table:  # noqa: A001, A002
+def open(file: ReadableBuffer, id: str, date: Day) -> Table:  # noqa: A001, A002
     """The table of a product of a master file on a date. An id that no record can have is not there (9). Master judges
     the file once for many."""
-    return Table(_judged(_call['open'](*_lent(file), _id(id), _fit(date))))
+    return Table(_judged(_call['open'](*_lent(file, 'file'), _id(id), _day(date, 'date'))))
 
 
 class Master:
     """A master file, bytes, that was judged once, for many opens. It keeps the bytes that were judged."""
 
     def __init__(self, file: ReadableBuffer) -> None:
-        self._lent = _lent(file)
+        self._lent = _lent(file, 'file')
         self._said = _judged(_call['judge_file'](*self._lent))
 
     @property
@@ -596,9 +776,13 @@ class Master:
         """The file's products, in its order."""
         return [_product_of(product) for product in self._products()]
 
-    def open(self, id: str, date: SupportsIndex) -> Table:  # noqa: A002
+    def open(self, id: str, date: Day) -> Table:  # noqa: A002
         """The table of a product of the file on a date: what open answers."""
-        return Table(_judged(_call['open_in'](self._said, *self._lent, _id(id), _fit(date))))
+        return Table(_judged(_call['open_in'](self._said, *self._lent, _id(id), _day(date, 'date'))))
+
+    def __repr__(self) -> str:
+        cover = self._said.calendar.cover
+        return f'<Master of {cover.years} years from {cover.first_year}, {len(self._products())} products>'
 
 
 class Table:
@@ -616,49 +800,56 @@ class Table:
         """A table of its own that is as this one is now."""
         return Table.from_bytes(bytes(self), self.moved)
 
-    def roll(self, date: SupportsIndex) -> Moved:
+    def roll(self, date: Day) -> Moved:
         """Sets the date: how many maturities entered and left."""
-        return self._take(_call['roll'](self._held, _fit(date)))
+        return self._take(_call['roll'](self._held, _day(date, 'date')))
 
-    def close(self, day: SupportsIndex) -> Moved:
+    def close(self, day: Day) -> Moved:
         """Closes a day: how many maturities entered and left."""
-        return self._take(_call['close'](self._held, _fit(day)))
+        return self._take(_call['close'](self._held, _day(day, 'day')))
 
-    def reopen(self, day: SupportsIndex) -> Moved:
+    def reopen(self, day: Day) -> Moved:
         """Opens a closed day again: how many maturities entered and left."""
-        return self._take(_call['reopen'](self._held, _fit(day)))
+        return self._take(_call['reopen'](self._held, _day(day, 'day')))
 
-    def measure(self, p: SupportsIndex, q: SupportsIndex, price: SupportsIndex) -> int:
+    def measure(self, p: SupportsIndex, q: SupportsIndex, price: Price) -> int:
         """A capital measure on a future, p for q, with the settlement price before it: the price after it."""
-        reply = _judged(_call['measure'](self._held, _fit(p), _fit(q), _fit(price, 32)))
+        reply = _judged(_call['measure'](self._held, _fit(p, 'p'), _fit(q, 'q'), _price(price, 'price')))
         self._held = reply.table
         return reply.price
 
-    def last_trading_day(self, key: SupportsIndex) -> tuple[int, int]:
+    # A key; of a weekly option, whose keys are days, a date too.
+    def _key(self, key: Day, name: str) -> int:
+        if self._held.product.kind != WEEKLY and isinstance(key, datetime.date):
+            raise TypeError(f'{name}: the key of this product is the number of a month, and not a date')
+        return _day(key, name)
+
+    def last_trading_day(self, key: Day) -> tuple[int, int]:
         """The last trading day of a listed maturity, and how many days it was moved back."""
-        reply = _judged(_call['last_trading_day'](self._held, _fit(key)))
+        reply = _judged(_call['last_trading_day'](self._held, self._key(key, 'key')))
         return reply.day, reply.back
 
-    def due(self, day: SupportsIndex) -> int:
+    def due(self, day: Day) -> int:
         """The due day of a day of the cover."""
-        return _judged(_call['due'](self._held, _fit(day))).day
+        return _judged(_call['due'](self._held, _day(day, 'day'))).day
 
-    def tick(self, price: SupportsIndex) -> None:
-        """Raises Refused where a price, in 1/10,000 of the currency, does not pass."""
-        refusal = _call['tick'](self._held, _fit(price, 32))
+    def tick(self, price: Price) -> None:
+        """Raises Refused where a price does not pass."""
+        refusal = _call['tick'](self._held, _price(price, 'price'))
         if refusal:
             raise Refused(refusal)
 
-    def cash(self, contracts: SupportsIndex, agreed: SupportsIndex, final_price: SupportsIndex) -> Cash:
+    def cash(self, contracts: SupportsIndex, agreed: Price, final_price: Price) -> Cash:
         """The cash of a future: whether the buyer pays the seller, the amount in 1/10,000 of the currency, and the
-        rest, 0 to 9,999, in 1/100,000,000."""
-        cash = _judged(_call['cash'](self._held, _fit(contracts, 32), _fit(agreed, 32), _fit(final_price, 32))).cash
+        rest, 0 to 9,999, in 1/100,000,000; all of it as a decimal is cash.decimal."""
+        prices = _price(agreed, 'agreed'), _price(final_price, 'final_price')
+        cash = _judged(_call['cash'](self._held, _fit(contracts, 'contracts', 32), *prices)).cash
         return Cash(cash.negative, cash.amount, cash.rest)
 
-    def judge(self, numbers: Iterable[SupportsIndex]) -> Verdict:
+    def judge(self, numbers: Iterable[Day]) -> Verdict:
         """Whether keys and last trading days, in turn, are the table's listing: a Verdict, true where they are, with
         the smallest key that differs where they are not."""
-        fitted = [_fit(number) for number in numbers]
+        fitted = [(_day if i % 2 else self._key)(number, f'numbers[{i}]') for i, number in enumerate(numbers)]
         reply = _judged(_call['judge'](self._held, (c_uint16 * len(fitted))(*fitted), len(fitted)))
         return Verdict(reply.same, None if reply.same else reply.key)
 
@@ -701,12 +892,17 @@ class Table:
         """A table that was stored, and how many maturities entered and left before. Calls refuse one that is not
         sound (10)."""
         entered, left = moved
-        return cls(_Outcome(0, _fit(entered), _fit(left), _sized(_Table, data, 'table')))
+        return cls(_Outcome(0, _fit(entered, 'entered'), _fit(left, 'left'), _sized(_Table, data, 'data')))
 
     def __eq__(self, other: object) -> bool:
         return isinstance(other, Table) and bytes(self) == bytes(other)
 
     __hash__ = None  # type: ignore[assignment]
+
+    def __repr__(self) -> str:
+        product, listed = self.product, self.maturities
+        ends = f', {product.key_text(listed[0].key)} to {product.key_text(listed[-1].key)}' if listed else ''
+        return f'<Table of {product.id!r} on {day_text(self.date)}: {len(listed)} maturities{ends}>'
 
 
 # ---- A delivery ----
@@ -748,7 +944,7 @@ class _Rows:
                  (c_uint16, ROWS))
         self.lists = [part for kind, room in lists for part in ((kind * room)(), room)]
         self.places = (c_uint16 * ROWS)()
-        lent = _lent(text)
+        lent = _lent(text, 'text')
         while self.state.next < lent[1] and not self.state.over:
             self.state = _call['receive'](self.state, *master._lent, *lent, *self.lists)
             if self.state.bad:
@@ -775,7 +971,7 @@ class Notices:
 
     def __init__(self, text: ReadableBuffer) -> None:
         self._lists = (c_uint32 * CALLS)(), CALLS, (c_uint8 * NOTICE_IDS)(), NOTICE_IDS
-        self._said = _call['read_notices'](*_lent(text), *self._lists)
+        self._said = _call['read_notices'](*_lent(text, 'text'), *self._lists)
         if self._said.bad:
             raise BadLine(self._said.bad)
 
@@ -796,6 +992,7 @@ class Notices:
 
     # The table of the product with an id, and the number of each notice's refusal.
     def _deliver(self, master: Master, id: _Id) -> tuple[Any, Any]:  # noqa: A002
+        _of(Master, master, 'master')
         refusals = (c_uint8 * NOTICES)()
         delivered = _call['deliver'](master._said, *master._lent, self._said, *self._lists, id, refusals, NOTICES)
         return delivered, refusals
@@ -811,7 +1008,7 @@ class Notices:
     def rows(self, master: Master) -> str:
         """The rows of all products of the file, under their heading, as deliver prints them."""
         buffer, lines = (c_uint8 * TABLE_TEXT)(), [_line(_call['rows_heading']())]
-        for product in master._products():
+        for product in _of(Master, master, 'master')._products():
             delivered, _ = self._deliver(master, _Id(product.id))
             written = _call['rows'](delivered.table, buffer, TABLE_TEXT)
             lines.append(_said(buffer, written.length))
@@ -820,7 +1017,7 @@ class Notices:
     def refused(self, master: Master) -> str:
         """What was refused, a line for each call, as deliver tells it."""
         lines = []
-        for product in master._products():
+        for product in _of(Master, master, 'master')._products():
             id = _Id(product.id)  # noqa: A001
             delivered, refusals = self._deliver(master, id)
             lines += [_call['refused_call'](id, self._said, delivered.refusal, *self._lists[:2], refusals, NOTICES, i)
@@ -831,7 +1028,7 @@ class Notices:
     def differences(self, master: Master, text: ReadableBuffer) -> Differences:
         """What differs between the tables after the notices and rows that came from elsewhere, bytes in the form that
         reconcile reads."""
-        rows = _Rows(master, text)
+        rows = _Rows(_of(Master, master, 'master'), text)
         if rows.state.over:
             return Differences('', 0, rows.state.rows, rows.bad, True)
         found = [rows.differences(product, self._deliver(master, _Id(product.id))[0]) for product in master._products()]
@@ -839,6 +1036,9 @@ class Notices:
         heading = _line(_call['differences_heading']())
         return Differences(heading + ''.join(lines for lines, _ in found), sum(count for _, count in found),
                            rows.state.rows, rows.bad, False)
+
+    def __repr__(self) -> str:
+        return f'<Notices: {self.count} after the opening on {day_text(self.date)}>'
 
 
 # ---- The morning round ----
@@ -851,19 +1051,22 @@ class Queue:
 
     def handle(self, b: SupportsIndex) -> list[int]:
         """The numbers of the first b tables, or of all if fewer, which then stand at the end."""
-        reply = _judged(_call['handle'](self._held, _fit(b)))
+        reply = _judged(_call['handle'](self._held, _fit(b, 'b')))
         self._held = reply.queue
         return reply.taken.tables[:reply.taken.count]
 
     def join(self, table: SupportsIndex) -> None:
         """A table joins at the end."""
-        self._held = _judged(_call['join'](self._held, _fit(table))).queue
+        self._held = _judged(_call['join'](self._held, _fit(table, 'table'))).queue
 
     def leave(self, table: SupportsIndex) -> None:
         """A table leaves, wherever it stands."""
-        self._held = _judged(_call['leave'](self._held, _fit(table))).queue
+        self._held = _judged(_call['leave'](self._held, _fit(table, 'table'))).queue
 
     @property
     def tables(self) -> list[int]:
         """The numbers of the tables, the first first."""
         return self._held.tables[:self._held.count]
+
+    def __repr__(self) -> str:
+        return f'<Queue of {self._held.count} tables: {self.tables}>'

@@ -1,8 +1,8 @@
 //! A line of input for each call of the crate, a line of output for each answer (bindings/README.md).
 
 use scullpouch::{
-    load, product_at, Calendar, Counts, Cover, Day, Intake, Master, Maturity, Moved, Notices, Product, Queue, Refusal,
-    Table, Verdict,
+    decimal_of, decimal_text, load, product_at, Amount, Calendar, Counts, Cover, Day, Intake, Master, Maturity, Month,
+    Moved, Notices, Product, Queue, Refusal, Table, Verdict,
 };
 use std::fmt::Display;
 use std::io::{self, BufRead, Write};
@@ -146,6 +146,22 @@ impl Held {
         let (table, moved) = self.master.as_ref().unwrap().open(id, date)?;
         self.table = table;
         Ok(moved)
+    }
+
+    // The products of the file: how many, and the sum of their records.
+    fn products(&self) -> String {
+        let answer = Master::judge(&self.file).map(|master| master.products());
+        let refusal = refusal_of(&answer);
+        let products = answer.unwrap_or_default();
+        let records: Vec<u8> = products.iter().flat_map(Product::record).collect();
+        line(&[&refusal, &products.len(), &sum_of(&records)])
+    }
+
+    // The table to bytes and back.
+    fn stored(&mut self) -> String {
+        let bytes = self.table.to_bytes();
+        self.table = Table::from_bytes(&bytes);
+        sum_of(&bytes).to_string()
     }
 
     // A text by its length and its sum.
@@ -336,9 +352,37 @@ impl Held {
                 line(&[&refusal_of(&answer), &same, &key])
             }
             "record" => hex(&self.table.product.record()),
+            "stored" => self.stored(),
             "time" => self.time(w.long(0), w.day(1)),
             _ => return None,
         })
+    }
+
+    // Commands on texts.
+    fn on_texts(&self, name: &str, w: &Words) -> Option<String> {
+        Some(match name {
+            "day_text" => w.day(0).to_string(),
+            "month_text" => Month(w.short(0)).to_string(),
+            "key_text" => Product { kind: w.short(0) as u8, ..self.table.product }.key_text(w.short(1)),
+            "decimal" => decimal_text(w.long(0)),
+            "read_decimal" => {
+                let found = decimal_of(w.text());
+                line(&[&u8::from(found.is_some()), &found.unwrap_or(0)])
+            }
+            "amount" => Amount { negative: w.number(0) != 0, amount: w.number(1), rest: w.short(2) }.to_string(),
+            _ => return None,
+        })
+    }
+
+    // Commands on a calendar's days.
+    fn on_calendar(&mut self, name: &str, w: &Words) -> Option<String> {
+        let refusal = match name {
+            "trades" => return Some(u8::from(self.calendar.trades(w.day(0))).to_string()),
+            "calendar_close" => refusal_of(&self.calendar.close(w.day(0))),
+            "calendar_reopen" => refusal_of(&self.calendar.reopen(w.day(0))),
+            _ => return None,
+        };
+        Some(line(&[&refusal, &calendar_text(&self.calendar)]))
     }
 
     // Commands on days, files and queues.
@@ -368,6 +412,7 @@ impl Held {
             "write" => self.write(w.text(), w.number(1) as usize),
             "marked" => u8::from(self.calendar.marked_after_cover()).to_string(),
             "product" => self.product(w.number(0) as usize),
+            "products" => self.products(),
             "notices" => self.notices(w.text()),
             "deliver" => self.deliver(w.text()),
             "rows" => self.rows(),
@@ -391,7 +436,9 @@ fn main() -> io::Result<()> {
         let name = words.next().unwrap();
         let words = Words(words.collect());
         if !held.change(name, &words) {
-            let said = held.on_table(name, &words).unwrap_or_else(|| held.on_others(name, &words));
+            let said = held.on_table(name, &words).or_else(|| held.on_calendar(name, &words));
+            let said = said.or_else(|| held.on_texts(name, &words));
+            let said = said.unwrap_or_else(|| held.on_others(name, &words));
             writeln!(out, "{said}")?;
         }
     }

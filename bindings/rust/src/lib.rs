@@ -5,15 +5,20 @@
 //! queue or load as it was. Tables and queues may be made and changed by hand: every call
 //! refuses one that is not sound (10).
 
+mod calendars;
 mod calls;
 mod delivery;
 mod layout;
 mod refusals;
+mod stored;
+mod texts;
 
 pub use delivery::{BadLine, Delivered, Differences, Notices};
 use refusals::judged;
 pub use refusals::Refusal;
 use std::fmt;
+pub use stored::TABLE;
+pub use texts::{decimal_of, decimal_text, Month};
 
 /// The most bytes of a master file.
 pub const FILE_AT_MOST: usize = 65536;
@@ -121,7 +126,7 @@ pub struct Moved {
 }
 
 /// The cash of a future, in 1/10,000 of the currency, with a rest of 0 to 9,999 in
-/// 1/100,000,000. `negative`, where the buyer pays the seller, covers both.
+/// 1/100,000,000. `negative`, where the buyer pays the seller, covers both. Displayed in the currency.
 #[derive(Clone, Copy, Debug, PartialEq, Eq)]
 #[repr(C)]
 pub struct Amount {
