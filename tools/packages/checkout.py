@@ -32,9 +32,12 @@ class Checkout:
             raise Stop('the checkout is not clean: commit, or put away, what git status names')
         self.commit = self.git('rev-parse', 'HEAD').strip()
         self.time = int(self.git('log', '-1', '--format=%ct'))
-        self.version = self.read('VERSION').decode().strip()
         self.mark = self.mark_of_commit(unpassed)
         self.check_wasm()
+
+    @property
+    def version(self):
+        return self.text('VERSION').strip()
 
     def git(self, *words):
         ran = subprocess.run(('git', *words), cwd=self.root, capture_output=True, text=True)
@@ -94,3 +97,33 @@ class Checkout:
 
     def built_text(self, name):
         return self.built(name).decode('utf-8').strip()
+
+
+class Folder(Checkout):
+    """A checkout as it is, with changes or without, or a folder that is none: what bindings/install installs of it."""
+
+    def __init__(self, root, kit):
+        self.root, self.mark, self.proved_by = root, None, kit
+        self.commit = self.asked('rev-parse', 'HEAD').strip() or 'none'
+        if self.asked('status', '--porcelain'):
+            self.commit += ' with changes'
+
+    # What git says; nothing where there is none, or no checkout.
+    def asked(self, *words):
+        try:
+            return self.git(*words)
+        except (OSError, Stop):
+            return ''
+
+    # The files that are there, but for what was built.
+    def files(self, *names):
+        found = (path.relative_to(self.root) for name in names for path in (self.root / name).rglob('*') if path.is_file())
+        return sorted(str(path) for path in found if 'target' not in path.parts)
+
+    @property
+    def verdict(self):
+        return 'by bindings/install'
+
+    @property
+    def kit(self):
+        return self.proved_by

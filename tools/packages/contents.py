@@ -19,21 +19,29 @@ NEEDS_KIT = {'examples/run'}  # it proves the programs that it runs
 PYTHON = 'bindings/python/scullpouch/'
 
 
-class Release:
-    """The files of which the packages are made, each read once."""
+class Built:
+    """The files that are installed, of a checkout or of a folder with changes, each read once."""
 
-    def __init__(self, checkout, proved):
-        self.checkout, self.time, self.version = checkout, checkout.time, checkout.version
-        self.proved = File(proved)
+    def __init__(self, checkout):
+        self.checkout, self.version = checkout, checkout.version
         self.programs = {name: File(checkout.built(f'bin/{name}'), runs=True) for name in PROGRAMS}
         self.archive = File(checkout.built(ARCHIVE))
-        self.shared = File(checkout.built(f'staticlib/{checkout.shared_object}'))
-        self.machine = machine_of(self.shared.data)
-        self.page = File(page(checkout))
+        self.shared = File(checkout.built(f'staticlib/{checkout.shared_object}'), runs=True)
 
-    # A file of the commit.
+    # A file of the checkout.
     def file(self, name):
         return File(self.checkout.read(name), runs=(self.checkout.root / name).stat().st_mode & 0o100 != 0)
+
+
+class Release(Built):
+    """The files of which the packages are made."""
+
+    def __init__(self, checkout, proved):
+        super().__init__(checkout)
+        self.time = checkout.time
+        self.proved = File(proved)
+        self.machine = machine_of(self.shared.data)
+        self.page = File(page(checkout))
 
 
 # The page, made of the module of target/.
@@ -86,15 +94,23 @@ def cmake(release, folder):
             version: File(filled(release, version, VERSION=release.version, INTERFACE=release.version.split('.')[0]))}
 
 
-# prefix: where it is installed, as pkg-config reads it; folder: that of the libraries below it.
+# programs: where they are, as the shell reads it; prefix: where all is installed, as pkg-config reads it; folder: that of
+# the libraries below it. bindings/install has the same.
 def installed(release, programs, prefix, folder):
     name = release.checkout.shared_object
     return {'bin/scullpouch': command(release, programs), **below('lib/scullpouch', release.programs),
             'include/scullpouch.h': release.file('bindings/include/scullpouch.h'), f'{folder}/libscullpouch.a': release.archive,
             f'{folder}/{name}': release.shared, f'{folder}/libscullpouch.so': File(link=name),
             f'{folder}/pkgconfig/scullpouch.pc': pkg_config(release, prefix, folder),
-            **below(f'{folder}/cmake/scullpouch', cmake(release, folder)),
-            'share/scullpouch/scullpouch.html': release.page}
+            **below(f'{folder}/cmake/scullpouch', cmake(release, folder))}
+
+
+# The command finds the programs beside itself, wherever the folder is, and so does pkg-config.
+def movable(release):
+    return installed(release, '"$(dirname -- "$(readlink -f -- "$0")")"/../lib/scullpouch', '${pcfiledir}/../..', 'lib')
+
+
+PAGE = 'share/scullpouch/scullpouch.html'
 
 
 # README, the documents and the examples, in the folders in which they name each other.
@@ -105,8 +121,7 @@ def documents(release):
 
 def tar_archive(release):
     top = f'{NAME}-{release.version}'
-    own = '"$(dirname -- "$(readlink -f -- "$0")")"/../lib/scullpouch'
-    files = {**installed(release, own, '${pcfiledir}/../..', 'lib'), **documents(release)}
+    files = {**movable(release), PAGE: release.page, **documents(release)}
     return f'{top}-linux-{release.machine.name}.tar.gz', tar(below(top, files), release.time)
 
 
@@ -121,7 +136,7 @@ def control(release, files):
 
 # The loader's list of libraries is renewed by dpkg's trigger.
 def debian_package(release):
-    files = below('./usr', {**installed(release, f'/usr/lib/{NAME}', '/usr', f'lib/{release.machine.triplet}'),
+    files = below('./usr', {**installed(release, f'/usr/lib/{NAME}', '/usr', f'lib/{release.machine.triplet}'), PAGE: release.page,
                             **below(f'share/doc/{NAME}', documents(release))})
     sums = ''.join(f'{hashlib.md5(files[name].data).hexdigest()}  {name[2:]}\n' for name in sorted(files) if not files[name].link)
     about = {'./control': control(release, files), './md5sums': sums, './triggers': 'activate-noawait ldconfig\n'}
@@ -132,13 +147,9 @@ def debian_package(release):
 
 # ---- Python, JavaScript, Rust ----
 
-# The module for Python takes the shared object beside it where SCULLPOUCH names no other.
-def python_module(release):
-    name = release.checkout.shared_object
-    text = replaced(release.checkout.text(PYTHON + '__init__.py'), f"os.environ.get('SCULLPOUCH', '{name}')",
-                    f"os.environ.get('SCULLPOUCH', os.path.join(os.path.dirname(os.path.abspath(__file__)), '{name}'))")
-    text = replaced(text, f'The shared object is {name}, or the file', f'The shared object is {name} beside this file, or the file')
-    return File(text.encode())
+# The module for Python, which takes the shared object beside it.
+def python_module(release, shared):
+    return {**{name: release.file(PYTHON + name) for name in ('__init__.py', 'py.typed')}, release.checkout.shared_object: shared}
 
 
 # The lines of RECORD: each file's sum and length, and its own name without them.
@@ -155,8 +166,7 @@ def wheel(release):
     about = f'{NAME}-{release.version}.dist-info'
     metadata = (f'Metadata-Version: 2.1\nName: {NAME}\nVersion: {release.version}\nSummary: {SUMMARY}: the proved calls\n'
                 'Requires-Python: >=3.8\n')
-    files = {f'{NAME}/__init__.py': python_module(release), f'{NAME}/py.typed': release.file(PYTHON + 'py.typed'),
-             f'{NAME}/{release.checkout.shared_object}': release.shared, f'{about}/PROVED.txt': release.proved,
+    files = {**below(NAME, python_module(release, release.shared._replace(runs=False))), f'{about}/PROVED.txt': release.proved,
              f'{about}/METADATA': File(metadata.encode()),
              f'{about}/WHEEL': File(f'Wheel-Version: 1.0\nGenerator: {NAME}\nRoot-Is-Purelib: false\nTag: {tag}\n'.encode())}
     files[f'{about}/RECORD'] = record(files, f'{about}/RECORD')
@@ -169,25 +179,14 @@ def npm_archive(release):
     return f'{NAME}-{release.version}.tgz', tar(below('package', files), release.time)
 
 
-# The crate's build takes the archive in the crate where SCULLPOUCH_LIB names no other, and pkg-config's where it has none.
-RUST_OWN = '''fn own() -> Option<String> {
-    let folder = format!("{}/lib", std::env::var("CARGO_MANIFEST_DIR").ok()?);
-    std::path::Path::new(&folder).join("libscullpouch.a").exists().then_some(folder)
-}
-
-fn main() {'''
-
-
-def rust_build(release):
-    text = release.checkout.text('bindings/rust/build.rs')
-    text = replaced(text, "the folder SCULLPOUCH_LIB, or the one", "the folder SCULLPOUCH_LIB, or this crate's own, or the one")
-    return replaced(replaced(text, 'fn main() {', RUST_OWN), '.or_else(said_by_pkg_config)', '.or_else(own).or_else(said_by_pkg_config)')
+# The crate for Rust, whose build takes the archive in its folder lib.
+def rust_crate(release, archive):
+    names = release.checkout.files('bindings/rust')
+    return {**{name[len('bindings/rust/'):]: release.file(name) for name in names}, 'lib/libscullpouch.a': archive}
 
 
 def crate(release):
-    own = 'bindings/rust/'
-    files = {name[len(own):]: release.file(name) for name in release.checkout.files('bindings/rust')}
-    files.update({'build.rs': File(rust_build(release).encode()), 'lib/libscullpouch.a': release.archive, 'PROVED.txt': release.proved})
+    files = {**rust_crate(release, release.archive), 'PROVED.txt': release.proved}
     top = f'{NAME}-{release.version}'
     return f'{top}.crate', tar(below(top, files), release.time)
 
