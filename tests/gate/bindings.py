@@ -2,7 +2,7 @@
 
 They are installed in a folder of their own by the lines of docs/LIBRARY.md, which needs rt
 and a C compiler (cc); the programs of bindings/ are built over them and compared with
-the second program. What has no tool on the machine (cc, c++, cargo, pkg-config,
+the second program. What has no tool on the machine (cc, c++, cargo, cmake, pkg-config,
 valgrind) is left out, and a line says so.
 
 --seed N repeats the scripts and sessions of a run; without it they are others each time.
@@ -38,6 +38,7 @@ PREFIX_LINE = 'prefix=$HOME/scullpouch'
 WARNINGS = ('-std=c11', '-Wall', '-Wextra', '-Wpedantic', '-Werror')
 SANITIZERS = ('-g', '-fsanitize=address,undefined', '-fno-sanitize-recover=all')
 TOOLS = {'c++': 'the header in C++', 'cargo': 'the crate for Rust', 'pkg-config': "the programs of docs/LIBRARY.md",
+         'cmake': 'the library for CMake',
          'valgrind': 'reads past the lent bytes in the library itself'}
 
 
@@ -280,6 +281,25 @@ class Words(unittest.TestCase):
         for language, programs in PROGRAMS.items():
             self.assertEqual(printed(programs['calls'], ROOT, data).decode(), expected, language)
 
+    # Each number with its question, where the crate's documents say what a refusal is.
+    def test_documented(self):
+        documented = read(BINDINGS, 'rust', 'src', 'refusals.rs').split('pub struct Refusal')[0]
+        rows = re.findall(r'^/// \| (\d+) \| (.*) \|$', documented, re.M)
+        self.assertEqual({int(number): question for number, question in rows}, questions())
+
+    # Texts that are no decimals, and one that is; Python takes a Decimal, which reads texts by its own rule.
+    def test_decimals(self):
+        wrong = ('12.', '.5', '.', '+1', '1e3', '12.34000', '1,5', '0x10', '1_000', '١٢')
+        data = ''.join(f'read_decimal {word}\n' for word in (*wrong, '12.5')).encode()
+        for language in PROGRAMS.keys() - {'Python'}:
+            self.assertEqual(printed(PROGRAMS[language]['calls'], ROOT, data).decode(), '0 0\n' * len(wrong) + '1 125000\n', language)
+
+    # Amounts above those that every language's script can have.
+    def test_amounts(self):
+        data = b'amount 1 18446744073709551615 9999\namount 0 18446744073709551615 65535\n'
+        for language, programs in PROGRAMS.items():
+            self.assertEqual(printed(programs['calls'], ROOT, data), b'-1844674407370955.16159999\n1844674407370955.16215535\n', language)
+
 
 # Structs of the crates whose name in C is another.
 NAMES = {'FlatProduct': 'product', 'FlatTable': 'table', 'FlatOutcome': 'outcome', 'FlatMeasured': 'measured',
@@ -402,6 +422,57 @@ class Interface(unittest.TestCase):
     def test_types(self):
         for name in ('__init__.py', 'py.typed'):
             self.assertTrue(os.path.isfile(os.path.join(BUILT.prefix, 'share', 'scullpouch', 'python', 'scullpouch', name)))
+
+    # The command, its programs and what it says of itself, as a package has them.
+    def test_command(self):
+        command = os.path.join(BUILT.prefix, 'bin', 'scullpouch')
+        commands, expected = (read(EXAMPLES, name).encode() for name in ('session.txt', 'session.out'))
+        self.assertEqual(run(command, 'terms', cwd=EXAMPLES, input=commands), expected)
+        self.assertTrue(run(command, '--version').decode().startswith(f'scullpouch {version()}, commit '))
+        part = re.search(r'^## The programs\n(.*?)^## ', read(ROOT, 'docs', 'OPERATIONS.md'), re.M | re.S)[1]
+        self.assertEqual(sorted(os.listdir(os.path.join(BUILT.prefix, 'lib', 'scullpouch'))),
+                         sorted(re.findall(r'^### (\w+)$', part, re.M)))
+
+    # Where all is proved, bindings/install says one line; the rt of this test finds all unchanged.
+    def test_second_run(self):
+        with tempfile.TemporaryDirectory() as folder:
+            with open(os.path.join(folder, 'rt'), 'w', encoding='utf-8') as out:
+                out.write("#!/bin/sh\necho 'rt: days proved (unchanged since it was last proved)'\n")
+            os.chmod(os.path.join(folder, 'rt'), 0o755)
+            environment = {**os.environ, 'PATH': folder + os.pathsep + os.environ['PATH']}
+            for _ in range(2):
+                said = run(os.path.join(BINDINGS, 'install'), os.path.join(folder, 'prefix'), env=environment).decode()
+                self.assertEqual(said, f'bindings: installed in {folder}/prefix\n')
+            for name in (os.path.join('lib', 'libscullpouch.a'), os.path.join('lib', 'scullpouch', 'query')):
+                with open(os.path.join(folder, 'prefix', name), 'rb') as one, open(os.path.join(BUILT.prefix, name), 'rb') as other:
+                    self.assertEqual(one.read(), other.read(), name)
+
+    # The module finds the shared object beside itself, with no variable that names one.
+    def test_beside(self):
+        mine = ('SCULLPOUCH', 'LD_LIBRARY_PATH', 'PYTHONPATH')
+        environment = {name: value for name, value in os.environ.items() if name not in mine}
+        environment.update(PYTHONPATH=os.path.join(BUILT.prefix, 'share', 'scullpouch', 'python'), PYTHONDONTWRITEBYTECODE='1')
+        said = run(sys.executable, '-c', 'import scullpouch; print(scullpouch.__version__)', env=environment, cwd=BUILT.folder)
+        self.assertEqual(said.decode().strip(), version())
+
+    # A project of CMake finds the library, of this interface and not of a later version.
+    @unittest.skipUnless(shutil.which('cmake'), 'no cmake')
+    def test_cmake(self):
+        lines = ('cmake_minimum_required(VERSION 3.13)', 'project(mine C)', 'find_package(scullpouch ${ASKED} REQUIRED)',
+                 f'add_executable(mine {os.path.join(BINDINGS, "c", "session.c")})',
+                 'target_link_libraries(mine scullpouch::scullpouch)', '')
+        os.makedirs(BUILT.path('cmake'))
+        with open(BUILT.path('cmake', 'CMakeLists.txt'), 'w', encoding='utf-8') as out:
+            out.write('\n'.join(lines))
+        words = ('cmake', '-S', BUILT.path('cmake'), f'-DCMAKE_PREFIX_PATH={BUILT.prefix}', '-B')
+        run(*words, BUILT.path('cmake', 'built'), f'-DASKED={version()}')
+        run('cmake', '--build', BUILT.path('cmake', 'built'))
+        commands, expected = (read(EXAMPLES, name).encode() for name in ('session.txt', 'session.out'))
+        self.assertEqual(printed([BUILT.path('cmake', 'built', 'mine')], EXAMPLES, commands), expected)
+        first, second, third = map(int, version().split('.'))
+        for asked in (f'{first}.{second}.{third + 1}', f'{first + 1}.0', f'{first - 1}.0'):
+            with self.assertRaises(AssertionError):
+                run(*words, BUILT.path('cmake', asked), f'-DASKED={asked}')
 
     # `unsafe` stands only at the calls.
     def test_unsafe(self):
@@ -610,6 +681,47 @@ class Faults(unittest.TestCase):
 
 
 # ---- The programs of docs/LIBRARY.md ----
+
+# The programs with texts and decimals print what their section says, over what was installed and with no variable that names
+# it.
+class OverTheCalls(unittest.TestCase):
+
+    TITLE = 'A program with texts and decimals'
+
+    def setUp(self):
+        self.folder = tempfile.mkdtemp(dir=BUILT.folder)
+        shutil.copy(os.path.join(EXAMPLES, 'master.bin'), self.folder)
+        mine = ('SCULLPOUCH', 'SCULLPOUCH_LIB', 'PKG_CONFIG_PATH', 'LD_LIBRARY_PATH', 'PYTHONPATH')
+        self.environment = {name: value for name, value in os.environ.items() if name not in mine}
+
+    def put(self, language, *name):
+        [text] = fenced(language, self.TITLE)
+        with open(os.path.join(self.folder, *name), 'w', encoding='utf-8') as out:
+            out.write(text)
+
+    def prints(self, *command, **more):
+        found = run(*command, cwd=self.folder, env={**self.environment, **more}).decode()
+        self.assertEqual(found, fenced('text', self.TITLE)[0])
+
+    def test_c(self):
+        self.put('c', 'program.c')
+        include = f'-I{os.path.join(BUILT.prefix, "include")}'
+        run('cc', *WARNINGS, '-O1', include, 'program.c', BUILT.library, '-o', 'program', cwd=self.folder)
+        self.prints('./program')
+
+    def test_python(self):
+        self.put('python', 'program.py')
+        module = os.path.join(BUILT.prefix, 'share', 'scullpouch', 'python')
+        self.prints(sys.executable, 'program.py', PYTHONPATH=module, PYTHONDONTWRITEBYTECODE='1')
+
+    @unittest.skipUnless(shutil.which('cargo'), 'no cargo')
+    def test_rust(self):
+        crate = os.path.join(BUILT.prefix, 'share', 'scullpouch', 'rust')
+        run('cargo', 'new', '--quiet', '--vcs', 'none', 'program', cwd=self.folder)
+        run('cargo', 'add', '--quiet', '--offline', '--manifest-path', 'program/Cargo.toml', '--path', crate, cwd=self.folder)
+        self.put('rust', 'program', 'src', 'main.rs')
+        self.prints('cargo', 'run', '--quiet', '--offline', '--manifest-path', 'program/Cargo.toml', CARGO_TARGET_DIR=BUILT.path('cargo'))
+
 
 @unittest.skipUnless(shutil.which('pkg-config'), 'no pkg-config')
 class Programs(unittest.TestCase):

@@ -114,6 +114,17 @@ class Same(unittest.TestCase):
             printed = run('bash', '-euc', lines, cwd=folder)
         self.assertEqual(printed.decode(), bindings.fenced('text')[0])
 
+    # The program with texts and decimals prints what those for the other languages print.
+    def test_over_the_calls(self):
+        title = bindings.OverTheCalls.TITLE
+        with tempfile.TemporaryDirectory() as folder:
+            shutil.copytree(BUILT, folder, dirs_exist_ok=True)
+            shutil.copy(os.path.join(EXAMPLES, 'master.bin'), folder)
+            with open(os.path.join(folder, 'program.mjs'), 'w', encoding='utf-8') as out:
+                out.write(bindings.fenced('js', title)[0])
+            printed = run('node', 'program.mjs', cwd=folder)
+        self.assertEqual(printed.decode(), bindings.fenced('text', title)[0])
+
 
 # ---- Layouts, names, the module ----
 

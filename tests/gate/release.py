@@ -423,6 +423,16 @@ class Installed(unittest.TestCase):
         found = run(*command, input=read(EXAMPLES, 'session.txt'), **{'cwd': EXAMPLES, **ways})
         self.assertTrue(found == read(EXAMPLES, 'session.out'), found[:2000])
 
+    # Whether CMake configures a project that asks for a version of what is installed below a folder.
+    def configured(self, top, asked):
+        lines = ('cmake_minimum_required(VERSION 3.13)', 'project(mine C)', f'find_package(scullpouch {asked} REQUIRED)',
+                 f'add_executable(mine {os.path.join(ROOT, "bindings", "c", "session.c")})',
+                 'target_link_libraries(mine scullpouch::scullpouch)', '')
+        shutil.rmtree(self.path('built'), ignore_errors=True)
+        write('\n'.join(lines).encode(), self.path('CMakeLists.txt'))
+        done = ran('cmake', '-S', self.folder, '-B', self.path('built'), f'-DCMAKE_PREFIX_PATH={top}')
+        return done.returncode == 0
+
 
 class Tar(Installed):
 
@@ -478,24 +488,14 @@ class Tar(Installed):
         run('cc', os.path.join(ROOT, 'bindings', 'c', 'session.c'), words[0], archive, '-o', self.path('session'))
         self.session(self.path('session'))
 
-    # Whether CMake configures a project that asks for a version.
-    def configured(self, asked):
-        lines = ('cmake_minimum_required(VERSION 3.13)', 'project(mine C)', f'find_package(scullpouch {asked} REQUIRED)',
-                 f'add_executable(mine {os.path.join(ROOT, "bindings", "c", "session.c")})',
-                 'target_link_libraries(mine scullpouch::scullpouch)', '')
-        shutil.rmtree(self.path('built'), ignore_errors=True)
-        write('\n'.join(lines).encode(), self.path('CMakeLists.txt'))
-        done = ran('cmake', '-S', self.folder, '-B', self.path('built'), f'-DCMAKE_PREFIX_PATH={self.top}')
-        return done.returncode == 0
-
     # Another interface or a later version is refused.
     @has('cc', 'cmake')
     def test_cmake(self):
         first, second, third = map(int, version().split('.'))
         for asked in (f'{first}.{second}.{third + 1}', f'{first - 1}.0', f'{first + 1}.0'):
-            self.assertFalse(self.configured(asked), asked)
+            self.assertFalse(self.configured(self.top, asked), asked)
         for asked in (f'{first}.0', version(), ''):
-            self.assertTrue(self.configured(asked), asked)
+            self.assertTrue(self.configured(self.top, asked), asked)
         run('cmake', '--build', self.path('built'))
         self.session(self.path('built', 'mine'))
 
@@ -516,15 +516,31 @@ class Debian(Installed):
         self.assertEqual(run('dpkg-deb', '-f', package('.deb'), 'Package').decode(), 'scullpouch\n')
 
     # The files that a program is linked with, by its loader, put beside the package's own.
-    def put(self, program):
+    def put(self, program, root='root'):
         for path in re.findall(r'(/\S+) \(0x', run('ldd', program).decode()):
-            os.makedirs(os.path.dirname(self.path('root', path[1:])), exist_ok=True)
-            shutil.copy(path, self.path('root', path[1:]))
+            os.makedirs(os.path.dirname(self.path(root, path[1:])), exist_ok=True)
+            shutil.copy(path, self.path(root, path[1:]))
 
-    def put_examples(self, folder):
+    def put_examples(self, folder, root='root'):
         for name in os.listdir(folder):
             if os.path.isfile(os.path.join(folder, name)):
-                shutil.copy(os.path.join(folder, name), self.path('root'))
+                shutil.copy(os.path.join(folder, name), self.path(root))
+
+    # CMake and pkg-config find the library in Debian's folder of it.
+    @has('cc', 'cmake')
+    def test_cmake(self):
+        self.assertTrue(self.configured(self.path('root', 'usr'), version()))
+        run('cmake', '--build', self.path('built'))
+        self.session(self.path('built', 'mine'))
+
+    @has('cc', 'pkg-config')
+    def test_pkg_config(self):
+        [folder] = glob(self.path('root', 'usr', 'lib', '*', 'pkgconfig'))
+        known = environment(PKG_CONFIG_PATH=folder, PKG_CONFIG_SYSROOT_DIR=self.path('root'), PKG_CONFIG_ALLOW_SYSTEM_CFLAGS='1',
+                            PKG_CONFIG_ALLOW_SYSTEM_LIBS='1')
+        words = run('pkg-config', '--cflags', '--libs', 'scullpouch', env=known).decode().split()
+        run('cc', os.path.join(ROOT, 'bindings', 'c', 'session.c'), *words, '-o', self.path('session'))
+        self.session(self.path('session'), env=environment(LD_LIBRARY_PATH=os.path.dirname(folder)))
 
     @unittest.skipUnless(shutil.which('chroot') and os.getuid() == 0, 'no chroot')
     def test_alone(self):
@@ -558,8 +574,13 @@ class Debian(Installed):
         self.assertEqual(self.dpkg('-i', package('.deb'), libc6=f'2.{needed}-1'), 0)
         self.assertEqual(read(self.path('system', 'usr', 'lib', 'scullpouch', 'query')), read(TARGET, 'bin', 'query'))
         self.assertEqual(self.dpkg('-V', 'scullpouch'), 0)
+        if shutil.which('chroot'):
+            for name in programs():
+                self.put(os.path.join(TARGET, 'bin', name), 'system')
+            self.put_examples(EXAMPLES, 'system')
+            self.session('chroot', self.path('system'), '/usr/lib/scullpouch/terms')
         self.assertEqual(self.dpkg('-P', 'scullpouch'), 0)
-        self.assertFalse(os.path.exists(self.path('system', 'usr')))
+        self.assertEqual(glob(self.path('system', 'usr', '**', '*scullpouch*'), recursive=True), [])
 
     # The command needs a shell beside, and no other program.
     @unittest.skipUnless(shutil.which('chroot') and shutil.which('dash') and os.getuid() == 0, 'no chroot or no dash')
@@ -584,6 +605,9 @@ class Wheel(Installed):
         self.assertTrue(run(python, '-c', 'import scullpouch; print(scullpouch.__file__)').decode().startswith(self.folder))
         shutil.copy(os.path.join(ROOT, 'bindings', 'python', 'session.py'), self.folder)
         self.session(python, self.path('session.py'))
+        source = "from datetime import date; import scullpouch; print(scullpouch.Master(open('master.bin', 'rb').read()).open('AXA', date(2008, 3, 20)))"
+        self.assertEqual(run(python, '-c', source, cwd=EXAMPLES).decode(),
+                         "<Table of 'AXA' on 2008-03-20: 12 maturities, 2008-03 to 2012-12>\n")
         run(python, '-m', 'pip', 'uninstall', '-q', '-y', 'scullpouch')
         self.assertNotEqual(ran(python, '-c', 'import scullpouch').returncode, 0)
 
