@@ -26,7 +26,7 @@ class Built:
         self.checkout, self.version = checkout, checkout.version
         self.programs = {name: File(checkout.built(f'bin/{name}'), runs=True) for name in PROGRAMS}
         self.archive = File(checkout.built(ARCHIVE))
-        self.shared = File(checkout.built(f'staticlib/{checkout.shared_object}'), runs=True)
+        self.shared = File(checkout.built(f'staticlib/{checkout.shared_object}'))
 
     # A file of the checkout.
     def file(self, name):
@@ -166,7 +166,7 @@ def wheel(release):
     about = f'{NAME}-{release.version}.dist-info'
     metadata = (f'Metadata-Version: 2.1\nName: {NAME}\nVersion: {release.version}\nSummary: {SUMMARY}: the proved calls\n'
                 'Requires-Python: >=3.8\n')
-    files = {**below(NAME, python_module(release, release.shared._replace(runs=False))), f'{about}/PROVED.txt': release.proved,
+    files = {**below(NAME, python_module(release, release.shared)), f'{about}/PROVED.txt': release.proved,
              f'{about}/METADATA': File(metadata.encode()),
              f'{about}/WHEEL': File(f'Wheel-Version: 1.0\nGenerator: {NAME}\nRoot-Is-Purelib: false\nTag: {tag}\n'.encode())}
     files[f'{about}/RECORD'] = record(files, f'{about}/RECORD')
