@@ -23,13 +23,15 @@ import tempfile
 import unittest
 import zipfile
 from glob import glob
+from importlib.util import find_spec
 
 from tests import ROOT
 
 EXAMPLES = os.path.join(ROOT, 'examples')
 PARTS = ('bin', 'log', 'staticlib', 'wasm')
 SECONDS = 300
-TOOLS = {'dpkg-deb': 'the Debian package', 'npm': 'the archive for JavaScript', 'cargo': 'the crate for Rust', 'cc': 'the library for C',
+TOOLS = {'dpkg-deb': 'the Debian package', 'dpkg': 'the Debian package as it is installed', 'npm': 'the archive for JavaScript',
+         'node': 'the archive for JavaScript', 'cargo': 'the crate for Rust', 'cc': 'the library for C',
          'pkg-config': 'the library for C', 'cmake': 'the library for CMake', 'chroot': 'the programs beside libc6 alone',
          'dash': 'the command beside libc6 alone', 'nm': 'what the programs take of the C library'}
 NO_NETWORK = {'PIP_NO_INDEX': '1', 'PIP_DISABLE_PIP_VERSION_CHECK': '1', 'CARGO_NET_OFFLINE': 'true', 'npm_config_offline': 'true',
@@ -594,6 +596,8 @@ class Debian(Installed):
         self.assertEqual((done.returncode, done.stdout), (2, b''))
 
 
+# Debian has pip for a fresh environment in a package of its own.
+@unittest.skipUnless(find_spec('venv') and find_spec('ensurepip'), 'no venv or no ensurepip')
 class Wheel(Installed):
 
     # A fresh environment, whose module finds the shared object beside itself.
@@ -650,7 +654,9 @@ def main(arguments):
         if not shutil.which(tool):
             print(f'release: no {tool}, so {what} is left out')
     if os.getuid() != 0:
-        print('release: not root, so the programs beside libc6 alone are left out')
+        print('release: not root, so dpkg -i and the programs beside libc6 alone are left out')
+    if not (find_spec('venv') and find_spec('ensurepip')):
+        print('release: no venv or no ensurepip, so the wheel in a fresh environment is left out')
     unittest.main(argv=[__file__, *rest])
 
 

@@ -3,6 +3,7 @@
 PYTHONPATH=tools python3 -m packages.prefix PREFIX KIT
 """
 import os
+import shutil
 import sys
 import tempfile
 from pathlib import Path
@@ -22,9 +23,17 @@ def files(built):
             **below('share/scullpouch/rust', rust_crate(built, archive))}
 
 
+# A folder that everyone may read, whatever the umask.
+def folder(path):
+    if not path.is_dir():
+        folder(path.parent)
+        path.mkdir()
+        path.chmod(0o755)
+
+
 # A file takes its name when it is whole: what runs, or is read, meanwhile stays as it was.
 def put(path, file):
-    path.parent.mkdir(parents=True, exist_ok=True)
+    folder(path.parent)
     part = Path(tempfile.mkdtemp(dir=path.parent)) / 'file'
     try:
         if file.link:
@@ -34,7 +43,7 @@ def put(path, file):
             part.chmod(file.mode)
         os.replace(part, path)
     finally:
-        part.parent.rmdir()
+        shutil.rmtree(part.parent)
 
 
 def main(prefix, kit):
