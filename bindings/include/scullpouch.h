@@ -42,13 +42,13 @@ extern "C" {
 #define SCULLPOUCH_MAP 736
 #define SCULLPOUCH_YEAR_MAP 46
 #define SCULLPOUCH_TABLES 200
-#define SCULLPOUCH_WEEKLY 5 /* the kind whose keys are days */
+#define SCULLPOUCH_WEEKLY 5      /* the kind whose keys are days */
 #define SCULLPOUCH_PRODUCTS 1905 /* the most products of a file */
 
-/* Room for the texts of a day, a month or a key, a number of ten-thousandths and an amount, with their zero at the end. */
-#define SCULLPOUCH_DAY_TEXT 11
+/* Room for texts, with the zero at their end. */
+#define SCULLPOUCH_DAY_TEXT 11 /* of a day, or of any key */
 #define SCULLPOUCH_MONTH_TEXT 8
-#define SCULLPOUCH_DECIMAL_TEXT 12
+#define SCULLPOUCH_DECIMAL_TEXT 12 /* of a number of ten-thousandths */
 #define SCULLPOUCH_AMOUNT_TEXT 27
 
 /* Of a delivery. The lists and buffers that a call fills have room for so many elements, or more. */
