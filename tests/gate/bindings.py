@@ -580,7 +580,7 @@ ATTEMPTS = {
     'deliveries': ("_call['read_notices'](*_lent(text, 'text'), *self._lists)",
                    "_call['read_notices'](bytes(text), len(text), *self._lists)"),
     'days': ('    if isinstance(value, datetime.datetime):\n', '    if value is None:\n'),
-    'decimals': ('number % 10 ** max(0, more)', 'False'),
+    'decimals': ('value.is_signed() or ', ''),
     'names': ("f'{name}: {number} does not fit", "f'{number} does not fit"),
 }
 

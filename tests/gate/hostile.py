@@ -283,9 +283,10 @@ def decimals():
     expect(cash, (negative, amount, rest))
     expect(cash.decimal, -Decimal(amount) / 10_000 - Decimal(rest) / 100_000_000)
     expect(held.copy().measure(3, 2, Decimal('12.34')), held.copy().measure(3, 2, 123400))
-    for text in ('12.34', '1234e-2', '12.340000', '0.00e5'):
+    for text in ('12.34', '1234e-2', '12.340000', '12.34' + '0' * 9_000, '0.00e5', '-0'):
         expect(came(held.tick, Decimal(text)), came(held.tick, int(10_000 * Decimal(text))), text)
-    for text in ('12.34567', '1e-99999999', '-0.0001', '-1', 'NaN', 'sNaN', 'Infinity', '1e99999999', '429496.7296'):
+    for text in ('12.34567', '1e-99999999', '-0.0001', '-1', 'NaN', 'sNaN', 'Infinity', '1e99999999', '429496.7296',
+                 '12.' + '3' * 9_000):
         expect(came(held.tick, Decimal(text)), 'ValueError', text)
     for price in (12.34, '12.34', None):
         expect(came(held.tick, price), 'TypeError', price)
@@ -305,6 +306,7 @@ def names():
             ('closed', calendar._replace(closed=b'').trades, DATE), ('years', calendar._replace(years=-1).trades, DATE),
             ('records', scullpouch.write, calendar, None), ('calendar', scullpouch.write, None, b''),
             ('buffer', scullpouch.write_into, b'', calendar, b''), ('data', scullpouch.Table.from_bytes, b''),
+            ('moved', scullpouch.Table.from_bytes, bytes(TABLE), (1,)), ('left', scullpouch.Table.from_bytes, bytes(TABLE), (1, -1)),
             ('block', scullpouch.Intake(2).take, None), ('blocks', scullpouch.Intake, 65536), ('b', scullpouch.Queue().handle, -1),
             ('table', scullpouch.Queue().join, 65536), ('text', scullpouch.Notices, 'O 2008-03-20'), ('seed', scullpouch.make, -1, 1, 1),
             ('master', scullpouch.Notices(b'O 2008-03-20').rows, None), ('group', held.product._replace(group='FR010').record)):

@@ -391,13 +391,16 @@ def _day(value: Day, name: str) -> int:
 def _price(value: Price, name: str) -> int:
     if not isinstance(value, Decimal):
         return _fit(value, name, 32)
-    sign, digits, exponent = value.as_tuple()
-    if not isinstance(exponent, int) or (value and (sign or value.adjusted() > 5)):
+    _, digits, exponent = value.as_tuple()
+    if not isinstance(exponent, int) or (value and (value.is_signed() or value.adjusted() > 5)):
         raise ValueError(f'{name}: {value} is not 0 to 429496.7295')
-    number, more = int(''.join(map(str, digits))), -4 - exponent
-    if value and (more > len(digits) or number % 10 ** max(0, more)):
+    if not value:
+        return 0
+    text = ''.join(map(str, digits)).rstrip('0')
+    exponent += len(digits) - len(text)
+    if exponent < -4:
         raise ValueError(f'{name}: {value} has more than four digits after the point')
-    return _fit(number // 10 ** more if more > 0 else number * 10 ** -more, name, 32) if value else 0
+    return _fit(int(text) * 10 ** (exponent + 4), name, 32)
 
 
 # The bytes that an object lends. They are copied where they could change meanwhile, or where the object could measure
@@ -891,7 +894,10 @@ class Table:
     def from_bytes(cls, data: ReadableBuffer, moved: tuple[SupportsIndex, SupportsIndex] = Moved(0, 0)) -> Table:
         """A table that was stored, and how many maturities entered and left before. Calls refuse one that is not
         sound (10)."""
-        entered, left = moved
+        try:
+            entered, left = moved
+        except (TypeError, ValueError) as error:
+            raise type(error)('moved: two counts are expected') from None
         return cls(_Outcome(0, _fit(entered, 'entered'), _fit(left, 'left'), _sized(_Table, data, 'data')))
 
     def __eq__(self, other: object) -> bool:
