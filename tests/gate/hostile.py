@@ -82,6 +82,11 @@ class Between(int):
     __le__ = __gt__ = __ge__
 
 
+# A date whose year would be cut to 2008.
+class Late(date):
+    year = 2008 + 65536
+
+
 # ---- Attempts ----
 
 # An id that cannot be encoded, or that no record can have: 1 to 8 first, then 9, before the date is asked.
@@ -259,6 +264,7 @@ def days():
         expect(came(getattr(held, name), next_day), came(getattr(other, name), DATE + 1), name)
         expect(came(getattr(held, name), date(1999, 12, 31)), ('refused', 23), name)
         expect(came(getattr(held, name), datetime(2008, 3, 24)), 'TypeError', name)
+        expect(came(getattr(held, name), Late(2008, 3, 24)), 'ValueError', name)
     expect((scullpouch.date(day), scullpouch.as_date(DATE), scullpouch.day_text(day)), ((2008, 3, 20), day, '2008-03-20'))
     expect(came(scullpouch.as_date, 36525), ('refused', 23))
     expect([one.date for one in held.maturities], [date(*dates.date_of(one.day)) for one in held.maturities])

@@ -383,7 +383,7 @@ def _day(value: Day, name: str) -> int:
     if isinstance(value, datetime.datetime):
         raise TypeError(f'{name}: a day is expected, not a time of a day; hand in its date()')
     if isinstance(value, datetime.date):
-        return _judged(_call['day'](value.year, value.month, value.day)).day
+        return _judged(_call['day'](*(_fit(part, name) for part in (value.year, value.month, value.day)))).day
     return _fit(value, name)
 
 
