@@ -20,7 +20,7 @@ use Rattle.expiry.specs.declared.LastDay.{LastDay}
 use Rattle.expiry.specs.LastDays.{keyOf, anchorOf, lastDay, lastTradingDay, workedOut}
 use Rattle.listing.specs.declared.Maturity.{Maturity}
 use Rattle.listing.specs.Rules.{Rule, freshKeys, unused}
-use Rattle.listing.specs.Months.{placesOfKind, coverRule, ruleOf, keysOf}
+use Rattle.listing.specs.Months.{placesOfKind, coverRule, keysOf}
 use Rattle.listing.proofs.KeyCounts.{count-most}
 use Rattle.listing.proofs.Lawful.{Lawful, complete-length, day-anchor, key-at}
 use Rattle.listing.proofs.OfKinds.{rule-lawful, rule-places, rule-beyond, rule-keys, rule-begins, rule-deep}
@@ -30,7 +30,7 @@ use Rattle.file_load.specs.Products.{productFrom, productAt}
 use Rattle.file_load.specs.Load.{loadAsks, found, productOf}
 use Rattle.file_load.proofs.Accepting.{accepted-file}
 use Rattle.table.specs.declared.Table.{Table}
-use Rattle.table.specs.Table.{listedIn, sound}
+use Rattle.table.specs.Table.{listedIn, sound, ruleIn}
 use Rattle.history.proofs.SoundTables.{listed-length, sound-numbered, given-bound, last-right, back-most, sound-opened, key-right, number-right}
 use Rattle.delivery_rows.specs.Delivery.{Row, deliveryRow}
 use Rattle.delivery_receipts.specs.Receipts.{formFits}
@@ -84,16 +84,16 @@ beyond-months c kind group e = rw e (month-most (coverEnd c))
 
 module _ (t : Table) (e : sound t ≡ true) (i : ℕ) (h : i < placesOfKind (t .product .kind)) where
   abbrev r : Rule
-  r = ruleOf (t .calendar) (t .product .kind) (t .product .group)
+  r = ruleIn t (t .calendar)
 
-  abbrev w : Lawful (ruleOf (t .calendar) (t .product .kind) (t .product .group))
+  abbrev w : Lawful (ruleIn t (t .calendar))
   w = rule-lawful (t .calendar .cover) (t .product .kind) (t .product .group)
 
   abbrev m : Maturity
   m = getD (t .maturities) i unused
 
   abbrev key : ℕ
-  key = getD (freshKeys (ruleOf (t .calendar) (t .product .kind) (t .product .group)) (t .calendar) (t .date)) i 0
+  key = getD (freshKeys (ruleIn t (t .calendar)) (t .calendar) (t .date)) i 0
 
   as-many : length (freshKeys r (t .calendar) (t .date)) ≡ placesOfKind (t .product .kind)
   as-many = complete-length r w (t .calendar) (t .date) (sound-opened t e .full) ∙ rule-places (t .calendar .cover) (t .product .kind) (t .product .group)

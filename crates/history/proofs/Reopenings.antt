@@ -14,12 +14,11 @@ use Rattle.calendar.specs.declared.Calendar.{Calendar}
 use Rattle.calendar.specs.Trading.{inCover, reopenDay, closedWeekday}
 use Rattle.listing.specs.declared.Maturity.{Maturity}
 use Rattle.listing.specs.Rules.{Rule, frontStays, freshKeys, maturity}
-use Rattle.listing.specs.Months.{ruleOf, freshOf}
 use Rattle.listing.proofs.FrontStays.{same-keys}
 use Rattle.table_numbering.specs.Numbering.{isListed, numberOf, missing}
 use Rattle.table.specs.declared.Table.{Table}
 use Rattle.table.specs.declared.Outcome.{Outcome}
-use Rattle.table.specs.Table.{listedIn, sound, moved, reopenAsks, reopenCall}
+use Rattle.table.specs.Table.{listedIn, sound, moved, reopenAsks, reopenCall, ruleIn, freshIn}
 use Rattle.table.proofs.TableQuestions.{answered-yes}
 use Rattle.table.proofs.Opens.{refusal-is}
 use Rattle.history.proofs.ListingNumbers.{listed-one, months-of}
@@ -42,19 +41,19 @@ module _ (t : Table) (day : ℕ) where
   reopened = reopenDay (t .calendar) day
 
   abbrev fresh : List Maturity
-  fresh = freshOf reopened (t .product .kind) (t .product .group) (t .date)
+  fresh = freshIn t reopened (t .date)
 
-  module _ (s : sound t ≡ true) (stays : frontStays (ruleOf (t .calendar) (t .product .kind) (t .product .group)) (t .calendar) reopened (t .date) ≡ true) where
+  module _ (s : sound t ≡ true) (stays : frontStays (ruleIn t (t .calendar)) (t .calendar) reopened (t .date) ≡ true) where
     abbrev r : Rule
-    r = ruleOf (t .calendar) (t .product .kind) (t .product .group)
+    r = ruleIn t (t .calendar)
 
-    keys-are : freshKeys (ruleOf reopened (t .product .kind) (t .product .group)) reopened (t .date) ≡ freshKeys r (t .calendar) (t .date)
+    keys-are : freshKeys (ruleIn t reopened) reopened (t .date) ≡ freshKeys r (t .calendar) (t .date)
     unfolding reopenDay
     keys-are = same-keys r (t .calendar) reopened (t .date) stays
 
     listed-same : (k : ℕ) → isListed fresh k ≡ isListed (listedIn t) k
     listed-same k =
-        listed-keys (ruleOf reopened (t .product .kind) (t .product .group)) reopened (λ k. 0) (freshKeys (ruleOf reopened (t .product .kind) (t .product .group)) reopened (t .date)) k
+        listed-keys (ruleIn t reopened) reopened (λ k. 0) (freshKeys (ruleIn t reopened) reopened (t .date)) k
         ∙ ap (λ (ks : List ℕ). oneOf ks k) keys-are
         ∙ sym (listed-keys r (t .calendar) (numberOf (listedIn t)) (freshKeys r (t .calendar) (t .date)) k)
         ∙ ap (λ (ms : List Maturity). isListed ms k) (sym (sound-numbered t s .listing))

@@ -20,7 +20,7 @@ use Rattle.expiry.specs.LastDays.{lastTradingDay, workedOut}
 use Rattle.listing.specs.declared.Maturity.{Maturity}
 use Rattle.product.specs.Fields.{isWeekly}
 use Rattle.listing.specs.Rules.{Rule, lastOf, keysBefore, freshKeys, maturity, unused, places15}
-use Rattle.listing.specs.Months.{placesOfKind, coverRule, keysOf, ruleOf}
+use Rattle.listing.specs.Months.{placesOfKind, coverRule, keysOf}
 use Rattle.listing.proofs.Lawful.{Lawful, complete-length, key-at, keys-rise}
 use Rattle.listing.proofs.Fresh.{places-most}
 use Rattle.listing.proofs.OfKinds.{rule-lawful, rule-places, rule-begins, rule-keys, months-most, rule-deep, six-back}
@@ -28,7 +28,7 @@ use Rattle.table.specs.declared.Table.{Table}
 use Rattle.table_numbering.specs.Numbering.{isListed, numberOf, sameMaturity, numbersRight}
 use Rattle.table_numbering.proofs.MonthsRise.{place-of, at-map}
 use Rattle.table_numbering.proofs.Unique.{same-maturity}
-use Rattle.table.specs.Table.{listedIn, listsFresh, sound, moved, rollCall, closeCall, reopenCall}
+use Rattle.table.specs.Table.{listedIn, listsFresh, sound, moved, rollCall, closeCall, reopenCall, ruleIn}
 use Rattle.table_measures.specs.Measures.{measureCall}
 use Rattle.table_measures.proofs.ValueKept.{asked-range, resized-sound}
 use Rattle.history.specs.Book.{Call, roll, close, reopen, measure, Book, calendarAfter, dateAfter, bookAsks}
@@ -65,7 +65,7 @@ record Sound (t : Table) : Type 0 where
   lists : listsFresh t ≡ true
   numbers : numbersRight (t .maturities) (placesOfKind (t .product .kind)) (t .given) ≡ true
   enough : placesOfKind (t .product .kind) ≤ t .given
-  few : t .given - placesOfKind (t .product .kind) ≤ keysBefore (ruleOf (t .calendar) (t .product .kind) (t .product .group)) (t .calendar) (t .date)
+  few : t .given - placesOfKind (t .product .kind) ≤ keysBefore (ruleIn t (t .calendar)) (t .calendar) (t .date)
 
 sounds : (t : Table) → sound t ≡ true → Sound t
 unfolding sound
@@ -90,9 +90,9 @@ sounds t e =
 
 module _ (t : Table) (s : Sound t) where
   abbrev r : Rule
-  r = ruleOf (t .calendar) (t .product .kind) (t .product .group)
+  r = ruleIn t (t .calendar)
 
-  abbrev w : Lawful (ruleOf (t .calendar) (t .product .kind) (t .product .group))
+  abbrev w : Lawful (ruleIn t (t .calendar))
   w = rule-lawful (t .calendar .cover) (t .product .kind) (t .product .group)
 
   abbrev n : ℕ
@@ -291,7 +291,7 @@ module _ (t : Table) (e : sound t ≡ true) where
   listed-length = listed-long t (sounds t e)
 
   -- they are a numbered listing
-  pub sound-numbered : Numbered (ruleOf (t .calendar) (t .product .kind) (t .product .group)) (t .calendar) (t .date) (listedIn t) (t .given) (numberOf (listedIn t))
+  pub sound-numbered : Numbered (ruleIn t (t .calendar)) (t .calendar) (t .date) (listedIn t) (t .given) (numberOf (listedIn t))
   sound-numbered = numbered t (sounds t e)
 
   -- no more numbers are given than the cover has months, or weekly Fridays
@@ -322,7 +322,7 @@ module _ (t : Table) (e : sound t ≡ true) where
 
   -- the key in a used place is the fresh listing's, it is listed, and the place holds its number
   pub key-right : (i : ℕ) → i < placesOfKind (t .product .kind)
-      → getD (t .maturities) i unused .key ≡ getD (freshKeys (ruleOf (t .calendar) (t .product .kind) (t .product .group)) (t .calendar) (t .date)) i 0
+      → getD (t .maturities) i unused .key ≡ getD (freshKeys (ruleIn t (t .calendar)) (t .calendar) (t .date)) i 0
   key-right i h = same-in t (sounds t e) i h .0
 
   -- the number of the key in a used place of a sound table is the number in that place

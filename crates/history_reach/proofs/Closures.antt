@@ -34,7 +34,7 @@ use Rattle.table_numbering.proofs.Renumbering.{renumbered-law}
 use Rattle.table_numbering.proofs.Unique.{same-maturity}
 use Rattle.table.specs.declared.Table.{Table}
 use Rattle.table.specs.declared.Outcome.{Outcome}
-use Rattle.table.specs.Table.{listedIn, sound, moved, refusedWith, answered, closeAsks, closeCall}
+use Rattle.table.specs.Table.{listedIn, sound, moved, refusedWith, answered, closeAsks, closeCall, ruleIn, coveredIn}
 use Rattle.table.proofs.TableQuestions.{close-16}
 use Rattle.history.proofs.Moves.{fresh, now, numbersNext, Numbered, Moved, present-is, moves}
 use Rattle.history.proofs.Soundness.{Opened, tableOf, holds}
@@ -50,13 +50,13 @@ record Closed (t : Table) (d : ℕ) : Type 0 where
   later : ltb (t .date) d ≡ true
   trading : tradingDay (t .calendar) d ≡ true
   weeks : everyWeek (closeDay (t .calendar) d) ≡ true
-  full : allInCover (closeDay (t .calendar) d) (t .product .kind) (t .product .group) (t .date) ≡ true
+  full : coveredIn t (closeDay (t .calendar) d) (t .date) ≡ true
   leaves : closeCall t d ≡ moved t (closeDay (t .calendar) d) (t .date)
 
 module _ (t : Table) (d : ℕ) where
   -- all answered yes
   accepts : sound t ≡ true → inCover (t .calendar .cover) d ≡ true → ltb (t .date) d ≡ true → tradingDay (t .calendar) d ≡ true
-      → everyWeek (closeDay (t .calendar) d) ≡ true → allInCover (closeDay (t .calendar) d) (t .product .kind) (t .product .group) (t .date) ≡ true
+      → everyWeek (closeDay (t .calendar) d) ≡ true → coveredIn t (closeDay (t .calendar) d) (t .date) ≡ true
       → closeCall t d ≡ moved t (closeDay (t .calendar) d) (t .date)
   accepts a b c f g h = close-16 t d a b c f g ∙ rw h
 
@@ -121,13 +121,13 @@ module _ (t : Table) (e : sound t ≡ true) where
   abbrev r : Rule
   r = ruleOf cal (p .kind) (p .group)
 
-  w : Lawful (ruleOf (t .calendar) (t .product .kind) (t .product .group))
+  w : Lawful (ruleIn t (t .calendar))
   w = rule-lawful (t .calendar .cover) (t .product .kind) (t .product .group)
 
   o : Opened (t .product) (t .calendar) (t .date)
   o = sound-opened t e
 
-  s : Spaced (ruleOf (t .calendar) (t .product .kind) (t .product .group)) (t .calendar .cover) (t .date)
+  s : Spaced (ruleIn t (t .calendar)) (t .calendar .cover) (t .date)
   s = rule-spaced (t .calendar .cover) (t .product .kind) (t .product .group) (o .valid) (t .date) (o .covered) (o .week)
 
   I : Numbered r cal date (listedIn t) (t .given) (numberOf (listedIn t))
@@ -156,7 +156,7 @@ module _ (t : Table) (e : sound t ≡ true) where
 
   -- a calendar of the same cover: what a move to it leaves
   module _ (cal′ : Calendar) (c : cal′ .cover ≡ t .calendar .cover) where
-    same-rule : ruleOf cal′ (t .product .kind) (t .product .group) ≡ r
+    same-rule : ruleIn t cal′ ≡ r
     same-rule = rw c
 
     abbrev ms′ : List Maturity
@@ -341,7 +341,7 @@ module _ (t : Table) (e : sound t ≡ true) (x y : ℕ) (unlike : x ≡ y → �
     later : ltb (t .date) y ≡ true
     trading : tradingDay (closeDay (t .calendar) x) y ≡ true
     weeks : everyWeek (closeDay (closeDay (t .calendar) x) y) ≡ true
-    full : allInCover (closeDay (closeDay (t .calendar) x) y) (t .product .kind) (t .product .group) (t .date) ≡ true
+    full : coveredIn t (closeDay (closeDay (t .calendar) x) y) (t .date) ≡ true
     leaves : closeCall (moved t (closeDay (t .calendar) x) (t .date) .table) y
         ≡ moved (moved t (closeDay (t .calendar) x) (t .date) .table) (closeDay (closeDay (t .calendar) x) y) (t .date)
 
@@ -371,7 +371,7 @@ module _ (t : Table) (e : sound t ≡ true) (x y : ℕ) (unlike : x ≡ y → �
       accepts (moved t (closeDay (t .calendar) y) (t .date) .table) x (after-sound t e y ky) (kx .covered) (kx .later)
       (trading-other (t .calendar) y x unlike ∙ kx .trading)
       (ap everyWeek (sym turn) ∙ asked .weeks)
-      (ap (λ (c : Calendar). allInCover c (t .product .kind) (t .product .group) (t .date)) (sym turn) ∙ asked .full)
+      (ap (λ (c : Calendar). coveredIn t c (t .date)) (sym turn) ∙ asked .full)
 
   -- both orders leave what one move to the last calendar leaves
   both-leave : moved (moved t (closeDay (t .calendar) y) (t .date) .table) (closeDay (closeDay (t .calendar) y) x) (t .date) .table

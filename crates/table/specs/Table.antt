@@ -12,7 +12,7 @@ use Rattle.calendar.specs.Trading.{zeroCalendar, validCover, inCover, tradingDa
 use Rattle.product.specs.declared.Product.{Product}
 use Rattle.product.specs.Fields.{productRight, zeroProduct}
 use Rattle.listing.specs.declared.Maturity.{Maturity}
-use Rattle.listing.specs.Rules.{keysBefore, frontStays, unused, places15}
+use Rattle.listing.specs.Rules.{Rule, keysBefore, frontStays, unused, places15}
 use Rattle.listing.specs.Months.{placesOfKind, ruleOf, freshOf, allInCover, weekIntoCover}
 use Rattle.file_calendar.specs.Calendars.{calendarOf}
 use Rattle.file_load.specs.Load.{productOf}
@@ -21,6 +21,18 @@ use Rattle.table_opening.specs.Opening.{openAsks, asksIn}
 use Rattle.table.specs.declared.Table.{Table}
 use Rattle.table.specs.declared.Outcome.{Outcome}
 use Rattle.table_numbering.specs.Numbering.{missing, renumbered, numberedFresh, placeRight, numbersRight}
+
+-- the listing rule of the table's product, by a calendar
+abbrev pub ruleIn : Table → Calendar → Rule
+ruleIn t cal = ruleOf cal (t .product .kind) (t .product .group)
+
+-- its fresh listing on a date
+abbrev pub freshIn : Table → Calendar → ℕ → List Maturity
+freshIn t cal date = freshOf cal (t .product .kind) (t .product .group) date
+
+-- whether that is 'all of it in the cover'
+abbrev pub coveredIn : Table → Calendar → ℕ → Bool
+coveredIn t cal date = allInCover cal (t .product .kind) (t .product .group) date
 
 -- the maturities in the places that are used
 abbrev pub listedIn : Table → List Maturity
@@ -31,20 +43,20 @@ listedIn t = take (placesOfKind (t .product .kind)) (t .maturities)
 unfoldable pub listsFresh : Table → Bool
 listsFresh t =
     every 15
-    (placeRight (t .maturities) (places15 (freshOf (t .calendar) (t .product .kind) (t .product .group) (t .date))) (placesOfKind (t .product .kind)))
+    (placeRight (t .maturities) (places15 (freshIn t (t .calendar) (t .date))) (placesOfKind (t .product .kind)))
 
 -- of 10, what is said of the maturities
 abbrev pub listingSound : Table → Bool
 listingSound t =
     -- 'its months and days are the fresh listing, all of it in the cover, and unused places are zero'
-    allInCover (t .calendar) (t .product .kind) (t .product .group) (t .date)
+    coveredIn t (t .calendar) (t .date)
     && (listsFresh t
     -- 'its numbers are distinct, from 1 to the count given'
     && (numbersRight (t .maturities) (placesOfKind (t .product .kind)) (t .given)
     -- 'given − listed is at least 0 and at most the number of cover months before the front month';
     -- 'the cover's weekly Fridays before the front one take the place of cover months' (02, note 3)
     && (leb (placesOfKind (t .product .kind)) (t .given)
-    && leb (t .given - placesOfKind (t .product .kind)) (keysBefore (ruleOf (t .calendar) (t .product .kind) (t .product .group)) (t .calendar) (t .date)))))
+    && leb (t .given - placesOfKind (t .product .kind)) (keysBefore (ruleIn t (t .calendar)) (t .calendar) (t .date)))))
 
 -- 10: 'Is the table sound?'
 unfoldable pub sound : Table → Bool
@@ -84,7 +96,7 @@ movedTo t cal date fresh =
 
 -- the same with the fresh listing of the calendar and date that the call leaves
 unfoldable pub moved : Table → Calendar → ℕ → Outcome
-moved t cal date = movedTo t cal date (freshOf cal (t .product .kind) (t .product .group) date)
+moved t cal date = movedTo t cal date (freshIn t cal date)
 
 -- 'table calls return the same table and counts 0 and 0'
 abbrev pub refusedWith : Table → ℕ → Outcome
@@ -129,7 +141,7 @@ rollAsks t date =
     ask 10 (sound t)
     ∷ ask 11 (inCover (t .calendar .cover) date)
     ∷ ask 12 (leb (t .date) date)
-    ∷ ask 16 (allInCover (t .calendar) (t .product .kind) (t .product .group) date)
+    ∷ ask 16 (coveredIn t (t .calendar) date)
     ∷ []
 
 -- 'Roll sets the date it is given, a later or equal one'
@@ -143,7 +155,7 @@ closeAsks t day =
     ∷ ask 11 (inCover (t .calendar .cover) day)
     ∷ ask 13 (ltb (t .date) day) ∷ ask 14 (tradingDay (t .calendar) day)
     ∷ ask 15 (everyWeek (closeDay (t .calendar) day))
-    ∷ ask 16 (allInCover (closeDay (t .calendar) day) (t .product .kind) (t .product .group) (t .date))
+    ∷ ask 16 (coveredIn t (closeDay (t .calendar) day) (t .date))
     ∷ []
 
 -- 'Close marks one day closed'
@@ -156,7 +168,7 @@ reopenAsks t day =
     ask 10 (sound t)
     ∷ ask 11 (inCover (t .calendar .cover) day)
     ∷ ask 13 (ltb (t .date) day) ∷ ask 26 (closedWeekday (t .calendar) day)
-    ∷ ask 27 (frontStays (ruleOf (t .calendar) (t .product .kind) (t .product .group)) (t .calendar) (reopenDay (t .calendar) day) (t .date))
+    ∷ ask 27 (frontStays (ruleIn t (t .calendar)) (t .calendar) (reopenDay (t .calendar) day) (t .date))
     ∷ []
 
 -- 'The exchange withdraws a closure. Add reopening of a day to the calls on a table' (02, note 9)

@@ -13,8 +13,8 @@ ghost use lib.Dec.{eqb};
 ghost use Rattle.calendar.specs.Trading.{calendarWith, everyWeek, closeDay};
 ghost use Rattle.file_calendar.specs.Calendars.{calendarAnswer};
 ghost use Rattle.listing.specs.Rules.{front, unused};
-ghost use Rattle.listing.specs.Months.{placesOfKind, ruleOf, allInCover};
-ghost use Rattle.table.specs.Table.{listedIn, listsFresh, listingSound, sound, calendarSound, movedTo, moved, keptIn, refusedWith, zeroTable, openedWith, openCall, openIn, rollCall, closeCall, reopenCall, stepsBack, stepsOn, tradesAround, noneEndsOn};
+ghost use Rattle.listing.specs.Months.{placesOfKind};
+ghost use Rattle.table.specs.Table.{ruleIn, coveredIn, listedIn, listsFresh, listingSound, sound, calendarSound, movedTo, moved, keptIn, refusedWith, zeroTable, openedWith, openCall, openIn, rollCall, closeCall, reopenCall, stepsBack, stepsOn, tradesAround, noneEndsOn};
 
 // A product, its calendar, a date, up to 15 maturities by rising key, and the count of numbers given.
 pub struct Table {
@@ -35,7 +35,7 @@ pub struct Outcome {
 
 // Whether the places hold the fresh listing, all of it in the cover.
 fn is_fresh(t: Table) -> bool
-    ensures { λ r. ⌜ r ≡ (allInCover (t .calendar) (t .product .kind) (t .product .group) (t .date) && listsFresh t) ⌝ }
+    ensures { λ r. ⌜ r ≡ (coveredIn t (t .calendar) (t .date) && listsFresh t) ⌝ }
 {
     let p = t.product;
     let kind = p.kind;
@@ -200,7 +200,7 @@ fn moved_to(t: Table, cal: Calendar, date: u16, fresh: [Maturity; 15]) -> Outcom
 // of the calendar and date that a call leaves, where it is complete (16).
 fn relisted(t: Table, cal: Calendar, date: u16) -> Outcome
     requires { ⌜ t .given ≤ 60000 ⌝ }
-    ensures { λ r. ⌜ r ≡ cond (allInCover cal (t .product .kind) (t .product .group) date) (moved t cal date) (refusedWith t 16) ⌝ }
+    ensures { λ r. ⌜ r ≡ cond (coveredIn t cal date) (moved t cal date) (refusedWith t 16) ⌝ }
 {
     let p = t.product;
     let kind = p.kind;
@@ -215,7 +215,7 @@ fn relisted(t: Table, cal: Calendar, date: u16) -> Outcome
 
 // Whether the front under a calendar on a date is the key in the first place, which is the front of a sound table.
 fn front_stays(t: Table, cal: Calendar, date: u16) -> bool
-    ensures { λ r. ⌜ r ≡ eqb (getD (t .maturities) 0 unused .key) (front (ruleOf cal (t .product .kind) (t .product .group)) cal date) ⌝ }
+    ensures { λ r. ⌜ r ≡ eqb (getD (t .maturities) 0 unused .key) (front (ruleIn t cal) cal date) ⌝ }
 {
     let p = t.product;
     let kind = p.kind;

@@ -13,14 +13,14 @@ use Rattle.questions.specs.Questions.{firstNo, answer}
 use Rattle.questions.proofs.Bools.{clash, is-false}
 use Rattle.listing.specs.declared.Maturity.{Maturity}
 use Rattle.listing.specs.Rules.{Rule, freshKeys, maturity, unused}
-use Rattle.listing.specs.Months.{placesOfKind, ruleOf, freshOf}
+use Rattle.listing.specs.Months.{placesOfKind}
 use Rattle.listing.proofs.Lawful.{key-at}
 use Rattle.listing.proofs.OfKinds.{rule-lawful, rule-beyond}
 use Rattle.table_numbering.specs.Numbering.{isListed, unnumbered}
 use Rattle.table_numbering.specs.NumberingLaws.{Rising}
 use Rattle.table_numbering.proofs.MonthsRise.{place-of, rising-tail, rising-once, at-map, fresh-rises}
 use Rattle.table.specs.declared.Table.{Table}
-use Rattle.table.specs.Table.{listedIn, sound}
+use Rattle.table.specs.Table.{listedIn, sound, ruleIn, freshIn}
 use Rattle.table.proofs.Staying.{listed-fresh}
 use Rattle.table_vendor.proofs.Judging.{judged}
 use Rattle.table_vendor.proofs.VendorPasses.{listed-none, passes-find, passes-most}
@@ -45,13 +45,13 @@ unnumbered-entries (m ∷ ms) = ap (λ (es : List VendorEntry). vendorEntryOf m 
 -- the fresh listing of any table, of months or of Fridays: each key stands at most once, and has 16 bits
 module _ (t : Table) where
   abbrev rule : Rule
-  rule = ruleOf (t .calendar) (t .product .kind) (t .product .group)
+  rule = ruleIn t (t .calendar)
 
   abbrev keys : List ℕ
-  keys = freshKeys (ruleOf (t .calendar) (t .product .kind) (t .product .group)) (t .calendar) (t .date)
+  keys = freshKeys (ruleIn t (t .calendar)) (t .calendar) (t .date)
 
   abbrev fresh : List Maturity
-  fresh = freshOf (t .calendar) (t .product .kind) (t .product .group) (t .date)
+  fresh = freshIn t (t .calendar) (t .date)
 
   -- each key stands at most once in the fresh entries of a table
   pub fresh-once : (k : ℕ) → times (freshEntries t) k ≤ 1

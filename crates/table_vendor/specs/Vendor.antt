@@ -12,9 +12,8 @@ use lib.ListN.{length, getD}
 use Rattle.questions.specs.Questions.{Ask, ask, Answer, answer}
 use Rattle.questions.specs.Search.{firstFrom}
 use Rattle.listing.specs.declared.Maturity.{Maturity}
-use Rattle.listing.specs.Months.{freshOf}
 use Rattle.table.specs.declared.Table.{Table}
-use Rattle.table.specs.Table.{sound}
+use Rattle.table.specs.Table.{sound, freshIn}
 use Rattle.table_vendor.specs.declared.Verdict.{Verdict}
 use Rattle.table_vendor.specs.declared.Verdict.the-variants.{Same, Differs, Unsound}
 
@@ -36,7 +35,7 @@ entriesOf (k ∷ d ∷ rest) = record { key = k; day = d } ∷ entriesOf rest
 
 -- 'the table's fresh listing', by the rules for 'the table's product, calendar and date'
 unfoldable pub freshEntries : Table → List VendorEntry
-freshEntries t = map vendorEntryOf (freshOf (t .calendar) (t .product .kind) (t .product .group) (t .date))
+freshEntries t = map vendorEntryOf (freshIn t (t .calendar) (t .date))
 
 -- how often a key stands in a list
 unfoldable pub times : List VendorEntry → ℕ → ℕ
