@@ -78,6 +78,16 @@ class Laws(Planted):
         self.write('docs/READING.md', '| theorem `helper` |')
         self.assertEqual(self.said('laws', '--check')[0], 0)
 
+    def test_proof_without_heading(self):
+        self.write('crates/sums/proofs/sum/Proof.antt', PROOF.partition('\n')[2])
+        self.assertEqual(self.said('laws', '--check'), (1, ['crates/sums/proofs/sum/Proof.antt:1: the proof does not begin with what it shows']))
+
+    def test_long_line(self):
+        for length, status in ((160, 0), (161, 1)):
+            self.write('crates/sums/proofs/Sums.antt', LAWS + '--'.ljust(length, 'x') + '\n')
+            self.assertEqual(self.said('laws', '--check')[0], status)
+        self.assertEqual(self.said('laws', '--check')[1], ['crates/sums/proofs/Sums.antt:9: the line has over 160 characters'])
+
     def test_where_cited(self):
         self.assertEqual(self.said('laws', 'add-zero')[1], [
             'crates/sums/proofs/Sums.antt:4: makes add-zero', 'crates/sums/proofs/sum/Proof.antt:2: imports add-zero of Rattle.sums.proofs.Sums',
