@@ -55,6 +55,27 @@ class Drawing(unittest.TestCase):
         at = {name: float(y) for y, name in re.findall(r'y="([\d.]+)" fill="#\w+">(\w+)</text></g>', drawn(SMALL))}
         self.assertTrue(at['four'] < at['three'] < at['two'] < at['one'], at)
 
+    # Every crate has its row on the page, with its public functions; a function that is not in its row is found.
+    def test_functions(self):
+        with open(os.path.join(ROOT, 'docs', 'ARCHITECTURE.md'), encoding='utf-8') as page:
+            rows = dict(re.findall(r'(?m)^\| `(\w+)` \| [^|]* \| ([^|]*) \|$', page.read()))
+        self.assertEqual(sorted(rows), sorted(os.listdir(os.path.join(ROOT, 'crates'))))
+        self.assertEqual(rows['table_prices'], '`tick`, `cash`')
+        with tempfile.TemporaryDirectory() as folder:
+            os.makedirs(os.path.join(folder, 'docs'))
+            os.makedirs(os.path.join(folder, 'crates', 'one', 'src'))
+            for name, text in (('crates.txt', SMALL), ('crates/one/src/lib.rt', 'pub fn first() {}\nfn own() {}\n'),
+                               ('docs/ARCHITECTURE.md', '| crate | what it has |\n|---|---|\n| `one` | a |\n\n| program | lines |\n|---|---|\n| `two` | b |\n')):
+                with open(os.path.join(folder, name), 'w', encoding='utf-8') as out:
+                    out.write(text)
+            self.assertEqual(run(folder)[0], 0)
+            with open(os.path.join(folder, 'docs', 'ARCHITECTURE.md'), encoding='utf-8') as page:
+                self.assertEqual([line for line in page.read().splitlines() if '`' in line], ['| `one` | a | `first` |', '| `two` | b |'])
+            self.assertEqual(run(folder, '--check')[0], 0)
+            with open(os.path.join(folder, 'crates/one/src/lib.rt'), 'a', encoding='utf-8') as out:
+                out.write('pub fn second() {}\n')
+            self.assertEqual(run(folder, '--check'), (1, 'docs/ARCHITECTURE.md is not what tools/drawing makes: run tools/drawing'))
+
     def test_check(self):
         with tempfile.TemporaryDirectory() as folder:
             os.mkdir(os.path.join(folder, 'docs'))
