@@ -14,7 +14,7 @@ use Rattle.calendar.proofs.Closing.{close-cover, close-store}
 use Rattle.calendar.proofs.SecondMap.{trading-second}
 use Rattle.expiry.proofs.Fridays.{last-but}
 use Rattle.listing.specs.Rules.{front, unused}
-use Rattle.listing.specs.Months.{placesOfKind}
+use Rattle.listing.specs.Months.{ruleOf, placesOfKind}
 use Rattle.listing.proofs.SecondMap.{front-second}
 use Rattle.questions.specs.Questions.{Answer}
 use Rattle.calendar.specs.declared.Calendar.{Calendar}
@@ -26,7 +26,7 @@ use Rattle.table.specs.declared.Outcome.{Outcome}
 use Rattle.table_opening.specs.declared.Listed.{Listed}
 use Rattle.table_opening.specs.Opening.{refusedOpening, listingIn}
 use Rattle.table_opening.proofs.Opened.{refused-listed, accepted-listed}
-use Rattle.table.specs.Table.{sound, calendarSound, keptIn, rollCall, closeCall, openedWith, openIn, tradesAround, noneEndsOn, ruleIn}
+use Rattle.table.specs.Table.{sound, calendarSound, keptIn, rollCall, closeCall, openedWith, openIn, tradesAround, noneEndsOn}
 use Rattle.table.proofs.TableQuestions.{roll-16, close-16, sound-parts}
 use Rattle.table.proofs.Opens.{in-refused, in-accepted}
 use Rattle.table.proofs.Staying.{stays}
@@ -42,12 +42,12 @@ use Rattle.session_apart.specs.Apart.{tableWith, tableRest, keptWith, da
 module _ (rest : Rest) (closed : List ℕ) (len : length (rest .maturities) ≡ 15) where
   -- a roll to a covered day, not before the date, that leaves the first maturity in front changes only the date
   pub rolls-kept : (date : ℕ) → inCover (rest .cover) date ≡ true → leb (rest .date) date ≡ true
-      → eqb (getD (rest .maturities) 0 unused .key) (front (ruleIn rest (calendarWith (rest .cover) closed)) (calendarWith (rest .cover) closed) date) ≡ true
+      → eqb (getD (rest .maturities) 0 unused .key) (front (ruleOf (calendarWith (rest .cover) closed) (rest .product .kind) (rest .product .group)) (calendarWith (rest .cover) closed) date) ≡ true
       → (exchange : List ℕ) → sound (tableWith rest closed exchange) ≡ true
       → rollCall (tableWith rest closed exchange) date ≡ keptIn (tableWith rest closed exchange) (tableWith rest closed exchange .calendar) date
   rolls-kept date c d e exchange s =
       let t = tableWith rest closed exchange in
-      let r = ruleIn rest (t .calendar) in
+      let r = ruleOf (t .calendar) (rest .product .kind) (rest .product .group) in
       let f : eqb (getD (rest .maturities) 0 unused .key) (front r (t .calendar) date) ≡ true = ap (eqb (getD (rest .maturities) 0 unused .key)) (front-second (calendarWith (rest .cover) closed) exchange r date) ∙ e in
       roll-16 t date s c d ∙ stays t s len date f
 

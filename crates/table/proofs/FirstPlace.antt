@@ -14,17 +14,17 @@ use Rattle.calendar.specs.Trading.{coverStart}
 use Rattle.listing.specs.declared.Maturity.{Maturity}
 use Rattle.expiry.specs.LastDays.{keyOf}
 use Rattle.listing.specs.Rules.{Rule, front, countFrom, keysBefore, freshKeys, complete, maturity, unused, places15}
-use Rattle.listing.specs.Months.{placesOfKind, countedFor, coverRule, ruleOf, freshOf, allInCover}
+use Rattle.listing.specs.Months.{placesOfKind, countedFor, coverRule}
 use Rattle.listing.proofs.Fresh.{places-least}
 use Rattle.listing.proofs.Lawful.{fresh-first}
 use Rattle.listing.proofs.OfKinds.{rule-lawful}
 use Rattle.table_numbering.specs.Numbering.{sameMaturity, placeRight}
 use Rattle.table.specs.declared.Table.{Table}
-use Rattle.table.specs.Table.{listsFresh}
+use Rattle.table.specs.Table.{listsFresh, ruleIn, freshIn, coveredIn}
 
 -- the first place of a listing that is the fresh one holds the front
-pub first-front : (t : Table) → allInCover (t .calendar) (t .product .kind) (t .product .group) (t .date) ≡ true → listsFresh t ≡ true
-    → getD (t .maturities) 0 unused .key ≡ front (ruleOf (t .calendar) (t .product .kind) (t .product .group)) (t .calendar) (t .date)
+pub first-front : (t : Table) → coveredIn t (t .calendar) (t .date) ≡ true → listsFresh t ≡ true
+    → getD (t .maturities) 0 unused .key ≡ front (ruleIn t (t .calendar)) (t .calendar) (t .date)
 unfolding listsFresh complete coverRule places15
 first-front t w a =
     let same = both (sameMaturity m (getD (places15 fresh) 0 unused)) (ltb 0 (placesOfKind (t .product .kind)) || eqb (m .number) 0) (every-at (placeRight (t .maturities) (places15 fresh) (placesOfKind (t .product .kind))) 15 0 a (omega arith)) .0 in
@@ -36,22 +36,22 @@ first-front t w a =
     ∙ head (freshKeys r (t .calendar) (t .date)) some ∙ fresh-first r (rule-lawful (t .calendar .cover) (t .product .kind) (t .product .group)) (t .calendar) (t .date) some
   where
     r : Rule
-    r = ruleOf (t .calendar) (t .product .kind) (t .product .group)
+    r = ruleIn t (t .calendar)
 
     m : Maturity
     m = getD (t .maturities) 0 unused
 
     fresh : List Maturity
-    fresh = freshOf (t .calendar) (t .product .kind) (t .product .group) (t .date)
+    fresh = freshIn t (t .calendar) (t .date)
 
     head : (ks : List ℕ) → 1 ≤ length ks → getD (map (maturity r (t .calendar) (λ k. 0)) ks) 0 unused .key ≡ getD ks 0 0
     head [] h = absurd (omega arith)
     head (k ∷ ks) h = refl
 
 -- so the keys of the cover before it are those before the front
-pub keys-there : (t : Table) → allInCover (t .calendar) (t .product .kind) (t .product .group) (t .date) ≡ true → listsFresh t ≡ true
+pub keys-there : (t : Table) → coveredIn t (t .calendar) (t .date) ≡ true → listsFresh t ≡ true
     → (m : ℕ) → m ≡ countFrom (countedFor (t .product .kind)) (getD (t .maturities) 0 unused .key - keyOf (t .product .kind) (coverStart (t .calendar .cover))) (keyOf (t .product .kind) (coverStart (t .calendar .cover)))
-    → m ≡ keysBefore (ruleOf (t .calendar) (t .product .kind) (t .product .group)) (t .calendar) (t .date)
+    → m ≡ keysBefore (ruleIn t (t .calendar)) (t .calendar) (t .date)
 unfolding keysBefore coverRule
 keys-there t w a m e =
     e ∙ ap (λ (x : ℕ). countFrom (countedFor (t .product .kind)) (x - keyOf (t .product .kind) (coverStart (t .calendar .cover))) (keyOf (t .product .kind) (coverStart (t .calendar .cover)))) (first-front t w a)

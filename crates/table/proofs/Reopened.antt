@@ -10,20 +10,19 @@ use Rattle.questions.specs.Questions.{Ask, ask, firstNo}
 use Rattle.questions.proofs.Asks.{no-asks, first-yes, first-no}
 use Rattle.calendar.specs.Trading.{reopenDay}
 use Rattle.listing.specs.Rules.{Rule, front, frontStays, unused}
-use Rattle.listing.specs.Months.{ruleOf, allInCover}
 use Rattle.listing.proofs.FrontStays.{still-complete}
 use Rattle.table.specs.declared.Table.{Table}
-use Rattle.table.specs.Table.{sound, refusedWith, reopenAsks, reopenCall}
+use Rattle.table.specs.Table.{sound, refusedWith, reopenAsks, reopenCall, ruleIn, coveredIn}
 use Rattle.table.proofs.TableQuestions.{sound-parts, answered-no, answered-yes, movedOr16}
 use Rattle.table.proofs.FirstPlace.{first-front}
 
 module _ (t : Table) (day : ℕ) where
   -- the listing's rule before the day is opened, and after
   abbrev rule : Rule
-  rule = ruleOf (t .calendar) (t .product .kind) (t .product .group)
+  rule = ruleIn t (t .calendar)
 
   abbrev rule′ : Rule
-  rule′ = ruleOf (reopenDay (t .calendar) day) (t .product .kind) (t .product .group)
+  rule′ = ruleIn t (reopenDay (t .calendar) day)
 
   -- question 27
   abbrev pub stays : Bool
@@ -47,7 +46,7 @@ module _ (t : Table) (day : ℕ) where
         e ∙ ap (λ (k : ℕ). eqb k (front rule (reopenDay (t .calendar) day) (t .date))) (first-front t (sound-parts t a .whole) (sound-parts t a .listed))
 
     -- accepted: question 16, which is not asked, would be answered yes
-    full : stays ≡ true → allInCover (reopenDay (t .calendar) day) (t .product .kind) (t .product .group) (t .date) ≡ true
+    full : stays ≡ true → coveredIn t (reopenDay (t .calendar) day) (t .date) ≡ true
     unfolding reopenDay
     full g = still-complete rule (t .calendar) (reopenDay (t .calendar) day) (t .date) g (sound-parts t a .whole)
 

@@ -17,12 +17,12 @@ use Rattle.questions.proofs.Search.{every-at, search-none}
 use Rattle.calendar.specs.declared.Calendar.{Calendar}
 use Rattle.listing.specs.declared.Maturity.{Maturity}
 use Rattle.listing.specs.Rules.{Rule, front, nextOf, taken, freshKeys, complete, maturity, unused, places15}
-use Rattle.listing.specs.Months.{placesOfKind, coverRule, ruleOf, freshOf, allInCover}
+use Rattle.listing.specs.Months.{placesOfKind, coverRule}
 use Rattle.listing.proofs.Fresh.{places-most}
 use Rattle.table_numbering.specs.Numbering.{isListed, numberOf, missing, withNumber, unnumbered, renumbered, placeRight}
 use Rattle.table_numbering.proofs.Unique.{same-maturity}
 use Rattle.table.specs.declared.Table.{Table}
-use Rattle.table.specs.Table.{listedIn, listsFresh, sound, moved, refusedWith, keptIn}
+use Rattle.table.specs.Table.{listedIn, listsFresh, sound, moved, refusedWith, keptIn, ruleIn, freshIn, coveredIn}
 use Rattle.table.proofs.TableQuestions.{sound-parts}
 use Rattle.table.proofs.FirstPlace.{first-front}
 
@@ -120,12 +120,12 @@ module _ (t : Table) (s : sound t ≡ true) (len : length (t .maturities) ≡ 15
   n = placesOfKind (t .product .kind)
 
   abbrev fresh : List Maturity
-  fresh = freshOf (t .calendar) (t .product .kind) (t .product .group) (t .date)
+  fresh = freshIn t (t .calendar) (t .date)
 
   -- the fresh listing of a sound table has as many maturities as its kind has places
   pub fresh-long : length fresh ≡ n
   unfolding complete coverRule
-  fresh-long = length-map (freshKeys (ruleOf (t .calendar) (t .product .kind) (t .product .group)) (t .calendar) (t .date)) _ ∙ eqb-true _ _ (sound-parts t s .whole)
+  fresh-long = length-map (freshKeys (ruleIn t (t .calendar)) (t .calendar) (t .date)) _ ∙ eqb-true _ _ (sound-parts t s .whole)
 
   old-long : length (listedIn t) ≡ n
   old-long = length-take-le n (t .maturities) (omega (arith, len, places-most (t .product .kind)))
@@ -169,9 +169,9 @@ module _ (t : Table) (s : sound t ≡ true) (len : length (t .maturities) ≡ 15
 
   -- a fresh maturity has no number
   fresh-number : (i : ℕ) → getD fresh i unused .number ≡ 0
-  fresh-number i = numberless (freshKeys (ruleOf (t .calendar) (t .product .kind) (t .product .group)) (t .calendar) (t .date)) i
+  fresh-number i = numberless (freshKeys (ruleIn t (t .calendar)) (t .calendar) (t .date)) i
     where
-      numberless : (ks : List ℕ) (i : ℕ) → getD (map (maturity (ruleOf (t .calendar) (t .product .kind) (t .product .group)) (t .calendar) (λ k. 0)) ks) i unused .number ≡ 0
+      numberless : (ks : List ℕ) (i : ℕ) → getD (map (maturity (ruleIn t (t .calendar)) (t .calendar) (λ k. 0)) ks) i unused .number ≡ 0
       numberless [] i = refl
       numberless (k ∷ ks) zero = refl
       numberless (k ∷ ks) (suc i) = numberless ks i
@@ -189,7 +189,7 @@ module _ (t : Table) (s : sound t ≡ true) (len : length (t .maturities) ≡ 15
       same-maturity (blank (getD (t .maturities) i unused)) (getD fresh i unused) (p .key ∙ ap (λ (m : Maturity). m .key) (in-places i l)) (p .day ∙ ap (λ (m : Maturity). m .day) (in-places i l)) (p .back ∙ ap (λ (m : Maturity). m .back) (in-places i l)) (sym (fresh-number i))))
 
   -- the fresh listing of a sound table is what the table lists, without the numbers
-  pub listed-fresh : freshOf (t .calendar) (t .product .kind) (t .product .group) (t .date) ≡ unnumbered (listedIn t)
+  pub listed-fresh : freshIn t (t .calendar) (t .date) ≡ unnumbered (listedIn t)
   listed-fresh = blank-is
 
   in-old : (i : ℕ) → i < n → getD (places15 (listedIn t)) i unused ≡ getD (t .maturities) i unused
@@ -214,7 +214,7 @@ module _ (t : Table) (s : sound t ≡ true) (len : length (t .maturities) ≡ 15
           sym (same-maturity (getD (t .maturities) i unused) unused (p .key ∙ ap (λ (m : Maturity). m .key) z) (p .day ∙ ap (λ (m : Maturity). m .day) z) (p .back ∙ ap (λ (m : Maturity). m .back) z) (p .zero-number l))
 
   abbrev rule : Rule
-  rule = ruleOf (t .calendar) (t .product .kind) (t .product .group)
+  rule = ruleIn t (t .calendar)
 
   -- each maturity that a sound table lists is found in its listing with its number
   pub known : Known (listedIn t) (listedIn t)
@@ -228,7 +228,7 @@ module _ (t : Table) (s : sound t ≡ true) (len : length (t .maturities) ≡ 15
   same-keys date e = ap (taken (rule .beyond) (rule .places)) (sym e)
 
   -- a roll to a date whose front is the key in the first place is accepted and keeps the listing
-  pub stays : (date : ℕ) → eqb (getD (t .maturities) 0 unused .key) (front rule (t .calendar) date) ≡ true → cond (allInCover (t .calendar) (t .product .kind) (t .product .group) date) (moved t (t .calendar) date) (refusedWith t 16) ≡ keptIn t (t .calendar) date
+  pub stays : (date : ℕ) → eqb (getD (t .maturities) 0 unused .key) (front rule (t .calendar) date) ≡ true → cond (coveredIn t (t .calendar) date) (moved t (t .calendar) date) (refusedWith t 16) ≡ keptIn t (t .calendar) date
   unfolding moved complete
   stays date e =
       let k = same-keys date (sym (first-front t (sound-parts t s .whole) (sound-parts t s .listed)) ∙ eqb-true _ _ e) in

@@ -17,13 +17,13 @@ use Rattle.calendar.specs.Trading.{validCover, clean, everyWeek, inCover, tradi
 use Rattle.product.specs.Fields.{productRight}
 use Rattle.listing.specs.Rules.{complete, keysBefore}
 use Rattle.listing.specs.declared.Listing.{Listing}
-use Rattle.listing.specs.Months.{placesOfKind, ruleOf, listingOf, allInCover, weekIntoCover}
+use Rattle.listing.specs.Months.{placesOfKind, listingOf, weekIntoCover}
 use Rattle.listing.proofs.OfKinds.{rule-before}
 use Rattle.listing.proofs.Fresh.{places-most, complete-is, places-is, fresh-listed}
 use Rattle.table.specs.declared.Table.{Table}
 use Rattle.table.specs.declared.Outcome.{Outcome}
 use Rattle.table_numbering.specs.Numbering.{placeRight, numbersRight}
-use Rattle.table.specs.Table.{listsFresh, listingSound, sound, movedTo, moved, refusedWith, answered, rollAsks, rollCall, closeAsks, closeCall}
+use Rattle.table.specs.Table.{listsFresh, listingSound, sound, movedTo, moved, refusedWith, answered, rollAsks, rollCall, closeAsks, closeCall, ruleIn, coveredIn}
 
 -- the first question answered no
 pub answered-no : (t : Table) (asks : List Ask) (o : Outcome) (n : ℕ) → firstNo asks ≡ suc n → answered t asks o ≡ refusedWith t (suc n)
@@ -57,7 +57,7 @@ pub record Sound (t : Table) : Type 0 where
   -- the table's date passes question 24
   pub week : weekIntoCover (t .product .kind) (t .calendar .cover) (t .date) ≡ true
   -- the fresh listing is all in the cover
-  pub whole : allInCover (t .calendar) (t .product .kind) (t .product .group) (t .date) ≡ true
+  pub whole : coveredIn t (t .calendar) (t .date) ≡ true
   -- the places hold the fresh listing
   pub listed : listsFresh t ≡ true
   -- the listing numbers are distinct, from 1 to the count given
@@ -65,7 +65,7 @@ pub record Sound (t : Table) : Type 0 where
   -- the count given is at least the number of places of the kind
   pub least : placesOfKind (t .product .kind) ≤ t .given
   -- the count given less the places of the kind is at most the number of keys before the front
-  pub most : t .given - placesOfKind (t .product .kind) ≤ keysBefore (ruleOf (t .calendar) (t .product .kind) (t .product .group)) (t .calendar) (t .date)
+  pub most : t .given - placesOfKind (t .product .kind) ≤ keysBefore (ruleIn t (t .calendar)) (t .calendar) (t .date)
 
 -- a sound table has each part of soundness
 pub sound-parts : (t : Table) → sound t ≡ true → Sound t
@@ -103,7 +103,7 @@ given-most t e =
 
 -- the table moved to a calendar and a date, or refusal 16 where the fresh listing is not all in the cover
 abbrev pub movedOr16 : Table → Calendar → ℕ → Outcome
-movedOr16 t cal date = cond (allInCover cal (t .product .kind) (t .product .group) date) (moved t cal date) (refusedWith t 16)
+movedOr16 t cal date = cond (coveredIn t cal date) (moved t cal date) (refusedWith t 16)
 
 -- roll, by its first question answered no
 module _ (t : Table) (date : ℕ) where
@@ -171,15 +171,15 @@ no-both false b c e = refl
 -- what is said of the maturities, question by question
 module _ (t : Table) where
   -- a listing that is not all in the cover or not the fresh one is not sound
-  pub listing-unlike : (allInCover (t .calendar) (t .product .kind) (t .product .group) (t .date) && listsFresh t) ≡ false → listingSound t ≡ false
-  listing-unlike e = no-both (allInCover (t .calendar) (t .product .kind) (t .product .group) (t .date)) (listsFresh t) _ e
+  pub listing-unlike : (coveredIn t (t .calendar) (t .date) && listsFresh t) ≡ false → listingSound t ≡ false
+  listing-unlike e = no-both (coveredIn t (t .calendar) (t .date)) (listsFresh t) _ e
 
-  module _ (e : (allInCover (t .calendar) (t .product .kind) (t .product .group) (t .date) && listsFresh t) ≡ true) where
-    w : allInCover (t .calendar) (t .product .kind) (t .product .group) (t .date) ≡ true
-    w = both (allInCover (t .calendar) (t .product .kind) (t .product .group) (t .date)) (listsFresh t) e .0
+  module _ (e : (coveredIn t (t .calendar) (t .date) && listsFresh t) ≡ true) where
+    w : coveredIn t (t .calendar) (t .date) ≡ true
+    w = both (coveredIn t (t .calendar) (t .date)) (listsFresh t) e .0
 
     a : listsFresh t ≡ true
-    a = both (allInCover (t .calendar) (t .product .kind) (t .product .group) (t .date)) (listsFresh t) e .1
+    a = both (coveredIn t (t .calendar) (t .date)) (listsFresh t) e .1
 
     -- a listing whose numbers are not distinct, from 1 to the count given, is not sound
     pub listing-numbers : numbersRight (t .maturities) (placesOfKind (t .product .kind)) (t .given) ≡ false → listingSound t ≡ false
@@ -191,7 +191,7 @@ module _ (t : Table) where
       listing-few l = rw (w, a, b, lt-leb (placesOfKind (t .product .kind)) (t .given) (omega (arith, q)))
 
       -- any other listing is sound exactly where the count given less the places is at most the keys before the front
-      pub listing-rest : (m : ℕ) → n ≤ t .given → m ≡ keysBefore (ruleOf (t .calendar) (t .product .kind) (t .product .group)) (t .calendar) (t .date)
+      pub listing-rest : (m : ℕ) → n ≤ t .given → m ≡ keysBefore (ruleIn t (t .calendar)) (t .calendar) (t .date)
           → leb (t .given - n) m ≡ listingSound t
       listing-rest m l k =
           sym (rw (w, a, b, le-leb (placesOfKind (t .product .kind)) (t .given) (omega (arith, q))) (rw (← k, ← q)))

@@ -17,12 +17,12 @@ use Rattle.calendar.specs.declared.Cover.{Cover}
 use Rattle.listing.specs.declared.Maturity.{Maturity}
 use Rattle.expiry.specs.LastDays.{lastDay}
 use Rattle.listing.specs.Rules.{Rule, front, widest, alive, lastDayOf, taken, freshKeys, complete, maturity, unused}
-use Rattle.listing.specs.Months.{placesOfKind, coverRule, ruleOf, allInCover}
+use Rattle.listing.specs.Months.{placesOfKind, coverRule}
 use Rattle.listing.proofs.Fresh.{places-least, places-most}
 use Rattle.listing.proofs.Lawful.{fresh-first}
 use Rattle.listing.proofs.OfKinds.{rule-lawful}
 use Rattle.table.specs.declared.Table.{Table}
-use Rattle.table.specs.Table.{listedIn, sound, movedTo, moved, refusedWith, keptIn, noneEndsOn}
+use Rattle.table.specs.Table.{listedIn, sound, movedTo, moved, refusedWith, keptIn, noneEndsOn, ruleIn, coveredIn}
 use Rattle.table.proofs.TableQuestions.{sound-parts}
 use Rattle.table.proofs.Staying.{fresh-long, place, in-places, blank-is, places-are, known, none-missing, none-left, known-numbers}
 use lib.ListN.{length-map}
@@ -84,7 +84,7 @@ module _ (t : Table) (s : sound t ≡ true) (len : length (t .maturities) ≡ 15
     (cal : Calendar) (cover : cal .cover ≡ t .calendar .cover)
     (but : (a : ℕ) → (lastDay (t .calendar) a ≡ d) ⊎ (lastDay cal a ≡ lastDay (t .calendar) a)) where
   abbrev r : Rule
-  r = ruleOf (t .calendar) (t .product .kind) (t .product .group)
+  r = ruleIn t (t .calendar)
 
   abbrev ks : List ℕ
   ks = freshKeys r (t .calendar) (t .date)
@@ -145,6 +145,6 @@ module _ (t : Table) (s : sound t ≡ true) (len : length (t .maturities) ≡ 15
       (rw (blank-is t s len, none-missing (listedIn t) (listedIn t) (known t s len), none-left (listedIn t) (listedIn t) (known t s len), known-numbers (listedIn t) (listedIn t) (t .given) (known t s len), places-are t s len, add-zero (t .given)))
 
   -- a calendar that changes only last days on a later day on which no listed maturity ends is accepted and keeps the listing
-  pub unmoved : cond (allInCover cal (t .product .kind) (t .product .group) (t .date)) (moved t cal (t .date)) (refusedWith t 16) ≡ keptIn t cal (t .date)
+  pub unmoved : cond (coveredIn t cal (t .date)) (moved t cal (t .date)) (refusedWith t 16) ≡ keptIn t cal (t .date)
   unfolding moved
-  unmoved = as-kept (ruleOf cal (t .product .kind) (t .product .group)) (ap (λ (c : Cover). coverRule c (t .product .kind) (t .product .group)) cover)
+  unmoved = as-kept (ruleIn t cal) (ap (λ (c : Cover). coverRule c (t .product .kind) (t .product .group)) cover)

@@ -1,6 +1,6 @@
 -- What the calls about prices come to, question by question.
 -- Assumes nothing.
-use mathlib.Core.Path.{_≡_, _∙_, sym}
+use mathlib.Core.Path.{_≡_, refl, _∙_, sym}
 use mathlib.Core.Bool.{Bool, true, false, _&&_}
 use mathlib.Core.List.{List, [], _∷_}
 use Prim.Native.Nat.{ℕ, suc, _*_}
@@ -15,13 +15,18 @@ use Rattle.amounts.specs.Prices.{priceRight, multipleOf, finalRight, contractsR
 use Rattle.amounts.proofs.CashParts.{whole-size}
 use Rattle.table.specs.declared.Table.{Table}
 use Rattle.table.specs.Table.{sound}
-use Rattle.table_prices.specs.TablePrices.{noCash, cashAsks, cashCall, WholeCash}
+use Rattle.table_prices.specs.TablePrices.{tickCall, noCash, cashAsks, cashCall, WholeCash}
 use Rattle.table.proofs.TableQuestions.{sound-parts}
 
 -- the contract size of a right product is in its range
 size-in-range : (p : Product) → productRight p ≡ true → sizeRight (p .size) ≡ true
 unfolding productRight
 size-in-range p e = size-of-fields _ _ _ _ _ _ _ e
+
+-- a table that is not sound gives refusal 10 for the tick
+pub tick-10 : (t : Table) (price : ℕ) → sound t ≡ false → tickCall t price ≡ 10
+unfolding tickCall firstNo
+tick-10 t price a = rw a
 
 -- two tests of the code are those of the definition
 pub both-are : {a b x y : Bool} → a ≡ x → b ≡ y → (a && b) ≡ (x && y)
@@ -34,6 +39,10 @@ module _ (t : Table) (contracts agreed final : ℕ) where
       → noCash (suc n) ≡ cashCall t contracts agreed final
   unfolding cashCall
   cash-no n rest e f = sym (refused (cashAsks t contracts agreed final) _ _ n (e ∙ first-no (suc n) rest f))
+
+  -- a table that is not sound gives refusal 10 for the cash amount
+  pub cash-10 : sound t ≡ false → cashCall t contracts agreed final ≡ noCash 10
+  cash-10 a = sym (cash-no 9 _ refl a)
 
   -- where no question refuses, the numbers are those for which the code works out cash
   cash-numbers : firstNo (cashAsks t contracts agreed final) ≡ 0 → cashAdmitted contracts (t .product .size) agreed final ≡ true

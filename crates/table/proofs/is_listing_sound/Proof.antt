@@ -2,8 +2,7 @@
 -- the fresh listing, the numbers, given at least the months listed. In a fresh listing the first place has the front, so
 -- the keys before the first place are those before the front (`keys-there`), and the last test is the definition's.
 use Rattle.table.proofs.TableQuestions.{listing-unlike, listing-numbers, listing-few, listing-rest}
-use Rattle.listing.specs.Months.{allInCover}
-use Rattle.table.specs.Table.{listsFresh}
+use Rattle.table.specs.Table.{listsFresh, coveredIn}
 use Rattle.table.proofs.FirstPlace.{keys-there}
 use Rattle.questions.proofs.Bools.{both, said-no, said-yes}
 use native.Mathlib.Omega.{arith}
@@ -49,7 +48,7 @@ returns-4 c =
     let start = at-is-fresh .before in
     let yes-is-fresh = said-yes (at-is-fresh .is-fresh .ensures) (at-if1 .if1 .left) in
     let t = start .args .t in
-    let fresh = both (allInCover (t .calendar) (t .product .kind) (t .product .group) (t .date)) (listsFresh t) yes-is-fresh in
+    let fresh = both (coveredIn t (t .calendar) (t .date)) (listsFresh t) yes-is-fresh in
     listing-rest t yes-is-fresh (said-yes (at-are-numbers-right .are-numbers-right .ensures) (at-if2 .if2 .left)) _ (at-places-of-kind .places-of-kind .ensures .0) _ (c .before .before .before .if3 .left) (keys-there t (fresh .0) (fresh .1) _ (c .keys-before .ensures))
 
 pub is-listing-sound-spec : {M : Type 1} → statement M
