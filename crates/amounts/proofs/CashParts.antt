@@ -48,9 +48,12 @@ module _ (contracts size change : ℕ) where
   regrouped : contracts * size * change ≡ 10000 * (over * (size / 10000)) + over * (size % 10000)
   regrouped =
       let s : size ≡ size / 10000 * 10000 + size % 10000 = omega arith in
-      let p : contracts * size * change ≡ over * size = mul-assoc contracts size change ∙ ap (λ (k : ℕ). contracts * k) (mul-comm size change) ∙ sym (mul-assoc contracts change size) in
-      let q : over * size ≡ over * (size / 10000 * 10000) + over * (size % 10000) = ap (λ (k : ℕ). over * k) s ∙ mul-add over (size / 10000 * 10000) (size % 10000) in
-      let r : over * (size / 10000 * 10000) ≡ 10000 * (over * (size / 10000)) = sym (mul-assoc over (size / 10000) 10000) ∙ mul-comm (over * (size / 10000)) 10000 in
+      let p : contracts * size * change ≡ over * size =
+      mul-assoc contracts size change ∙ ap (λ (k : ℕ). contracts * k) (mul-comm size change) ∙ sym (mul-assoc contracts change size) in
+      let q : over * size ≡ over * (size / 10000 * 10000) + over * (size % 10000) =
+      ap (λ (k : ℕ). over * k) s ∙ mul-add over (size / 10000 * 10000) (size % 10000) in
+      let r : over * (size / 10000 * 10000) ≡ 10000 * (over * (size / 10000)) =
+      sym (mul-assoc over (size / 10000) 10000) ∙ mul-comm (over * (size / 10000)) 10000 in
       p ∙ q ∙ ap (λ (k : ℕ). k + over * (size % 10000)) r
 
   -- the amount is the one of the whole shares plus the whole part of the one of the ten-thousandths
@@ -117,7 +120,12 @@ module _ (contracts size agreed final : ℕ) (b : Bounds contracts size agreed f
   parts-most = let h : size % 10000 ≤ 9999 = omega arith in mul-le-mul change-most h
 
   -- the code's sign, amount and rest are those of the cash amount
-  pub cash-is : _≡_ {A = Amount} (record { negative = ltb final agreed; amount = change * (size / 10000) + change * (size % 10000) / 10000; rest = change * (size % 10000) % 10000 }) (cashParts (cashAmount contracts size agreed final))
+  pub cash-is : _≡_ {A = Amount} (record {
+    negative = ltb final agreed;
+    amount = change * (size / 10000) + change * (size % 10000) / 10000;
+    rest =
+        change * (size % 10000) % 10000;
+  }) (cashParts (cashAmount contracts size agreed final))
   unfolding cashParts
   cash-is =
       let s = sized (contracts * size) agreed final (mul-le-mul {n₁ = 1} {m₁ = 1} {n₂ = contracts} {m₂ = size} (b .contracts-some) (b .size-some)) in
@@ -156,8 +164,10 @@ whole-size contracts shares agreed final =
     old : ℤ
     old = cashAmount contracts shares agreed final
 
-    new : (below (cashAmount contracts (10000 * shares) agreed final) ≡ below old) × (natAbs (cashAmount contracts (10000 * shares) agreed final) ≡ 10000 * natAbs old)
-    new = rw (sym (mul-assoc contracts 10000 shares), mul-comm contracts 10000, mul-assoc 10000 contracts shares) (scaled (contracts * shares) (pos final -ℤ pos agreed))
+    new : (below (cashAmount contracts (10000 * shares) agreed final) ≡ below old)
+        × (natAbs (cashAmount contracts (10000 * shares) agreed final) ≡ 10000 * natAbs old)
+    new = rw (sym (mul-assoc contracts 10000 shares), mul-comm contracts 10000, mul-assoc 10000 contracts shares)
+        (scaled (contracts * shares) (pos final -ℤ pos agreed))
 
     quotient : 10000 * natAbs old / 10000 ≡ natAbs old
     quotient = omega arith

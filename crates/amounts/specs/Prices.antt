@@ -103,6 +103,7 @@ pub record Parts (z : ℤ) : Type 0 where
 
 -- 'whole sizes give the old amount and rest 0' (02, note 11)
 pub record WholeSizes (contracts shares agreed final : ℕ) : Type 0 where
-  pub amount : signed (cashParts (cashAmount contracts (10000 * shares) agreed final) .negative) (cashParts (cashAmount contracts (10000 * shares) agreed final) .amount)
+  pub amount : signed (cashParts (cashAmount contracts (10000 * shares) agreed final) .negative)
+      (cashParts (cashAmount contracts (10000 * shares) agreed final) .amount)
       ≡ cashAmount contracts shares agreed final
   pub rest : cashParts (cashAmount contracts (10000 * shares) agreed final) .rest ≡ 0

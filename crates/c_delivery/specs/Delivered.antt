@@ -81,7 +81,8 @@ deliveredBy opening id n ns room =
     notDelivered
 
 -- of a buffer before and after: it starts with the number of each notice's refusal, or is untouched
-pub record DeliveredIn (opening : List ℕ → ℕ → Outcome) (id : List ℕ) (n : Notices) (ns : List Notice) (before after : List ℕ) (r : FlatDelivered) : Type 0 where
+pub record DeliveredIn (opening : List ℕ → ℕ → Outcome) (id : List ℕ) (n : Notices) (ns : List Notice) (before after : List ℕ)
+    (r : FlatDelivered) : Type 0 where
   pub is : r ≡ deliveredBy opening id n ns (length before)
   pub refusals : r .fits ≡ true → take (n .count) after ≡ refusalsFor id (opening id (n .date) .table) ns
   pub unchanged : r .fits ≡ true → drop (n .count) after ≡ drop (n .count) before

@@ -86,7 +86,8 @@ foundProgress r = record { next = r .next; length = r .length; lines = r .lines 
 -- of a product, its table and the rows that were received:
 -- the lines of its differences stand in the buffer, or nothing was looked for and the buffer is untouched;
 -- 10 where the product has no kind or its table is not sound
-pub record DifferencesIn (p : FlatProduct) (d : FlatDelivered) (received : List Received) (rows from : ℕ) (places places′ before after : List ℕ) (r : FoundLines) : Type 0 where
+pub record DifferencesIn (p : FlatProduct) (d : FlatDelivered) (received : List Received) (rows from : ℕ) (places places′ before after : List ℕ)
+    (r : FoundLines) : Type 0 where
   pub refusal : r .refusal ≡ cond (judgeable p d) 0 10
   pub fits : r .fits ≡ (judgeable p d && roomFor rows (length places))
   pub found : r .fits ≡ true

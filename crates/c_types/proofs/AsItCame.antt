@@ -44,7 +44,8 @@ use Rattle.c_types.proofs.FlatAnswers.{outcome-no, measured-no}
 use Rattle.c_types.proofs.Undo.{table-forth}
 
 -- of two values by a test, where one has refusal 0: not 0, it is the other
-refused-one : {A : Type 0} (refusal : A → ℕ) (test : Bool) (accepted other : A) → refusal accepted ≡ 0 → (refusal (cond test accepted other) ≡ 0 → ⊥) → cond test accepted other ≡ other
+refused-one : {A : Type 0} (refusal : A → ℕ) (test : Bool) (accepted other : A) → refusal accepted ≡ 0 → (refusal (cond test accepted other) ≡ 0 → ⊥)
+    → cond test accepted other ≡ other
 refused-one refusal true accepted other e no-zero = absurd (no-zero e)
 refused-one refusal false accepted other e no-zero = refl
 
@@ -67,7 +68,8 @@ module _ {A : Type 0} (n : ℕ) (accepted other : A) where
       go false e = same (eqb-false n 0 e)
 
 -- a call on a table: refused, it is the table with the number and counts 0 and 0
-pub answered-same : (t : Table) (asks : List Ask) (o : Outcome) → o .refusal ≡ 0 → (answered t asks o .refusal ≡ 0 → ⊥) → answered t asks o ≡ refusedWith t (firstNo asks)
+pub answered-same : (t : Table) (asks : List Ask) (o : Outcome) → o .refusal ≡ 0 → (answered t asks o .refusal ≡ 0 → ⊥)
+    → answered t asks o ≡ refusedWith t (firstNo asks)
 unfolding answered
 answered-same t asks o e no-zero = refused-one (λ (r : Outcome). r .refusal) (eqb (firstNo asks) 0) o (refusedWith t (firstNo asks)) e no-zero
 
@@ -136,7 +138,8 @@ module _ (t : FlatTable) where
         chosen-own (m .refusal) (flatMeasured m) (unmeasuredOn t (m .refusal))
         (λ no-zero.
         let g = given-back (unflatTable t) p q price no-zero in
-        ap₂ (λ (n : ℕ) (f : FlatTable). record { refusal = m .refusal; price = n; table = f }) (sym (g .no-price)) (sym (table-forth t right) ∙ ap flatTable (sym (g .same))))
+        ap₂ (λ (n : ℕ) (f : FlatTable). record { refusal = m .refusal; price = n; table = f }) (sym (g .no-price))
+        (sym (table-forth t right) ∙ ap flatTable (sym (g .same))))
 
     calls-own : CallsOwn t
     calls-own =
@@ -158,7 +161,8 @@ module _ (t : FlatTable) where
     ten (roll date) = outcome-number (rollCall (unflatTable t) date) ∙ ap (λ (o : Outcome). o .refusal) (roll-10 (unflatTable t) date unsound)
     ten (close day) = outcome-number (closeCall (unflatTable t) day) ∙ ap (λ (o : Outcome). o .refusal) (close-10 (unflatTable t) day unsound)
     ten (reopen day) = outcome-number (reopenCall (unflatTable t) day) ∙ ap (λ (o : Outcome). o .refusal) (reopen-10 (unflatTable t) day unsound)
-    ten (measure p q price) = measured-number (measureCall (unflatTable t) p q price) ∙ ap (λ (m : Measured). m .refusal) (sym (measure-10 (unflatTable t) p q price unsound))
+    ten (measure p q price) = measured-number (measureCall (unflatTable t) p q price) ∙
+        ap (λ (m : Measured). m .refusal) (sym (measure-10 (unflatTable t) p q price unsound))
 
     ten-read : (c : ReadCall) → readRefusal t c ≡ 10
     ten-read (last-day key) = same-number (last-day-10 (unflatTable t) key unsound)

@@ -39,6 +39,7 @@ module _ (p : FlatProduct) where
 
   -- a flat product whose kind number is a kind stands for the product with its fields and that kind
   pub product-yes : kindRight (p .kind) ≡ true
-      → record { id = p .id; group = p .group; market = p .market; kind = kindOf (p .kind); size = p .size; tick = p .tick; currency = p .currency } ≡ unflatProduct p
+      → record { id = p .id; group = p .group; market = p .market; kind = kindOf (p .kind); size = p .size; tick = p .tick; currency = p .currency }
+      ≡ unflatProduct p
   unfolding unflatProduct
   product-yes right = rw right refl

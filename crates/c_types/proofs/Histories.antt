@@ -1,4 +1,5 @@
--- A list of calls on a flat table is the list of demand 3: the flat form of a table has a kind, so every call on it gives the flat form of what the call on the table gives.
+-- A list of calls on a flat table is the list of demand 3: the flat form of a table has a kind, so every call on it gives the flat form of what the
+-- call on the table gives.
 -- Assumes nothing.
 use mathlib.Core.Path.{_≡_, refl, _∙_, ap}
 use mathlib.Core.List.{List, [], _∷_}

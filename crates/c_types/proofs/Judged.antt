@@ -24,7 +24,8 @@ module _ (judged : FileCalendar) (f id : List ℕ) (date : ℕ) where
   unfolding openIn answered asksIn firstNo
   number no-zero = rw (ne-eqb (judged .refusal) 0 no-zero, ne-eqb (judged .refusal) 0 no-zero) refl
 
-  refused : (openIn (calendarAnswer judged) f id date .refusal ≡ 0 → ⊥) → openIn (calendarAnswer judged) f id date ≡ refusedWith zeroTable (firstNo (asksIn (calendarAnswer judged) f id date))
+  refused : (openIn (calendarAnswer judged) f id date .refusal ≡ 0 → ⊥)
+      → openIn (calendarAnswer judged) f id date ≡ refusedWith zeroTable (firstNo (asksIn (calendarAnswer judged) f id date))
   unfolding openIn
   refused = answered-same zeroTable (asksIn (calendarAnswer judged) f id date) _ refl
 

@@ -214,7 +214,11 @@ clear-other map n m ne = go (eqb (m / 8) (n / 8)) refl (lt-or-ge (n / 8) (length
   where
     same : m / 8 ≡ n / 8 → n / 8 < length map → bitAt (clearBit map n) m ≡ bitAt map m
     same p h =
-        simp (p, getD-set-same map (n / 8) (cleared map n) 0 h, bit-left (getD map (n / 8) 0) (7 - n % 8) (7 - m % 8) (omega arith) (omega arith) (λ q. ne (omega arith)))
+        simp (
+          p,
+          getD-set-same map (n / 8) (cleared map n) 0 h,
+          bit-left (getD map (n / 8) 0) (7 - n % 8) (7 - m % 8) (omega arith) (omega arith) (λ q. ne (omega arith)),
+        )
 
     out : length map ≤ n / 8 → bitAt (clearBit map n) m ≡ bitAt map m
     out h = simp (set-out map (n / 8) (cleared map n) h)

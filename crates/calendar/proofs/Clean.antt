@@ -11,7 +11,8 @@ unfolding bitsClean
 bits-zero may = refl
 
 -- a first bit that may be 1 and was not taken away keeps a slot clean
-pub bits-more : (may before after second : Bool) → may ≡ true → (before ≡ true → after ≡ true) → bitsClean may before second ≡ true → bitsClean may after second ≡ true
+pub bits-more : (may before after second : Bool) → may ≡ true → (before ≡ true → after ≡ true) → bitsClean may before second ≡ true
+    → bitsClean may after second ≡ true
 unfolding bitsClean
 bits-more may before true second m h t = rw (m) (or-right (not second) refl)
 bits-more may true false second m h t = clash (h refl) refl

@@ -15,7 +15,8 @@ use Rattle.questions.proofs.Search.{every-at, every-all}
 use Rattle.days.specs.Gregorian.{weekdayOf}
 use Rattle.calendar.specs.declared.Calendar.{Calendar}
 use Rattle.calendar.specs.Bits.{bitAt, setBit}
-use Rattle.calendar.specs.Trading.{calendarOfMaps, validCover, inCover, slotOf, closedOn, tradingDay, inSecondMap, mayBeClosed, bitsClean, cleanSlot, clean, closeDay}
+use Rattle.calendar.specs.Trading.{calendarOfMaps, validCover, inCover, slotOf, closedOn, tradingDay, inSecondMap, mayBeClosed, bitsClean, cleanSlot}
+use Rattle.calendar.specs.Trading.{clean, closeDay}
 use Rattle.calendar.proofs.Bits.{set-here, set-other, set-keeps, set-turn, marked, one-shl}
 use Rattle.calendar.proofs.Covered.{covered, slot-below, slot-may, slot-same}
 use Rattle.calendar.proofs.Clean.{bits-more, bits-second}
@@ -40,7 +41,8 @@ module _ (cal : Calendar) (d : ℕ) where
   out-map e = rw e
 
   -- the bit of any other day of the cover is as it was
-  bit-other : (e : ℕ) → (e ≡ d → ⊥) → inCover (cal .cover) e ≡ true → bitAt (closeDay cal d .closed) (slotOf (cal .cover) e) ≡ bitAt (cal .closed) (slotOf (cal .cover) e)
+  bit-other : (e : ℕ) → (e ≡ d → ⊥) → inCover (cal .cover) e ≡ true
+      → bitAt (closeDay cal d .closed) (slotOf (cal .cover) e) ≡ bitAt (cal .closed) (slotOf (cal .cover) e)
   bit-other e ne p = go (inCover (cal .cover) d) refl
     where
       go : (b : Bool) → inCover (cal .cover) d ≡ b → bitAt (closeDay cal d .closed) (slotOf (cal .cover) e) ≡ bitAt (cal .closed) (slotOf (cal .cover) e)
@@ -55,7 +57,9 @@ module _ (cal : Calendar) (d : ℕ) where
   unfolding closedOn
   closed-other e ne = go (inCover (cal .cover) e) refl
     where
-      go : (b : Bool) → inCover (cal .cover) e ≡ b → (inCover (closeDay cal d .cover) e && bitAt (closeDay cal d .closed) (slotOf (closeDay cal d .cover) e)) ≡ (inCover (cal .cover) e && bitAt (cal .closed) (slotOf (cal .cover) e))
+      go : (b : Bool) → inCover (cal .cover) e ≡ b
+          → (inCover (closeDay cal d .cover) e && bitAt (closeDay cal d .closed) (slotOf (closeDay cal d .cover) e))
+          ≡ (inCover (cal .cover) e && bitAt (cal .closed) (slotOf (cal .cover) e))
       go true p = rw (close-cover) (ap (λ (b : Bool). inCover (cal .cover) e && b) (bit-other e ne p))
       go false p = rw (close-cover, p)
 
@@ -92,7 +96,8 @@ module _ (cal : Calendar) (d : ℕ) where
   unfolding tradingDay closeDay
   trading-same t = go (closedOn cal d) refl t
     where
-      go : (b : Bool) → closedOn cal d ≡ b → (inCover (closeDay cal d .cover) d && (ltb (weekdayOf d) 5 && not (closedOn (closeDay cal d) d))) ≡ true → (inCover (cal .cover) d && (ltb (weekdayOf d) 5 && not (closedOn cal d))) ≡ true
+      go : (b : Bool) → closedOn cal d ≡ b → (inCover (closeDay cal d .cover) d && (ltb (weekdayOf d) 5 && not (closedOn (closeDay cal d) d))) ≡ true
+          → (inCover (cal .cover) d && (ltb (weekdayOf d) 5 && not (closedOn cal d))) ≡ true
       go true q t =
           let (a, r) = both (inCover (cal .cover) d) (ltb (weekdayOf d) 5 && not (closedOn (closeDay cal d) d)) t in
           let (w, n) = both (ltb (weekdayOf d) 5) (not (closedOn (closeDay cal d) d)) r in
@@ -121,7 +126,8 @@ module _ (cal : Calendar) (d : ℕ) where
       may : mayBeClosed (cal .cover) (slotOf (cal .cover) d) ≡ true
       may = slot-may (cal .cover) d (covered (cal .cover) d e) ∙ w
 
-      go : (s : ℕ) (b : Bool) → eqb s (slotOf (cal .cover) d) ≡ b → cleanSlot cal s ≡ true → bitsClean (mayBeClosed (cal .cover) s) (bitAt (closeDay cal d .closed) s) (bitAt (cal .exchange) s) ≡ true
+      go : (s : ℕ) (b : Bool) → eqb s (slotOf (cal .cover) d) ≡ b → cleanSlot cal s ≡ true
+          → bitsClean (mayBeClosed (cal .cover) s) (bitAt (closeDay cal d .closed) s) (bitAt (cal .exchange) s) ≡ true
       go s true q t =
           let p : s ≡ slotOf (cal .cover) d = eqb-true s (slotOf (cal .cover) d) q in
           let m : mayBeClosed (cal .cover) s ≡ true = ap (mayBeClosed (cal .cover)) p ∙ may in
@@ -157,12 +163,23 @@ module _ (cal : Calendar) (d : ℕ) where
   unfolding closeDay setBit
   close-past h = go (inCover (cal .cover) d)
     where
-      go : (b : Bool) → cal ≡ record { cover = cal .cover; closed = cond b (setBit (cal .closed) (slotOf (cal .cover) d)) (cal .closed); exchange = cal .exchange }
+      go : (b : Bool) → cal ≡ record {
+        cover = cal .cover;
+        closed = cond b (setBit (cal .closed) (slotOf (cal .cover) d)) (cal .closed);
+        exchange =
+            cal .exchange;
+      }
       go true = rw (set-out (cal .closed) (slotOf (cal .cover) d / 8) (marked (cal .closed) (slotOf (cal .cover) d)) h)
       go false = refl
 
   -- the code's store
-  pub close-store : (slot : ℕ) → slot ≡ slotOf (cal .cover) d → inCover (cal .cover) d ≡ true → _≡_ {A = Calendar} (record { cover = cal .cover; closed = set (cal .closed) (slot / 8) (bitOr (getD (cal .closed) (slot / 8) 0) (1 * 2 ^ (7 - slot % 8) % 256)); exchange = cal .exchange }) (closeDay cal d)
+  pub close-store : (slot : ℕ) → slot ≡ slotOf (cal .cover) d → inCover (cal .cover) d ≡ true
+      → _≡_ {A = Calendar} (record {
+        cover = cal .cover;
+        closed =
+            set (cal .closed) (slot / 8) (bitOr (getD (cal .closed) (slot / 8) 0) (1 * 2 ^ (7 - slot % 8) % 256));
+        exchange = cal .exchange;
+      }) (closeDay cal d)
   unfolding closeDay setBit
   close-store slot q e = rw (one-shl (7 - slot % 8) (omega arith), e, q)
 

@@ -1,4 +1,5 @@
--- The search for the first exchange day after a day starts with the next day; the n-th is the first after the one before. With a second map of zeros it is the n-th trading day.
+-- The search for the first exchange day after a day starts with the next day; the n-th is the first after the one before. With a second map of zeros
+-- it is the n-th trading day.
 -- Assumes nothing.
 use mathlib.Core.Path.{_≡_, ap, fun-ext}
 use mathlib.Core.Bool.{Bool, false, and-false, or-false}
@@ -7,10 +8,12 @@ use native.Mathlib.Numerals.{add-one}
 use Rattle.questions.specs.Search.{firstFrom}
 use Rattle.calendar.specs.Bits.{bitAt}
 use Rattle.calendar.specs.declared.Calendar.{Calendar}
-use Rattle.calendar.specs.Trading.{coverEnd, inCover, slotOf, tradingDay, inSecondMap, exchangeDay, nextDay, nthDay, nthTradingDay, nextExchangeDay, nthExchangeDay}
+use Rattle.calendar.specs.Trading.{coverEnd, inCover, slotOf, tradingDay, inSecondMap, exchangeDay, nextDay, nthDay, nthTradingDay, nextExchangeDay}
+use Rattle.calendar.specs.Trading.{nthExchangeDay}
 
 -- the search of exchange days from the day after a day to the cover's end gives the next exchange day
-pub next-start : (cal : Calendar) (day e : ℕ) → e ≡ coverEnd (cal .cover) → firstFrom (exchangeDay cal) 36525 (e - (day + 1)) (day + 1) ≡ nextExchangeDay cal day
+pub next-start : (cal : Calendar) (day e : ℕ) → e ≡ coverEnd (cal .cover)
+    → firstFrom (exchangeDay cal) 36525 (e - (day + 1)) (day + 1) ≡ nextExchangeDay cal day
 unfolding nextExchangeDay nextDay
 next-start cal day e q = rw (add-one day, q)
 

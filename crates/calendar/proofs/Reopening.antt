@@ -70,13 +70,15 @@ module _ (cal : Calendar) (d : ℕ) where
   -- question 5 stays answered yes: the day has no bit in either map, every other day has its own
   pub clean-reopen : clean cal ≡ true → clean (reopenDay cal d) ≡ true
   unfolding clean reopenDay
-  clean-reopen k = every-all (cleanSlot (reopenDay cal d)) 5888 (λ s h. go s (inCover (cal .cover) d) (eqb s (slotOf (cal .cover) d)) refl (every-at (cleanSlot cal) 5888 s k h))
+  clean-reopen k = every-all (cleanSlot (reopenDay cal d)) 5888
+      (λ s h. go s (inCover (cal .cover) d) (eqb s (slotOf (cal .cover) d)) refl (every-at (cleanSlot cal) 5888 s k h))
     where
       at : ℕ
       at = slotOf (cal .cover) d
 
       go : (s : ℕ) (b q : Bool) → eqb s at ≡ q → bitsClean (mayBeClosed (cal .cover) s) (bitAt (cal .closed) s) (bitAt (cal .exchange) s) ≡ true
-          → bitsClean (mayBeClosed (cal .cover) s) (bitAt (cond b (clearBit (cal .closed) at) (cal .closed)) s) (bitAt (cond b (clearBit (cal .exchange) at) (cal .exchange)) s) ≡ true
+          → bitsClean (mayBeClosed (cal .cover) s) (bitAt (cond b (clearBit (cal .closed) at) (cal .closed)) s)
+          (bitAt (cond b (clearBit (cal .exchange) at) (cal .exchange)) s) ≡ true
       go s false q e t = t
       go s true true e t =
           let p : s ≡ at = eqb-true s at e in
@@ -100,12 +102,23 @@ module _ (cal : Calendar) (d : ℕ) where
       at : ℕ
       at = slotOf (cal .cover) d
 
-      go : (b : Bool) → cal ≡ record { cover = cal .cover; closed = cond b (clearBit (cal .closed) at) (cal .closed); exchange = cond b (clearBit (cal .exchange) at) (cal .exchange) }
+      go : (b : Bool) → cal ≡ record {
+        cover = cal .cover;
+        closed = cond b (clearBit (cal .closed) at) (cal .closed);
+        exchange =
+            cond b (clearBit (cal .exchange) at) (cal .exchange);
+      }
       go true = rw (set-out (cal .closed) (at / 8) (cleared (cal .closed) at) h, set-out (cal .exchange) (at / 8) (cleared (cal .exchange) at) l)
       go false = refl
 
   -- the code's stores
   pub reopen-store : (slot : ℕ) → slot ≡ slotOf (cal .cover) d → inCover (cal .cover) d ≡ true
-      → _≡_ {A = Calendar} (record { cover = cal .cover; closed = set (cal .closed) (slot / 8) (bitAnd (getD (cal .closed) (slot / 8) 0) (255 - 1 * 2 ^ (7 - slot % 8) % 256)); exchange = set (cal .exchange) (slot / 8) (bitAnd (getD (cal .exchange) (slot / 8) 0) (255 - 1 * 2 ^ (7 - slot % 8) % 256)) }) (reopenDay cal d)
+      → _≡_ {A = Calendar} (record {
+        cover = cal .cover;
+        closed =
+            set (cal .closed) (slot / 8) (bitAnd (getD (cal .closed) (slot / 8) 0) (255 - 1 * 2 ^ (7 - slot % 8) % 256));
+        exchange =
+            set (cal .exchange) (slot / 8) (bitAnd (getD (cal .exchange) (slot / 8) 0) (255 - 1 * 2 ^ (7 - slot % 8) % 256));
+      }) (reopenDay cal d)
   unfolding reopenDay clearBit
   reopen-store slot q e = rw (one-shl (7 - slot % 8) (omega arith), e, q)

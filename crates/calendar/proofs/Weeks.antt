@@ -32,7 +32,8 @@ not-idle-first false x y e q r = clash (eq-eqb x y r) e
 abbrev week : (ℕ → Bool) → ℕ → ℕ → Bool
 week f s k = some 7 (λ i. f (s + k + i))
 
--- the loop's state: every week that begins at s or later and before `first` holds a day that passes, and of the week from `first` on the days after d do not pass
+-- the loop's state: every week that begins at s or later and before `first` holds a day that passes, and of the week from `first` on the days after d
+-- do not pass
 pub record Passed (f : ℕ → Bool) (s e first d : ℕ) : Type 0 where
   -- the week begins at s or later
   pub from : s ≤ first
@@ -82,7 +83,15 @@ module _ (f : ℕ → Bool) (s e : ℕ) where
     -- the day does not pass, and is not the week's first
     failing : f d ≡ false → (d ≡ first → ⊥) → Passed f s e first (d - 1)
     failing t n =
-        record { from = h .from; to = h .to; near = omega (arith, h .near); within = omega (arith, h .within); passed = h .passed; idle = λ x a b. side x b (eq-or-lt-of-le (later x a)) }
+        record {
+          from = h .from;
+          to = h .to;
+          near = omega (arith, h .near);
+          within = omega (arith, h .within);
+          passed = h .passed;
+          idle =
+              λ x a b. side x b (eq-or-lt-of-le (later x a));
+        }
       where
         later : (x : ℕ) → d - 1 < x → d ≤ x
         later x a = omega arith
@@ -97,7 +106,8 @@ module _ (f : ℕ → Bool) (s e : ℕ) where
     passed-step false q n = failing (sym q) (n refl)
 
     -- the loop ends: what is left gets less
-    pub passed-less : (b : Bool) → (b ≡ false → d ≡ first → ⊥) → 8 * (e - cond b (d + 1) first) + (cond b (d + 7) (d - 1) - cond b (d + 1) first) < 8 * (e - first) + (d - first)
+    pub passed-less : (b : Bool) → (b ≡ false → d ≡ first → ⊥)
+        → 8 * (e - cond b (d + 1) first) + (cond b (d + 7) (d - 1) - cond b (d + 1) first) < 8 * (e - first) + (d - first)
     passed-less true n = omega (arith, h .near, h .within)
     passed-less false n = unlike (n refl)
       where
@@ -133,17 +143,20 @@ every-week cal t s a b =
     ap (λ (x : ℕ). someTrades cal x 7) (sym r) ∙ every-at (λ k. someTrades cal (coverStart (cal .cover) + k) 7) _ k t (omega arith)
 
 -- so the latest trading day at or before a day is at most six days before it, where those seven days are in the cover
-pub within-six : (cal : Calendar) → everyWeek cal ≡ true → (d : ℕ) → coverStart (cal .cover) + 6 ≤ d → d < coverEnd (cal .cover) → d ≤ latest (tradingDay cal) d + 6
+pub within-six : (cal : Calendar) → everyWeek cal ≡ true → (d : ℕ) → coverStart (cal .cover) + 6 ≤ d → d < coverEnd (cal .cover)
+    → d ≤ latest (tradingDay cal) d + 6
 within-six cal t d a b =
     let p = some-one (λ i. tradingDay cal (d - 6 + i)) 7 (every-week cal t (d - 6) (omega arith) (omega arith)) in
     omega (arith, latest-ge (tradingDay cal) d (d - 6 + p .at) (omega arith) (p .passes))
 
 -- with more trading days every week still holds one
-pub weeks-more : (cal cal′ : Calendar) → cal′ .cover ≡ cal .cover → ((d : ℕ) → tradingDay cal′ d ≡ true → tradingDay cal d ≡ true) → everyWeek cal′ ≡ true → everyWeek cal ≡ true
+pub weeks-more : (cal cal′ : Calendar) → cal′ .cover ≡ cal .cover → ((d : ℕ) → tradingDay cal′ d ≡ true → tradingDay cal d ≡ true) → everyWeek cal′ ≡ true
+    → everyWeek cal ≡ true
 unfolding everyWeek
 weeks-more cal cal′ c more e =
     every-all (λ k. someTrades cal (coverStart (cal .cover) + k) 7) (coverEnd (cal .cover) - coverStart (cal .cover) - 6)
-    (λ k l. each (coverStart (cal .cover) + k) (every-week cal′ e (coverStart (cal .cover) + k) (omega (arith, ap coverStart c)) (omega (arith, ap coverEnd c))))
+    (λ k l. each (coverStart (cal .cover) + k)
+    (every-week cal′ e (coverStart (cal .cover) + k) (omega (arith, ap coverStart c)) (omega (arith, ap coverEnd c))))
   where
     each : (x : ℕ) → some 7 (λ i. tradingDay cal′ (x + i)) ≡ true → some 7 (λ i. tradingDay cal (x + i)) ≡ true
     each x s =

@@ -25,10 +25,12 @@ use Rattle.calendar_words.proofs.DayWords.{or-day, shr-day, every-same, both-ev
 use Rattle.calendar_checks.specs.Maps.{Barred, Used}
 
 -- a year that has days has 365 or 366
-pub year-days : (y : ℕ) → yearStart y < yearStart (y + 1) → (2000 ≤ y) × (y < 2100) × (yearStart y + 365 ≤ yearStart (y + 1)) × (yearStart (y + 1) ≤ yearStart y + 366)
+pub year-days : (y : ℕ) → yearStart y < yearStart (y + 1)
+    → (2000 ≤ y) × (y < 2100) × (yearStart y + 365 ≤ yearStart (y + 1)) × (yearStart (y + 1) ≤ yearStart y + 366)
 year-days y h = go (lt-or-ge y 2000) (lt-or-ge y 2100)
   where
-    go : (y < 2000) ⊎ (2000 ≤ y) → (y < 2100) ⊎ (2100 ≤ y) → (2000 ≤ y) × (y < 2100) × (yearStart y + 365 ≤ yearStart (y + 1)) × (yearStart (y + 1) ≤ yearStart y + 366)
+    go : (y < 2000) ⊎ (2000 ≤ y) → (y < 2100) ⊎ (2100 ≤ y)
+        → (2000 ≤ y) × (y < 2100) × (yearStart y + 365 ≤ yearStart (y + 1)) × (yearStart (y + 1) ≤ yearStart y + 366)
     go (inl a) b = absurd (omega (arith, h, year-start-le (y + 1) 2000 (omega arith), year-start-is 2000 (omega arith) (omega arith)))
     go (inr a) (inr b) = absurd (omega (arith, h, year-start-past y b, year-start-past (y + 1) (omega arith)))
     go (inr a) (inl b) =
@@ -37,7 +39,8 @@ year-days y h = go (lt-or-ge y 2000) (lt-or-ge y 2100)
         (a, b, omega arith, omega arith)
 
 -- the weekends of a year that has days
-barred-weeks : (y x j p : ℕ) → yearStart y < yearStart (y + 1) → Weekends (yearStart y) x → j < 6 → p < 56 → dayBit 56 (x / 2 ^ 8) p ≡ not (mayClose y (56 * j + p))
+barred-weeks : (y x j p : ℕ) → yearStart y < yearStart (y + 1) → Weekends (yearStart y) x → j < 6 → p < 56
+    → dayBit 56 (x / 2 ^ 8) p ≡ not (mayClose y (56 * j + p))
 barred-weeks y x j p h v k l =
     let d = year-days y h in
     let e : weekdayOf (yearStart y + p) ≡ weekdayOf (yearStart y + (56 * j + p)) = omega arith in
@@ -48,8 +51,10 @@ or-false true = refl
 or-false false = refl
 
 -- the rest of the map: its last days are after the year's end
-barred-rest : (y x m c p : ℕ) → yearStart (y + 1) ≡ yearStart y + 336 + c → c ≤ 32 → Weekends (yearStart y) x → every 32 (λ p. cond (leb c p) (dayBit 32 m p) (not (dayBit 32 m p))) ≡ true → p < 32 → dayBit 32 (bitOr (x / 2 ^ 32) m) p ≡ not (mayClose y (336 + p))
-barred-rest y x m c p s b v t l = or-day 32 (x / 2 ^ 32) m p ∙ ap (λ (q : Bool). q || dayBit 32 m p) (shr-day 32 32 x p l ∙ v p (omega arith)) ∙ go (lt-or-ge p c)
+barred-rest : (y x m c p : ℕ) → yearStart (y + 1) ≡ yearStart y + 336 + c → c ≤ 32 → Weekends (yearStart y) x
+    → every 32 (λ p. cond (leb c p) (dayBit 32 m p) (not (dayBit 32 m p))) ≡ true → p < 32 → dayBit 32 (bitOr (x / 2 ^ 32) m) p ≡ not (mayClose y (336 + p))
+barred-rest y x m c p s b v t l = or-day 32 (x / 2 ^ 32) m p ∙ ap (λ (q : Bool). q || dayBit 32 m p) (shr-day 32 32 x p l ∙ v p (omega arith)) ∙
+    go (lt-or-ge p c)
   where
     tested : cond (leb c p) (dayBit 32 m p) (not (dayBit 32 m p)) ≡ true
     tested = every-at (λ p. cond (leb c p) (dayBit 32 m p) (not (dayBit 32 m p))) 32 p t l
@@ -85,12 +90,15 @@ module _ (y x : ℕ) (b : Barred y x) where
       go (inr h) = shr-day 56 8 x p l ∙ none-open h (56 * j) p (omega arith)
 
   -- after six times eight weeks, the word of the rest, with the days after the year's end, has the days that may not be closed
-  pub rest-barred : (m c : ℕ) → (yearStart y < yearStart (y + 1) → yearStart (y + 1) ≡ yearStart y + 336 + c) → c ≤ 32 → every 32 (λ p. cond (leb c p) (dayBit 32 m p) (not (dayBit 32 m p))) ≡ true → (p : ℕ) → p < 32 → dayBit 32 (bitOr (x / 2 ^ 32) m) p ≡ not (mayClose y (336 + p))
+  pub rest-barred : (m c : ℕ) → (yearStart y < yearStart (y + 1) → yearStart (y + 1) ≡ yearStart y + 336 + c) → c ≤ 32
+      → every 32 (λ p. cond (leb c p) (dayBit 32 m p) (not (dayBit 32 m p))) ≡ true → (p : ℕ) → p < 32
+      → dayBit 32 (bitOr (x / 2 ^ 32) m) p ≡ not (mayClose y (336 + p))
   rest-barred m c s k t p l = go (lt-or-ge (yearStart y) (yearStart (y + 1)))
     where
       go : (yearStart y < yearStart (y + 1)) ⊎ (yearStart (y + 1) ≤ yearStart y) → dayBit 32 (bitOr (x / 2 ^ 32) m) p ≡ not (mayClose y (336 + p))
       go (inl h) = barred-rest y x m c p (s h) k (b .0 h) t l
-      go (inr h) = or-day 32 (x / 2 ^ 32) m p ∙ rw (shr-day 32 32 x p l, every-at (dayBit 64 x) 64 p (b .1 h) (omega arith)) (sym (ap not (may-not y (336 + p) (omega arith))))
+      go (inr h) = or-day 32 (x / 2 ^ 32) m p ∙
+          rw (shr-day 32 32 x p l, every-at (dayBit 64 x) 64 p (b .1 h) (omega arith)) (sym (ap not (may-not y (336 + p) (omega arith))))
 
 -- how many days a year that has days has after six times eight weeks
 pub rest-leap : (y : ℕ) → y % 4 ≡ 0 → yearStart y < yearStart (y + 1) → yearStart (y + 1) ≡ yearStart y + 336 + 30
@@ -139,10 +147,12 @@ module _ (map : List ℕ) (c : Cover) (n : ℕ) (u : Used c n) where
       let e : 5888 ≡ 368 * n + (5888 - 368 * n) = omega (arith, u .most) in
       ap (λ (m : ℕ). every m (slotDay map c)) e ∙ every-split (slotDay map c) (368 * n) (5888 - 368 * n) h ∙
       every-same (λ p. slotDay map c (368 * n + p)) (λ p. not (bitAt map (368 * n + p))) (5888 - 368 * n)
-      (λ p l. ap (λ (q : Bool). not (bitAt map (368 * n + p)) || q) (u .beyond (368 * n + p) (omega arith) (omega arith)) ∙ or-false (not (bitAt map (368 * n + p))))
+      (λ p l. ap (λ (q : Bool). not (bitAt map (368 * n + p)) || q) (u .beyond (368 * n + p) (omega arith) (omega arith)) ∙
+      or-false (not (bitAt map (368 * n + p))))
 
 -- 5, of both maps
-pub both-clean : (cal : Calendar) → (every 5888 (slotDay (cal .closed) (cal .cover)) && every 5888 (λ s. not (bitAt (cal .exchange) s) || bitAt (cal .closed) s)) ≡ clean cal
+pub both-clean : (cal : Calendar) → (every 5888 (slotDay (cal .closed) (cal .cover))
+    && every 5888 (λ s. not (bitAt (cal .exchange) s) || bitAt (cal .closed) s)) ≡ clean cal
 unfolding clean bitsClean
 both-clean cal = both-every (slotDay (cal .closed) (cal .cover)) (λ s. not (bitAt (cal .exchange) s) || bitAt (cal .closed) s) 5888
 

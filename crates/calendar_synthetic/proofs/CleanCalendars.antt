@@ -16,7 +16,8 @@ use Rattle.days.specs.Gregorian.{weekdayOf}
 use Rattle.calendar.specs.declared.Cover.{Cover}
 use Rattle.calendar.specs.declared.Calendar.{Calendar}
 use Rattle.calendar.specs.Bits.{bitAt}
-use Rattle.calendar.specs.Trading.{validCover, coverStart, coverEnd, inCover, slotOf, closedOn, tradingDay, mayBeClosed, cleanSlot, clean, someTrades, everyWeek, closeDay, openCalendar, zeroCalendar}
+use Rattle.calendar.specs.Trading.{validCover, coverStart, coverEnd, inCover, slotOf, closedOn, tradingDay, mayBeClosed, cleanSlot, clean, someTrades}
+use Rattle.calendar.specs.Trading.{everyWeek, closeDay, openCalendar, zeroCalendar}
 use Rattle.calendar.proofs.Clean.{bits-zero}
 use Rattle.calendar.proofs.Closing.{close-cover, close-exchange, clean-close}
 use Rattle.calendar_synthetic.proofs.EachDay.{weekend, undrawn, spared, closes}
@@ -99,7 +100,8 @@ visit-keeps cover cal day value i s = at-weekday (lt-or-ge (weekdayOf day) 5)
     at-weekday (inl w) = at-value w (lt-or-ge (value / 16777216) 8)
     at-weekday (inr w) = kept (weekend cal day value w)
 
-walk-keeps : (cover : Cover) (n day value : ℕ) (cal : Calendar) → ((d : ℕ) → day ≤ d → d < day + n → inCover cover d ≡ true) → Sane cover cal → Sane cover (made n day value cal)
+walk-keeps : (cover : Cover) (n day value : ℕ) (cal : Calendar) → ((d : ℕ) → day ≤ d → d < day + n → inCover cover d ≡ true) → Sane cover cal
+    → Sane cover (made n day value cal)
 unfolding made
 walk-keeps cover zero day value cal i s = s
 walk-keeps cover (suc n) day value cal i s =

@@ -65,7 +65,8 @@ module _ (end day value : ℕ) (cal : Calendar) where
       ∙ sym (ap (λ (n : ℕ). made n day value cal) e)
 
 -- the loop has come to the cover's end
-pub walked : (seed : ℕ) (cover : Cover) (end start day value : ℕ) (first cal : Calendar) → end ≡ coverEnd cover → start ≡ coverStart cover → first ≡ openCalendar cover → validCover cover ≡ true → end ≤ day → made (end - day) day value cal ≡ made (end - start) start seed first
+pub walked : (seed : ℕ) (cover : Cover) (end start day value : ℕ) (first cal : Calendar) → end ≡ coverEnd cover → start ≡ coverStart cover
+    → first ≡ openCalendar cover → validCover cover ≡ true → end ≤ day → made (end - day) day value cal ≡ made (end - start) start seed first
     → _≡_ {A = Answer Calendar} (record { refusal = 0; value = cal }) (madeCall seed cover)
 unfolding madeCall
 walked seed cover end start day value first cal e s f v h i =

@@ -39,7 +39,8 @@ unfolding bitAt
 bit-is b s = refl
 
 -- bit p of bytes, from the highest, is bit p of the map from their place on
-byte-step : (b : List ℕ) (at n p : ℕ) → p < 8 * suc n → (p < 8 * n) ⊎ (8 * n ≤ p) → (p < 8 * n → dayBit (8 * n) (bytesFrom b at n) p ≡ bitAt b (8 * at + p)) → dayBit (8 * suc n) (bytesFrom b at n * 256 + getD b (at + n) 0 % 256) p ≡ bitAt b (8 * at + p)
+byte-step : (b : List ℕ) (at n p : ℕ) → p < 8 * suc n → (p < 8 * n) ⊎ (8 * n ≤ p) → (p < 8 * n → dayBit (8 * n) (bytesFrom b at n) p ≡ bitAt b (8 * at + p))
+    → dayBit (8 * suc n) (bytesFrom b at n * 256 + getD b (at + n) 0 % 256) p ≡ bitAt b (8 * at + p)
 byte-step b at n p h (inl l) ih =
     let e : 8 * suc n - 1 - p ≡ 8 + (8 * n - 1 - p) = omega arith in
     ap (λ (k : ℕ). eqb ((bytesFrom b at n * 256 + getD b (at + n) 0 % 256) / 2 ^ k % 2) 1) e ∙
@@ -49,7 +50,8 @@ byte-step b at n p h (inr l) ih =
     let q : at + n ≡ (8 * at + p) / 8 = omega arith in
     let r : p % 8 ≡ (8 * at + p) % 8 = omega arith in
     ap (λ (k : ℕ). eqb ((bytesFrom b at n * 256 + getD b (at + n) 0 % 256) / 2 ^ k % 2) 1) e ∙
-    ap (λ (m : ℕ). eqb m 1) (low-bit (bytesFrom b at n) (getD b (at + n) 0 % 256) 8 (omega arith) (7 - p % 8) (omega arith) ∙ mod-bit (getD b (at + n) 0) 8 (7 - p % 8) (omega arith)) ∙
+    ap (λ (m : ℕ). eqb m 1) (low-bit (bytesFrom b at n) (getD b (at + n) 0 % 256) 8 (omega arith) (7 - p % 8) (omega arith) ∙
+    mod-bit (getD b (at + n) 0) 8 (7 - p % 8) (omega arith)) ∙
     ap (λ (m : ℕ). byteBit (getD b m 0) (p % 8)) q ∙ ap (λ (m : ℕ). byteBit (getD b ((8 * at + p) / 8) 0) m) r ∙ bit-is b (8 * at + p)
 
 -- n bytes of a map, read as one number, have the bits of the map from their place on
@@ -62,7 +64,8 @@ bytes-show b at (suc n) p h = byte-step b at n p h (lt-or-ge p (8 * n)) (bytes-s
 pub same-bits : (w x y : ℕ) → x < 2 ^ w → y < 2 ^ w → ((j : ℕ) → j < w → x / 2 ^ j % 2 ≡ y / 2 ^ j % 2) → x ≡ y
 same-bits zero x y a b h = omega arith
 same-bits (suc w) x y a b h =
-    let half : x / 2 ≡ y / 2 = same-bits w (x / 2) (y / 2) (shr-lt w 1 (more x a)) (shr-lt w 1 (more y b)) (λ j k. ap (λ (n : ℕ). n % 2) (shr-shr x 1 j) ∙ h (1 + j) (omega arith) ∙ sym (ap (λ (n : ℕ). n % 2) (shr-shr y 1 j))) in
+    let half : x / 2 ≡ y / 2 = same-bits w (x / 2) (y / 2) (shr-lt w 1 (more x a)) (shr-lt w 1 (more y b))
+    (λ j k. ap (λ (n : ℕ). n % 2) (shr-shr x 1 j) ∙ h (1 + j) (omega arith) ∙ sym (ap (λ (n : ℕ). n % 2) (shr-shr y 1 j))) in
     let odd : x % 2 ≡ y % 2 = ap (λ (n : ℕ). n % 2) (one x) ∙ h 0 (omega arith) ∙ sym (ap (λ (n : ℕ). n % 2) (one y)) in
     omega arith
   where
@@ -203,7 +206,8 @@ fours x = bitAnd (twos x) (twos x / 2 ^ 2)
 -- seven bits from bit j up leave a bit
 seven-bits : (x j : ℕ) → bitAnd (fours x) (fours x / 2 ^ 3) ≡ 0 → ((i : ℕ) → i < 7 → x / 2 ^ (j + i) % 2 ≡ 1) → ⊥
 seven-bits x j z h =
-    let one : 0 / 2 ^ j % 2 ≡ 1 = ap (λ (n : ℕ). n / 2 ^ j % 2) (sym z) ∙ pair (fours x) 3 j (ap (λ (n : ℕ). fours x / 2 ^ n % 2) (sym (add-zero j)) ∙ f 0 (omega arith)) (f 3 (omega arith)) in
+    let one : 0 / 2 ^ j % 2 ≡ 1 = ap (λ (n : ℕ). n / 2 ^ j % 2) (sym z) ∙
+    pair (fours x) 3 j (ap (λ (n : ℕ). fours x / 2 ^ n % 2) (sym (add-zero j)) ∙ f 0 (omega arith)) (f 3 (omega arith)) in
     let no : _≡_ {A = ℕ} 0 1 = sym (ap (λ (n : ℕ). n % 2) (zero-div (2 ^ j))) ∙ one in
     omega arith
   where
@@ -231,7 +235,8 @@ module _ (x days w : ℕ) (b : w < 64) (l : days < 2 ^ w) where
   above j h k =
       let e : j ≡ w + (j - w) = omega arith in
       let z : days / 2 ^ j ≡ 0 = div-eq-of-lt (small (lt-or-ge w j)) in
-      let s : x * 2 ^ w / 2 ^ j ≡ x / 2 ^ (j - w) = ap (λ (n : ℕ). x * 2 ^ w / 2 ^ n) e ∙ sym (shr-shr (x * 2 ^ w) w (j - w)) ∙ ap (λ (n : ℕ). n / 2 ^ (j - w)) (shl-shr x w) in
+      let s : x * 2 ^ w / 2 ^ j ≡ x / 2 ^ (j - w) =
+      ap (λ (n : ℕ). x * 2 ^ w / 2 ^ n) e ∙ sym (shr-shr (x * 2 ^ w) w (j - w)) ∙ ap (λ (n : ℕ). n / 2 ^ (j - w)) (shl-shr x w) in
       or-bit (x * 2 ^ w % 2 ^ 64) days j ∙ ap (λ (n : ℕ). bitOr (x * 2 ^ w % 2 ^ 64 / 2 ^ j % 2) (n % 2)) z ∙ or-zero-r (x * 2 ^ w % 2 ^ 64 / 2 ^ j % 2) ∙
       mod-bit (x * 2 ^ w) 64 j k ∙ ap (λ (n : ℕ). n % 2) s
     where
@@ -241,7 +246,9 @@ module _ (x days w : ℕ) (b : w < 64) (l : days < 2 ^ w) where
 
   below : (j : ℕ) → j < w → bitOr (x * 2 ^ w % 2 ^ 64) days / 2 ^ j % 2 ≡ days / 2 ^ j % 2
   below j h =
-      let z : x * 2 ^ w % 2 ^ 64 / 2 ^ j % 2 ≡ 0 = mod-bit (x * 2 ^ w) 64 j (omega arith) ∙ sym (mod-bit (x * 2 ^ w) w j h) ∙ ap (λ (n : ℕ). n / 2 ^ j % 2) none ∙ ap (λ (n : ℕ). n % 2) (zero-div (2 ^ j)) in
+      let z : x * 2 ^ w % 2 ^ 64 / 2 ^ j % 2 ≡ 0 =
+      mod-bit (x * 2 ^ w) 64 j (omega arith) ∙ sym (mod-bit (x * 2 ^ w) w j h) ∙ ap (λ (n : ℕ). n / 2 ^ j % 2) none ∙
+      ap (λ (n : ℕ). n % 2) (zero-div (2 ^ j)) in
       or-bit (x * 2 ^ w % 2 ^ 64) days j ∙ ap (λ (n : ℕ). bitOr n (days / 2 ^ j % 2)) z ∙ or-zero-l (days / 2 ^ j % 2)
     where
       none : x * 2 ^ w % 2 ^ w ≡ 0
@@ -287,7 +294,8 @@ every-same f g n h =
     same-test _ _ (λ e. every-all g n (λ k l. sym (h k l) ∙ every-at f n k e l)) (λ e. every-all f n (λ k l. h k l ∙ every-at g n k e l))
 
 -- a word of a map has no day of a mask of the days that may not be closed
-pub word-clean : (map : List ℕ) (may : ℕ → Bool) (base n w x m : ℕ) → x < 2 ^ w → Shows map (base + n) w x → ((p : ℕ) → p < w → dayBit w m p ≡ not (may (n + p))) → eqb (bitAnd x m) 0 ≡ every w (λ p. not (bitAt map (base + (n + p))) || may (n + p))
+pub word-clean : (map : List ℕ) (may : ℕ → Bool) (base n w x m : ℕ) → x < 2 ^ w → Shows map (base + n) w x
+    → ((p : ℕ) → p < w → dayBit w m p ≡ not (may (n + p))) → eqb (bitAnd x m) 0 ≡ every w (λ p. not (bitAt map (base + (n + p))) || may (n + p))
 word-clean map may base n w x m l s b =
     apart w x m l ∙
     every-same (λ p. not (dayBit w x p) || not (dayBit w m p)) (λ p. not (bitAt map (base + (n + p))) || may (n + p)) w
@@ -304,7 +312,8 @@ pub both-every : (f g : ℕ → Bool) (n : ℕ) → (every n f && every n g) ≡
 both-every f g n =
     same-test _ _
     (λ e. let (a, b) = both (every n f) (every n g) e in every-all (λ k. f k && g k) n (λ k l. and-both (every-at f n k a l) (every-at g n k b l)))
-    (λ e. and-both (every-all f n (λ k l. and-fst (f k) (g k) (every-at (λ k. f k && g k) n k e l))) (every-all g n (λ k l. and-snd (f k) (g k) (every-at (λ k. f k && g k) n k e l))))
+    (λ e. and-both (every-all f n (λ k l. and-fst (f k) (g k) (every-at (λ k. f k && g k) n k e l)))
+    (every-all g n (λ k l. and-snd (f k) (g k) (every-at (λ k. f k && g k) n k e l))))
 
 -- every bit of a mask of ones
 pub all-days : every 64 (dayBit 64 0xFFFFFFFFFFFFFFFF) ≡ true
@@ -312,6 +321,7 @@ unfolding every
 all-days = refl
 
 -- the last days of a word of 32
-pub last-days : (every 32 (λ p. cond (leb 30 p) (dayBit 32 3 p) (not (dayBit 32 3 p))) ≡ true) × (every 32 (λ p. cond (leb 29 p) (dayBit 32 7 p) (not (dayBit 32 7 p))) ≡ true)
+pub last-days : (every 32 (λ p. cond (leb 30 p) (dayBit 32 3 p) (not (dayBit 32 3 p))) ≡ true)
+    × (every 32 (λ p. cond (leb 29 p) (dayBit 32 7 p) (not (dayBit 32 7 p))) ≡ true)
 unfolding every
 last-days = (refl, refl)

@@ -56,7 +56,8 @@ day-last w y b =
     go true = eq-eqb ((2 * y + 1) / 2 ^ 0 % 2) 1 (omega arith)
     go false = ne-eqb ((2 * y + 0) / 2 ^ 0 % 2) 1 (omega arith)
 
-word-step : (test : ℕ → Bool) (w y p : ℕ) → p < suc w → (p < w) ⊎ (w ≤ p) → (p < w → dayBit w y p ≡ test p) → dayBit (suc w) (2 * y + cond (test w) 1 0) p ≡ test p
+word-step : (test : ℕ → Bool) (w y p : ℕ) → p < suc w → (p < w) ⊎ (w ≤ p) → (p < w → dayBit w y p ≡ test p)
+    → dayBit (suc w) (2 * y + cond (test w) 1 0) p ≡ test p
 word-step test w y p h (inl l) ih = day-more w y p (test w) l ∙ ih l
 word-step test w y p h (inr l) ih =
     let e : p ≡ w = omega arith in
@@ -182,7 +183,8 @@ unfolding noSeven
 never-seven x e p l h = clash (some-at (sevenFrom x) 58 p (every-all (λ i. dayBit 64 x (p + i)) 7 h) (omega arith)) (not-true (some 58 (sevenFrom x)) e)
 
 -- a bit is left exactly where seven days in a row have theirs
-pub seven-is : (x : ℕ) → x < 2 ^ 64 → eqb (bitAnd (bitAnd (bitAnd x (x / 2 ^ 1)) (bitAnd x (x / 2 ^ 1) / 2 ^ 2)) (bitAnd (bitAnd x (x / 2 ^ 1)) (bitAnd x (x / 2 ^ 1) / 2 ^ 2) / 2 ^ 3)) 0 ≡ noSeven x
+pub seven-is : (x : ℕ) → x < 2 ^ 64 → eqb
+    (bitAnd (bitAnd (bitAnd x (x / 2 ^ 1)) (bitAnd x (x / 2 ^ 1) / 2 ^ 2)) (bitAnd (bitAnd x (x / 2 ^ 1)) (bitAnd x (x / 2 ^ 1) / 2 ^ 2) / 2 ^ 3)) 0 ≡ noSeven x
 unfolding noSeven
 seven-is x l = same-test (eqb left 0) (not (some 58 (sevenFrom x))) (λ z. ap not (is-false _ (λ s. there (eqb-true left 0 z) s))) (λ e. eq-eqb left 0 (none e))
   where
@@ -251,7 +253,8 @@ module _ (x next w : ℕ) where
 
     -- the code's shift and or give the moved word
     pub moved-is : bitOr (x * 2 ^ w % 2 ^ 64) next ≡ movedOn x next w
-    moved-is = word-is dayMoved 64 (bitOr (x * 2 ^ w % 2 ^ 64) next) (or-lt 64 (x * 2 ^ w % 2 ^ 64) next (omega arith) (omega (arith, l, pow-lt b))) (λ p h. go p h (lt-or-ge p (64 - w))) ∙ sym moved-word
+    moved-is = word-is dayMoved 64 (bitOr (x * 2 ^ w % 2 ^ 64) next) (or-lt 64 (x * 2 ^ w % 2 ^ 64) next (omega arith) (omega (arith, l, pow-lt b)))
+        (λ p h. go p h (lt-or-ge p (64 - w))) ∙ sym moved-word
       where
         go : (p : ℕ) → p < 64 → (p < 64 - w) ⊎ (64 - w ≤ p) → dayBit 64 (bitOr (x * 2 ^ w % 2 ^ 64) next) p ≡ dayMoved p
         go p h (inl k) = moved-kept x next w b l p k ∙ rw (lt-ltb p (64 - w) k)

@@ -23,7 +23,8 @@ byte-none x l =
     same-test _ _
     (λ h.
     let z : x ≡ 0 = eqb-true _ _ h in
-    every-all (λ p. not (byteBit x p)) 8 (λ p k. ap (λ (n : ℕ). not (eqb n 1)) (ap (λ (n : ℕ). n / 2 ^ (7 - p) % 2) z ∙ ap (λ (n : ℕ). n % 2) (zero-div (2 ^ (7 - p))))))
+    every-all (λ p. not (byteBit x p)) 8 (λ p k.
+    ap (λ (n : ℕ). not (eqb n 1)) (ap (λ (n : ℕ). n / 2 ^ (7 - p) % 2) z ∙ ap (λ (n : ℕ). n % 2) (zero-div (2 ^ (7 - p))))))
     (λ h.
     eq-eqb x 0
     (all-zero 8 x l
@@ -63,7 +64,8 @@ bytes-more f n x y e h = or-zero x y ∙ ap₂ _&&_ e h ∙ rw (add-one n)
 pub every-bits : (g : ℕ → ℕ → Bool) (n : ℕ) → every n (λ k. every 8 (g k)) ≡ every (8 * n) (λ s. g (s / 8) (s % 8))
 every-bits g n =
     same-test _ _
-    (λ e. every-all (λ s. g (s / 8) (s % 8)) (8 * n) (λ s l. every-at (g (s / 8)) 8 (s % 8) (every-at (λ k. every 8 (g k)) n (s / 8) e (omega arith)) (omega arith)))
+    (λ e. every-all (λ s. g (s / 8) (s % 8)) (8 * n)
+    (λ s l. every-at (g (s / 8)) 8 (s % 8) (every-at (λ k. every 8 (g k)) n (s / 8) e (omega arith)) (omega arith)))
     (λ e.
     every-all (λ k. every 8 (g k)) n
     (λ k l.
@@ -74,19 +76,22 @@ every-bits g n =
     sym (ap₂ g a b) ∙ every-at (λ s. g (s / 8) (s % 8)) (8 * n) (8 * k + p) e (omega arith))))
 
 -- the bytes of a map after its first k years
-pub none-after : (map : List ℕ) (k : ℕ) → k ≤ 16 → every (736 - 46 * k) (λ i. every 8 (λ p. not (byteBit (getD map (46 * k + i) 0) p))) ≡ every (5888 - 368 * k) (λ p. not (bitAt map (368 * k + p)))
+pub none-after : (map : List ℕ) (k : ℕ) → k ≤ 16
+    → every (736 - 46 * k) (λ i. every 8 (λ p. not (byteBit (getD map (46 * k + i) 0) p))) ≡ every (5888 - 368 * k) (λ p. not (bitAt map (368 * k + p)))
 unfolding bitAt
 none-after map k l =
     let n : 8 * (736 - 46 * k) ≡ 5888 - 368 * k = omega arith in
     every-bits (λ i p. not (byteBit (getD map (46 * k + i) 0) p)) (736 - 46 * k) ∙
     ap (λ (m : ℕ). every m (λ s. not (byteBit (getD map (46 * k + s / 8) 0) (s % 8)))) n ∙
-    every-same (λ s. not (byteBit (getD map (46 * k + s / 8) 0) (s % 8))) (λ p. not (byteBit (getD map ((368 * k + p) / 8) 0) ((368 * k + p) % 8))) (5888 - 368 * k)
+    every-same (λ s. not (byteBit (getD map (46 * k + s / 8) 0) (s % 8))) (λ p. not (byteBit (getD map ((368 * k + p) / 8) 0) ((368 * k + p) % 8)))
+    (5888 - 368 * k)
     (λ s h.
     let a : 46 * k + s / 8 ≡ (368 * k + s) / 8 = omega arith in
     let b : s % 8 ≡ (368 * k + s) % 8 = omega arith in
     ap₂ (λ (i j : ℕ). not (byteBit (getD map i 0) j)) a b)
 
 -- the bytes of two maps
-pub all-within : (first second : List ℕ) → every 736 (λ k. every 8 (λ p. not (byteBit (getD second k 0) p) || byteBit (getD first k 0) p)) ≡ every 5888 (λ s. not (bitAt second s) || bitAt first s)
+pub all-within : (first second : List ℕ)
+    → every 736 (λ k. every 8 (λ p. not (byteBit (getD second k 0) p) || byteBit (getD first k 0) p)) ≡ every 5888 (λ s. not (bitAt second s) || bitAt first s)
 unfolding bitAt
 all-within first second = every-bits (λ k p. not (byteBit (getD second k 0) p) || byteBit (getD first k 0) p) 736

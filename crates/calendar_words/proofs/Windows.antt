@@ -36,7 +36,8 @@ unfolding inCover
 in-cover c d a b = and-both (le-leb _ _ a) (lt-ltb _ _ b)
 
 -- a day of the cover that does not trade is closed, or a Saturday or Sunday
-not-trading : (cal : Calendar) (d : ℕ) → inCover (cal .cover) d ≡ true → tradingDay cal d ≡ false → (bitAt (cal .closed) (slotOf (cal .cover) d) || not (ltb (weekdayOf d) 5)) ≡ true
+not-trading : (cal : Calendar) (d : ℕ) → inCover (cal .cover) d ≡ true → tradingDay cal d ≡ false
+    → (bitAt (cal .closed) (slotOf (cal .cover) d) || not (ltb (weekdayOf d) 5)) ≡ true
 unfolding tradingDay closedOn
 not-trading cal d i t = go (ltb (weekdayOf d) 5) refl (bitAt (cal .closed) (slotOf (cal .cover) d)) refl
   where
@@ -76,7 +77,9 @@ module _ (cal : Calendar) where
         go (inr k) = u s g k
 
   -- the window moved on by w days
-  pub moves : (e m w x next r : ℕ) → m + w ≤ 64 → Ends cal e m x → Moved x next w r → ((q : ℕ) → q < w → inCover (cal .cover) (e + q) ≡ true → dayBit w next q ≡ bitAt (cal .closed) (slotOf (cal .cover) (e + q))) → Ends cal (e + w) (m + w) r
+  pub moves : (e m w x next r : ℕ) → m + w ≤ 64 → Ends cal e m x → Moved x next w r
+      → ((q : ℕ) → q < w → inCover (cal .cover) (e + q) ≡ true → dayBit w next q ≡ bitAt (cal .closed) (slotOf (cal .cover) (e + q)))
+      → Ends cal (e + w) (m + w) r
   moves e m w x next r l f v n d a b i = go (lt-or-ge d e)
     where
       go : (d < e) ⊎ (e ≤ d) → dayBit 64 r (64 + d - (e + w)) ≡ bitAt (cal .closed) (slotOf (cal .cover) d)
@@ -107,7 +110,8 @@ module _ (cal : Calendar) where
   all-trade u = every-all (λ k. someTrades cal (coverStart (cal .cover) + k) 7) _ (λ k l. u (coverStart (cal .cover) + k) (omega arith) (omega arith))
 
   -- the slot of a day of year k of the cover
-  pub year-slot : (k n : ℕ) → yearStart (cal .cover .«first_year» + k) + n < yearStart (cal .cover .«first_year» + k + 1) → slotOf (cal .cover) (yearStart (cal .cover .«first_year» + k) + n) ≡ 368 * k + n
+  pub year-slot : (k n : ℕ) → yearStart (cal .cover .«first_year» + k) + n < yearStart (cal .cover .«first_year» + k + 1)
+      → slotOf (cal .cover) (yearStart (cal .cover .«first_year» + k) + n) ≡ 368 * k + n
   unfolding slotOf dayInYear
   year-slot k n l =
       let y = cal .cover .«first_year» + k in
@@ -120,14 +124,18 @@ module _ (cal : Calendar) where
       omega arith
 
   -- a word of the maps shows days of year k
-  pub shows-days : (k n w next : ℕ) → Shows (cal .closed) (368 * k + n) w next → yearStart (cal .cover .«first_year» + k) + n + w ≤ yearStart (cal .cover .«first_year» + k + 1) → (q : ℕ) → q < w → dayBit w next q ≡ bitAt (cal .closed) (slotOf (cal .cover) (yearStart (cal .cover .«first_year» + k) + n + q))
+  pub shows-days : (k n w next : ℕ) → Shows (cal .closed) (368 * k + n) w next
+      → yearStart (cal .cover .«first_year» + k) + n + w ≤ yearStart (cal .cover .«first_year» + k + 1) → (q : ℕ) → q < w
+      → dayBit w next q ≡ bitAt (cal .closed) (slotOf (cal .cover) (yearStart (cal .cover .«first_year» + k) + n + q))
   shows-days k n w next s l q h =
       let a : yearStart (cal .cover .«first_year» + k) + n + q ≡ yearStart (cal .cover .«first_year» + k) + (n + q) = omega arith in
       let b : 368 * k + n + q ≡ 368 * k + (n + q) = omega arith in
       s q h ∙ ap (λ (i : ℕ). bitAt (cal .closed) i) (b ∙ sym (year-slot k (n + q) (omega arith)) ∙ ap (λ (i : ℕ). slotOf (cal .cover) i) (sym a))
 
   -- a word of the last w days of year k is a window that ends with the year
-  pub year-ends : (k n w x : ℕ) → w ≤ 64 → Shows (cal .closed) (368 * k + n) w x → yearStart (cal .cover .«first_year» + k + 1) ≡ yearStart (cal .cover .«first_year» + k) + n + w → Ends cal (yearStart (cal .cover .«first_year» + k + 1)) w x
+  pub year-ends : (k n w x : ℕ) → w ≤ 64 → Shows (cal .closed) (368 * k + n) w x
+      → yearStart (cal .cover .«first_year» + k + 1) ≡ yearStart (cal .cover .«first_year» + k) + n + w
+      → Ends cal (yearStart (cal .cover .«first_year» + k + 1)) w x
   year-ends k n w x l s f d a b i =
       let S = yearStart (cal .cover .«first_year» + k) in
       let q = d - (S + n) in
@@ -204,29 +212,36 @@ module _ (cal : Calendar) (k : ℕ) (v : validCover (cal .cover) ≡ true) (h : 
   start = yearStart (cal .cover .«first_year» + k)
 
   -- eight weeks on
-  pub next-weeks : (j x next r idle : ℕ) → j < 6 → Next cal k j x → Shows (cal .closed) (368 * k + 56 * j) 56 next → Moved x next 56 r → Weekends (start + 6) idle → noSeven (bitOr r idle) ≡ true → Next cal k (j + 1) r
+  pub next-weeks : (j x next r idle : ℕ) → j < 6 → Next cal k j x → Shows (cal .closed) (368 * k + 56 * j) 56 next → Moved x next 56 r
+      → Weekends (start + 6) idle → noSeven (bitOr r idle) ≡ true → Next cal k (j + 1) r
   next-weeks j x next r idle l w s m i free =
       let t = year-in-cover (cal .cover) k v h in
       let e : start + 56 * j + 56 ≡ start + 56 * (j + 1) = omega arith in
       let g : start + 6 + 7 * (8 * (j + 1)) ≡ start + 56 * (j + 1) + 6 = omega arith in
-      let a : Ends cal (start + 56 * (j + 1)) 64 r = rw (← e) (moves cal (start + 56 * j) 8 56 x next r (omega arith) (w .ends) m (λ q b c. shows-days cal k (56 * j) 56 next s (omega (arith, t)) q b)) in
+      let a : Ends cal (start + 56 * (j + 1)) 64 r =
+      rw (← e) (moves cal (start + 56 * j) 8 56 x next r (omega arith) (w .ends) m (λ q b c. shows-days cal k (56 * j) 56 next s (omega (arith, t)) q b)) in
       record {
         ends = fewer cal (start + 56 * (j + 1)) 64 8 r (omega arith) a;
         trades =
             λ u.
-            passes cal (start + 56 * (j + 1)) 64 r idle (omega arith) a (rw (← g) (weekends-later (start + 6) (8 * (j + 1)) idle i)) (start + 56 * j) (omega arith)
+            passes cal (start + 56 * (j + 1)) 64 r idle (omega arith) a (rw (← g) (weekends-later (start + 6) (8 * (j + 1)) idle i)) (start + 56 * j)
+            (omega arith)
             (omega (arith, t)) free (w .trades u);
       }
 
   -- the window moved on to the year's end
-  pub next-year : (w x next r idle : ℕ) → yearStart (cal .cover .«first_year» + k + 1) ≡ start + 336 + w → w ≤ 30 → Ends cal (start + 336) 8 x → Shows (cal .closed) (368 * k + 336) w next → Moved x next w r → Weekends (yearStart (cal .cover .«first_year» + k + 1) + 6) idle → noSeven (bitOr r idle) ≡ true → TradesUntil cal (start + 336) → TradesUntil cal (yearStart (cal .cover .«first_year» + k + 1))
+  pub next-year : (w x next r idle : ℕ) → yearStart (cal .cover .«first_year» + k + 1) ≡ start + 336 + w → w ≤ 30 → Ends cal (start + 336) 8 x
+      → Shows (cal .closed) (368 * k + 336) w next → Moved x next w r → Weekends (yearStart (cal .cover .«first_year» + k + 1) + 6) idle
+      → noSeven (bitOr r idle) ≡ true → TradesUntil cal (start + 336) → TradesUntil cal (yearStart (cal .cover .«first_year» + k + 1))
   next-year w x next r idle e l f s m i free u =
       let t = year-in-cover (cal .cover) k v h in
-      let a : Ends cal (yearStart (cal .cover .«first_year» + k + 1)) (8 + w) r = rw e (moves cal (start + 336) 8 w x next r (omega arith) f m (λ q b c. shows-days cal k 336 w next s (omega arith) q b)) in
+      let a : Ends cal (yearStart (cal .cover .«first_year» + k + 1)) (8 + w) r =
+      rw e (moves cal (start + 336) 8 w x next r (omega arith) f m (λ q b c. shows-days cal k 336 w next s (omega arith) q b)) in
       passes cal (yearStart (cal .cover .«first_year» + k + 1)) (8 + w) r idle (omega arith) a i (start + 336) (omega arith) (omega (arith, t)) free u
 
   -- the days before the next year
-  pub last-eight : (w x : ℕ) → yearStart (cal .cover .«first_year» + k + 1) ≡ start + 336 + w → 29 ≤ w → w ≤ 30 → Shows (cal .closed) (368 * k + 336) w x → Ends cal (yearStart (cal .cover .«first_year» + k + 1)) 8 x
+  pub last-eight : (w x : ℕ) → yearStart (cal .cover .«first_year» + k + 1) ≡ start + 336 + w → 29 ≤ w → w ≤ 30 → Shows (cal .closed) (368 * k + 336) w x
+      → Ends cal (yearStart (cal .cover .«first_year» + k + 1)) 8 x
   last-eight w x e l b s = fewer cal (yearStart (cal .cover .«first_year» + k + 1)) w 8 x (omega arith) (year-ends cal k 336 w x (omega arith) s e)
 
 -- no run ends before the cover's first year

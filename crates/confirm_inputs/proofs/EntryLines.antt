@@ -52,7 +52,8 @@ case-bad s false a b c x y z e p q r h = rw r refl
 
 module _ (file : List ℕ) (s : ListingSoFar) where
   as-cases : (line : List ℕ) → readListingLine file s line
-      ≡ cases s (s .opened) (not (s .begun) && eqb (commandOf line .letter) 82) (not (s .begun) && eqb (commandOf line .letter) 67) (eqb (commandOf line .letter) 79)
+      ≡ cases s (s .opened) (not (s .begun) && eqb (commandOf line .letter) 82) (not (s .begun) && eqb (commandOf line .letter) 67)
+      (eqb (commandOf line .letter) 79)
       (rollCall (s .table) (commandOf line .day)) (closeCall (s .table) (commandOf line .day)) (openCall file (commandOf line .id) (commandOf line .day))
       (entryIn (s .table .product .kind) line)
   unfolding readListingLine readFirst cases
@@ -96,7 +97,8 @@ module _ (entry : EntryRead) (at : ℕ) (before : List ℕ) where
       append-nil-sym = rw (append-nil (take at before)) refl
 
   -- a line with an entry puts its key and its day in the list
-  pub put-both : entry .there ≡ true → at + 2 ≤ length before → (after : List ℕ) → after ≡ set (set before at (entry .key)) (at + 1) (entry .day) → EntryPut entry at before after (at + 2)
+  pub put-both : entry .there ≡ true → at + 2 ≤ length before → (after : List ℕ) → after ≡ set (set before at (entry .key)) (at + 1) (entry .day)
+      → EntryPut entry at before after (at + 2)
   unfolding entryNumbers
   put-both e h after q =
       record { is = rw e is; to = rw e refl; long = rw (q, length-set (set before at (entry .key)) (at + 1) (entry .day)) (length-set before at (entry .key)) }

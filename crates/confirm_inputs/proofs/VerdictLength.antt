@@ -19,7 +19,8 @@ use Rattle.file_text_print.proofs.TextLengths.{decimal-short, day-long}
 use Rattle.table_vendor.specs.Vendor.{Judgement, vendorCall}
 use Rattle.confirm_lines.specs.declared.ListingSoFar.{ListingSoFar}
 use Rattle.confirm_lines.specs.ListingLines.{nothingRead, readListingLine}
-use Rattle.confirm_inputs.specs.ConfirmInputs.{yesText, differsText, refusedText, badInputText, judgedText, endText, entryNumbers, afterLine, inputLinesText, confirmText}
+use Rattle.confirm_inputs.specs.ConfirmInputs.{yesText, differsText, refusedText, badInputText, judgedText, endText, entryNumbers, afterLine}
+use Rattle.confirm_inputs.specs.ConfirmInputs.{inputLinesText, confirmText}
 use Rattle.confirm_inputs.specs.InputReading.{saidIn}
 use Rattle.confirm_inputs.proofs.VerdictTexts.{said-all}
 

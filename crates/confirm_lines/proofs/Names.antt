@@ -13,7 +13,8 @@ use Rattle.session_lines.specs.declared.Line.{Line}
 use Rattle.session_lines.specs.declared.Command.{Command}
 use Rattle.session_lines.specs.CommandLines.{extended, fed, lineCommand, commandOf}
 use Rattle.session_lines.proofs.LineFeeding.{any-length, fed-more}
-use Rattle.confirm_lines.specs.ListingLines.{rollBegun, dateIn, monthIn, noEntry, entryFrom, monthEntry, fridayEntry, entryIn, afterCall, afterEntry, readFirst, readListingLine}
+use Rattle.confirm_lines.specs.ListingLines.{rollBegun, dateIn, monthIn, noEntry, entryFrom, monthEntry, fridayEntry, entryIn, afterCall, afterEntry}
+use Rattle.confirm_lines.specs.ListingLines.{readFirst, readListingLine}
 use Rattle.confirm_lines.specs.declared.ListingSoFar.{ListingSoFar}
 
 -- a date after the roll's beginning
@@ -25,7 +26,8 @@ date-read bytes = any-length (82 ∷ 32 ∷ bytes)
 pub month-read : (bytes : List ℕ) → lineCommand (extended (extended (extended (fed rollBegun bytes) 45) 48) 49) ≡ monthIn bytes
 unfolding monthIn
 month-read bytes =
-    ap lineCommand (ap (λ (l : Line). extended (extended l 48) 49) (sym (fed-more rollBegun bytes 45)) ∙ ap (λ (l : Line). extended l 49) (sym (fed-more rollBegun (bytes ++ (45 ∷ [])) 48)) ∙ sym (fed-more rollBegun ((bytes ++ (45 ∷ [])) ++ (48 ∷ [])) 49))
+    ap lineCommand (ap (λ (l : Line). extended (extended l 48) 49) (sym (fed-more rollBegun bytes 45)) ∙
+    ap (λ (l : Line). extended l 49) (sym (fed-more rollBegun (bytes ++ (45 ∷ [])) 48)) ∙ sym (fed-more rollBegun ((bytes ++ (45 ∷ [])) ++ (48 ∷ [])) 49))
     ∙ date-read (((bytes ++ (45 ∷ [])) ++ (48 ∷ [])) ++ (49 ∷ []))
     ∙ ap dateIn (append-assoc (bytes ++ (45 ∷ [])) (48 ∷ []) (49 ∷ []) ∙ append-assoc bytes (45 ∷ []) (48 ∷ (49 ∷ [])))
 
@@ -42,7 +44,8 @@ module _ (line : List ℕ) where
   month-unspaced h s = rw (eq-eqb (length line) 18 h, ne-eqb (getD line 7 0) 32 s)
 
   -- a line of length 18 with a space after the month is the entry that its month and its last day give
-  pub month-there : length line ≡ 18 → getD line 7 0 ≡ 32 → (name last : Command) → name ≡ monthIn (take 7 line) → last ≡ dateIn (take 10 (drop 8 line)) → entryFrom (name .letter) (monthOf (name .day)) last ≡ monthEntry line
+  pub month-there : length line ≡ 18 → getD line 7 0 ≡ 32 → (name last : Command) → name ≡ monthIn (take 7 line) → last ≡ dateIn (take 10 (drop 8 line))
+      → entryFrom (name .letter) (monthOf (name .day)) last ≡ monthEntry line
   unfolding monthEntry
   month-there h s name last a b = sym (rw (eq-eqb (length line) 18 h, eq-eqb (getD line 7 0) 32 s) (rw (← a, ← b) refl))
 
@@ -59,7 +62,8 @@ module _ (line : List ℕ) where
   friday-unspaced h s = rw (eq-eqb (length line) 21 h, ne-eqb (getD line 10 0) 32 s)
 
   -- a line of length 21 with a space after the date is the entry that its Friday and its last day give
-  pub friday-there : length line ≡ 21 → getD line 10 0 ≡ 32 → (name last : Command) → name ≡ dateIn (take 10 line) → last ≡ dateIn (take 10 (drop 11 line)) → entryFrom (name .letter) (name .day) last ≡ fridayEntry line
+  pub friday-there : length line ≡ 21 → getD line 10 0 ≡ 32 → (name last : Command) → name ≡ dateIn (take 10 line) → last ≡ dateIn (take 10 (drop 11 line))
+      → entryFrom (name .letter) (name .day) last ≡ fridayEntry line
   unfolding fridayEntry
   friday-there h s name last a b = sym (rw (eq-eqb (length line) 21 h, eq-eqb (getD line 10 0) 32 s) (rw (← a, ← b) refl))
 

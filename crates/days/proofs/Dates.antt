@@ -105,7 +105,8 @@ day-below : (y m d : ℕ) → Valid y m d → dayOf y m d < 36525
 unfolding dayOf
 day-below y m d v = omega (arith, day-fits y m d v)
 
-day-then-date : (y m d : ℕ) → dayCall y m d .refusal ≡ 0 → dateCall (dayCall y m d .value) ≡ record { refusal = 0; value = record { year = y; month = m; day = d } }
+day-then-date : (y m d : ℕ) → dayCall y m d .refusal ≡ 0
+    → dateCall (dayCall y m d .value) ≡ record { refusal = 0; value = record { year = y; month = m; day = d } }
 day-then-date y m d e =
     let t = valid-day y m d e in
     let v = valid-facts y m d t in
@@ -125,7 +126,8 @@ day-back k n h =
     let r : firstDay k + (n - firstDay k + 1) - 1 ≡ n = omega arith in
     day-accepted _ _ _ (facts-valid _ _ _ (in-month k n h)) ∙ simp (a, r)
 
-date-then-day : (n : ℕ) → dateCall n .refusal ≡ 0 → dayCall (dateCall n .value .year) (dateCall n .value .month) (dateCall n .value .day) ≡ record { refusal = 0; value = n }
+date-then-day : (n : ℕ) → dateCall n .refusal ≡ 0
+    → dayCall (dateCall n .value .year) (dateCall n .value .month) (dateCall n .value .day) ≡ record { refusal = 0; value = n }
 unfolding dateOf
 date-then-day n e =
     let l : n ≤ 36524 = leb-true _ _ (valid-number n e) in

@@ -127,7 +127,9 @@ from-is (suc n) k d m a b lo hi = go (ltb d (lengthOf k)) refl (from-is n (suc k
     next : firstDay (suc k) ≡ firstDay k + lengthOf k
     next = first-suc k
 
-    go : (t : Bool) → ltb d (lengthOf k) ≡ t → (suc k ≤ m → m ≤ suc k + n → firstDay m ≤ firstDay (suc k) + (d - lengthOf k) → firstDay (suc k) + (d - lengthOf k) < firstDay (suc m) → monthFrom n (suc k) (d - lengthOf k) ≡ m) → cond t k (monthFrom n (suc k) (d - lengthOf k)) ≡ m
+    go : (t : Bool) → ltb d (lengthOf k) ≡ t
+        → (suc k ≤ m → m ≤ suc k + n → firstDay m ≤ firstDay (suc k) + (d - lengthOf k) → firstDay (suc k) + (d - lengthOf k) < firstDay (suc m)
+        → monthFrom n (suc k) (d - lengthOf k) ≡ m) → cond t k (monthFrom n (suc k) (d - lengthOf k)) ≡ m
     go true e ih =
         let h = ltb-true d (lengthOf k) e in
         let u = month-lt (suc k) m (firstDay k + d) lo (omega (arith, next)) in
@@ -146,7 +148,8 @@ from-past (suc n) k d h = go (ltb d (lengthOf k)) refl (from-past n (suc k) (d -
     same : firstDay (suc k + n) ≡ firstDay (k + suc n)
     same = ap firstDay (omega arith)
 
-    go : (t : Bool) → ltb d (lengthOf k) ≡ t → (firstDay (suc k + n) ≤ firstDay (suc k) + (d - lengthOf k) → monthFrom n (suc k) (d - lengthOf k) ≡ suc k + n) → cond t k (monthFrom n (suc k) (d - lengthOf k)) ≡ k + suc n
+    go : (t : Bool) → ltb d (lengthOf k) ≡ t → (firstDay (suc k + n) ≤ firstDay (suc k) + (d - lengthOf k) → monthFrom n (suc k) (d - lengthOf k) ≡ suc k + n)
+        → cond t k (monthFrom n (suc k) (d - lengthOf k)) ≡ k + suc n
     go true e ih =
         let l = ltb-true d (lengthOf k) e in
         absurd (omega (arith, first-suc k, first-le (suc k) (k + suc n) (omega arith)))

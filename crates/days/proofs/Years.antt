@@ -169,7 +169,8 @@ unfolding startIn
 start-late march j h = rw (le-ltb j 2 h)
 
 -- the month, from 0, of a day of the year before March, and from March on
-pub early-month : (march n : ℕ) → (59 ≤ march) × (march ≤ 60) × (n ≤ march + 305) → n < march → (n / 31 < 12) × (startIn march (n / 31) ≤ n) × (n / 31 < 11 → n < startIn march (n / 31 + 1))
+pub early-month : (march n : ℕ) → (59 ≤ march) × (march ≤ 60) × (n ≤ march + 305) → n < march
+    → (n / 31 < 12) × (startIn march (n / 31) ≤ n) × (n / 31 < 11 → n < startIn march (n / 31 + 1))
 early-month march n h l = (omega (arith, h), omega (arith, start-early march (n / 31) (omega (arith, h))), λ m. go (lt-or-ge (n / 31 + 1) 2))
   where
     go : (n / 31 + 1 < 2) ⊎ (2 ≤ n / 31 + 1) → n < startIn march (n / 31 + 1)
@@ -179,7 +180,9 @@ early-month march n h l = (omega (arith, h), omega (arith, start-early march (n 
         rw e (omega (arith, start-late march 2 (omega arith)))
 
 -- from March on, the quotient by 153 is a month that starts by the day of the year; the next, if any, starts after the day
-pub late-month : (march n : ℕ) → (59 ≤ march) × (march ≤ 60) × (n ≤ march + 305) → march ≤ n → ((5 * (n - march) + 308) / 153 < 12) × (startIn march ((5 * (n - march) + 308) / 153) ≤ n) × ((5 * (n - march) + 308) / 153 < 11 → n < startIn march ((5 * (n - march) + 308) / 153 + 1))
+pub late-month : (march n : ℕ) → (59 ≤ march) × (march ≤ 60) × (n ≤ march + 305) → march ≤ n
+    → ((5 * (n - march) + 308) / 153 < 12) × (startIn march ((5 * (n - march) + 308) / 153) ≤ n)
+    × ((5 * (n - march) + 308) / 153 < 11 → n < startIn march ((5 * (n - march) + 308) / 153 + 1))
 late-month march n h l =
     let r = (5 * (n - march) + 308) / 153 in
     (omega (arith, h), omega (arith, start-late march r (omega arith)), λ m. omega (arith, start-late march (r + 1) (omega arith)))

@@ -91,6 +91,8 @@ startIn march j = cond (ltb j 2) (31 * j) (march + (153 * j - 304) / 5)
 -- 'Date to day and day to date undo each other'
 pub record Undo : Type 0 where
   -- the date of the day of a date is the date
-  pub day-then-date : (y m d : ℕ) → dayCall y m d .refusal ≡ 0 → dateCall (dayCall y m d .value) ≡ record { refusal = 0; value = record { year = y; month = m; day = d } }
+  pub day-then-date : (y m d : ℕ) → dayCall y m d .refusal ≡ 0
+      → dateCall (dayCall y m d .value) ≡ record { refusal = 0; value = record { year = y; month = m; day = d } }
   -- the day of the date of a day is the day
-  pub date-then-day : (n : ℕ) → dateCall n .refusal ≡ 0 → dayCall (dateCall n .value .year) (dateCall n .value .month) (dateCall n .value .day) ≡ record { refusal = 0; value = n }
+  pub date-then-day : (n : ℕ) → dateCall n .refusal ≡ 0
+      → dayCall (dateCall n .value .year) (dateCall n .value .month) (dateCall n .value .day) ≡ record { refusal = 0; value = n }

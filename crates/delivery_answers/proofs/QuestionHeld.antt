@@ -46,13 +46,15 @@ tick-held t price = go (sized price)
 
 -- what 19, and what 22 refuses has no value
 no-19 : (s : Bool) (a b c a′ b′ c′ : Bool) (v w : Amount)
-    → answer (ask 10 s ∷ ask 19 false ∷ ask 20 a ∷ ask 21 b ∷ ask 22 c ∷ []) noAmount v ≡ answer (ask 10 s ∷ ask 19 false ∷ ask 20 a′ ∷ ask 21 b′ ∷ ask 22 c′ ∷ []) noAmount w
+    → answer (ask 10 s ∷ ask 19 false ∷ ask 20 a ∷ ask 21 b ∷ ask 22 c ∷ []) noAmount v
+    ≡ answer (ask 10 s ∷ ask 19 false ∷ ask 20 a′ ∷ ask 21 b′ ∷ ask 22 c′ ∷ []) noAmount w
 unfolding answer firstNo
 no-19 true a b c a′ b′ c′ v w = refl
 no-19 false a b c a′ b′ c′ v w = refl
 
 no-22 : (s p m f : Bool) (v w : Amount)
-    → answer (ask 10 s ∷ ask 19 p ∷ ask 20 m ∷ ask 21 f ∷ ask 22 false ∷ []) noAmount v ≡ answer (ask 10 s ∷ ask 19 p ∷ ask 20 m ∷ ask 21 f ∷ ask 22 false ∷ []) noAmount w
+    → answer (ask 10 s ∷ ask 19 p ∷ ask 20 m ∷ ask 21 f ∷ ask 22 false ∷ []) noAmount v
+    ≡ answer (ask 10 s ∷ ask 19 p ∷ ask 20 m ∷ ask 21 f ∷ ask 22 false ∷ []) noAmount w
 unfolding answer firstNo
 no-22 true true true true v w = refl
 no-22 true true true false v w = refl
@@ -65,19 +67,23 @@ module _ (t : Table) where
   unfolding cashCall cashAsks
   contracts-large c d a f h k =
       rw (lt-leb c 100000 (omega arith), lt-leb d 100000 (omega arith), and-false (leb 1 c), and-false (leb 1 d), and-false (leb f 999999999))
-      (no-22 (sound t) (priceRight a) (multipleOf (t .product .tick) a) (isFuture (t .product .kind)) (cashParts (cashAmount c (t .product .size) a f)) (cashParts (cashAmount d (t .product .size) a f)))
+      (no-22 (sound t) (priceRight a) (multipleOf (t .product .tick) a) (isFuture (t .product .kind)) (cashParts (cashAmount c (t .product .size) a f))
+      (cashParts (cashAmount d (t .product .size) a f)))
 
   agreed-large : (c a b f : ℕ) → 999999999 < a → 999999999 < b → cashCall t c a f ≡ cashCall t c b f
   unfolding cashCall cashAsks
   agreed-large c a b f h k =
       rw (lt-leb a 999999999 h, lt-leb b 999999999 k, and-false (leb 1 a), and-false (leb 1 b))
-      (no-19 (sound t) (multipleOf (t .product .tick) a) (isFuture (t .product .kind)) (finalRight f && contractsRight c) (multipleOf (t .product .tick) b) (isFuture (t .product .kind)) (finalRight f && contractsRight c) (cashParts (cashAmount c (t .product .size) a f)) (cashParts (cashAmount c (t .product .size) b f)))
+      (no-19 (sound t) (multipleOf (t .product .tick) a) (isFuture (t .product .kind)) (finalRight f && contractsRight c) (multipleOf (t .product .tick) b)
+      (isFuture (t .product .kind)) (finalRight f && contractsRight c) (cashParts (cashAmount c (t .product .size) a f))
+      (cashParts (cashAmount c (t .product .size) b f)))
 
   final-large : (c a f g : ℕ) → 999999999 < f → 999999999 < g → cashCall t c a f ≡ cashCall t c a g
   unfolding cashCall cashAsks
   final-large c a f g h k =
       rw (lt-leb f 999999999 h, lt-leb g 999999999 k)
-      (no-22 (sound t) (priceRight a) (multipleOf (t .product .tick) a) (isFuture (t .product .kind)) (cashParts (cashAmount c (t .product .size) a f)) (cashParts (cashAmount c (t .product .size) a g)))
+      (no-22 (sound t) (priceRight a) (multipleOf (t .product .tick) a) (isFuture (t .product .kind)) (cashParts (cashAmount c (t .product .size) a f))
+      (cashParts (cashAmount c (t .product .size) a g)))
 
   held-in : (call : ℕ → Answer Amount) → ((m n : ℕ) → 999999999 < m → 999999999 < n → call m ≡ call n) → (n : ℕ) → call (held n) ≡ call n
   held-in call large n = go (sized n)

@@ -19,7 +19,8 @@ use Rattle.file_text_print.proofs.TextLengths.{decimal-short, day-long}
 use Rattle.delivery_questions.specs.declared.QuestionLine.{QuestionLine}
 use Rattle.delivery_answers.specs.declared.Standing.{Standing}
 use Rattle.delivery_answers.specs.Numbers.{inEightDigits, decimalShort, numberText}
-use Rattle.delivery_answers.specs.Replies.{noText, okText, lastDayText, dueText, tickText, signText, amountText, cashText, sizeText, badQuestionText, heldText, heldReply, replyLine}
+use Rattle.delivery_answers.specs.Replies.{noText, okText, lastDayText, dueText, tickText, signText, amountText, cashText, sizeText, badQuestionText}
+use Rattle.delivery_answers.specs.Replies.{heldText, heldReply, replyLine}
 
 -- one of two texts
 either : (b : Bool) (x y : List ℕ) (n : ℕ) → length x ≤ n → length y ≤ n → length (cond b x y) ≤ n
@@ -125,7 +126,8 @@ held-most t q =
     either (eqb (q .letter) 108) (lastDayText (lastDayCall t (q .day))) due-on 60 (last-most (lastDayCall t (q .day)))
     (either (eqb (q .letter) 100) (dueText (dueCall t (q .day))) tick-on 60 (due-most (dueCall t (q .day)))
     (either (eqb (q .letter) 116) (tickText (tickCall t (q .number))) cash-on 60 (tick-most (tickCall t (q .number)))
-    (either (eqb (q .letter) 99) (cashText (cashCall t (q .number) (q .agreed) (q .«final_price»))) (sizeText (t .product .size)) 60 (cash-most (cashCall t (q .number) (q .agreed) (q .«final_price»))) (size-most (t .product .size)))))
+    (either (eqb (q .letter) 99) (cashText (cashCall t (q .number) (q .agreed) (q .«final_price»))) (sizeText (t .product .size)) 60
+    (cash-most (cashCall t (q .number) (q .agreed) (q .«final_price»))) (size-most (t .product .size)))))
   where
     cash-on : List ℕ
     cash-on = cond (eqb (q .letter) 99) (cashText (cashCall t (q .number) (q .agreed) (q .«final_price»))) (sizeText (t .product .size))

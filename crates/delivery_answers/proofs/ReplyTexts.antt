@@ -19,7 +19,8 @@ use Rattle.file_text_print.specs.Contents.{LineWith}
 use Rattle.delivery_questions.specs.declared.QuestionLine.{QuestionLine}
 use Rattle.delivery_answers.specs.declared.Standing.{Standing}
 use Rattle.delivery_answers.specs.Numbers.{inEightDigits, decimalShort, numberText}
-use Rattle.delivery_answers.specs.Replies.{noText, okText, lastDayText, dueText, tickText, signText, amountText, cashText, sizeText, otherSort, heldText, heldReply, heldMisfits}
+use Rattle.delivery_answers.specs.Replies.{noText, okText, lastDayText, dueText, tickText, signText, amountText, cashText, sizeText, otherSort, heldText}
+use Rattle.delivery_answers.specs.Replies.{heldReply, heldMisfits}
 
 -- some bytes
 pub bytes : (l r : Line) (text : List ℕ) → r ≡ fed l text → LineWith l text r
@@ -47,13 +48,15 @@ module _ (l r : Line) (n : ℕ) where
   number-8 h g = rw (lt-ltb n 100000000 h) g
 
   -- on a line the text of a number of nine to 16 digits is the short decimal of its upper part, then its last eight digits
-  pub number-16 : 100000000 ≤ n → n / 100000000 < 100000000 → LineWith l (decimalShort (n / 100000000) ++ inEightDigits (n % 100000000)) r → LineWith l (numberText n) r
+  pub number-16 : 100000000 ≤ n → n / 100000000 < 100000000 → LineWith l (decimalShort (n / 100000000) ++ inEightDigits (n % 100000000)) r
+      → LineWith l (numberText n) r
   unfolding numberText
   number-16 h k g = rw (le-ltb n 100000000 h, lt-ltb (n / 100000000) 100000000 k) g
 
   -- on a line the text of a number of more than 16 digits is the short decimal of its upper part, then its last sixteen digits
   pub number-24 : 100000000 ≤ n → 100000000 ≤ n / 100000000
-      → LineWith l ((decimalShort (n / 100000000 / 100000000) ++ inEightDigits (n / 100000000 % 100000000)) ++ inEightDigits (n % 100000000)) r → LineWith l (numberText n) r
+      → LineWith l ((decimalShort (n / 100000000 / 100000000) ++ inEightDigits (n / 100000000 % 100000000)) ++ inEightDigits (n % 100000000)) r
+      → LineWith l (numberText n) r
   unfolding numberText
   number-24 h k g = rw (le-ltb n 100000000 h, le-ltb (n / 100000000) 100000000 k) g
 
@@ -132,7 +135,8 @@ module _ (l r : Line) (t : Table) (q : QuestionLine) where
 
       module _ (z : q .letter ≡ 116 → ⊥) where
         -- a question held with the letter c is answered with the cash of its table
-        pub held-cash : q .letter ≡ 99 → (a : Answer Amount) → a ≡ cashCall t (q .number) (q .agreed) (q .«final_price») → LineWith l (cashText a) r → LineWith l (heldText t q) r
+        pub held-cash : q .letter ≡ 99 → (a : Answer Amount) → a ≡ cashCall t (q .number) (q .agreed) (q .«final_price») → LineWith l (cashText a) r
+            → LineWith l (heldText t q) r
         unfolding heldText
         held-cash e a k g =
             rw (ne-eqb (q .letter) 108 x, ne-eqb (q .letter) 100 y, ne-eqb (q .letter) 116 z, eq-eqb (q .letter) 99 e, ← k) g

@@ -33,7 +33,8 @@ by-moves t o m closed exchange c e v =
         v .refused (eqb-false (o .refusal) 0 q)
         ∙ sym (refused-same t c (λ z. eqb-false (o .refusal) 0 q (sym (ap (λ (x : Called). x .refusal) e) ∙ z)))
 
-module _ (opening : List ℕ → ℕ → Outcome) (t : Table) (c : Command) (m : Moved) (closed exchange : List ℕ) (v : Moves t (outcomeOf opening t c) m closed exchange) where
+module _ (opening : List ℕ → ℕ → Outcome) (t : Table) (c : Command) (m : Moved) (closed exchange : List ℕ)
+    (v : Moves t (outcomeOf opening t c) m closed exchange) where
   -- the roll of a command with R is the call of a roll to its day, with its refusal and its rest
   pub roll-made : c .letter ≡ 82 → CallMade (tableCall t (roll (c .day))) (record { refusal = m .refusal; rest = m .rest }) closed exchange
   roll-made l =
@@ -42,7 +43,8 @@ module _ (opening : List ℕ → ℕ → Outcome) (t : Table) (c : Command) (m :
   -- the closing of a command with C is the call of the closing of its day, with its refusal and its rest
   pub close-made : c .letter ≡ 67 → CallMade (tableCall t (close (c .day))) (record { refusal = m .refusal; rest = m .rest }) closed exchange
   close-made l =
-      by-moves t (outcomeOf opening t c) m closed exchange (close (c .day)) (ap unpriced (closes opening t c (λ q. omega (arith, q, l)) (λ q. omega (arith, q, l)))) v
+      by-moves t (outcomeOf opening t c) m closed exchange (close (c .day))
+      (ap unpriced (closes opening t c (λ q. omega (arith, q, l)) (λ q. omega (arith, q, l)))) v
 
 -- a call of a list whose first number has 16 bits, by its kind
 module _ (first second third : ℕ) (small : first ≤ 65535) where
@@ -55,5 +57,6 @@ module _ (first second third : ℕ) (small : first ≤ 65535) where
   kind-1 kind e = rw (e, le-leb first 65535 small) refl
 
 -- a call of the whole table, taken apart again
-pub whole-made : (o p : Called) → o ≡ p → CallMade p (record { refusal = o .refusal; rest = tableRest (o .table) }) (o .table .calendar .closed) (o .table .calendar .exchange)
+pub whole-made : (o p : Called) → o ≡ p → CallMade p (record { refusal = o .refusal; rest = tableRest (o .table) }) (o .table .calendar .closed)
+    (o .table .calendar .exchange)
 whole-made o p e = record { refusal = ap (λ (x : Called). x .refusal) e; table = ap (λ (x : Called). x .table) e }

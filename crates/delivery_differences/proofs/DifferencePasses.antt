@@ -115,17 +115,20 @@ module _ (fails : ℕ → Bool) (from : ℕ) where
   pass-below [] least m o f h = clash o refl
   pass-below (k ∷ ks) least m o f h = go (or-either (eqb m k) (oneOf ks m) o) (λ p. pass-below ks (lesserFrom (fails k) from k least) m p f h)
     where
-      go : (eqb m k ≡ true) ⊎ (oneOf ks m ≡ true) → (oneOf ks m ≡ true → leastOf fails from ks (lesserFrom (fails k) from k least) ≤ m) → leastOf fails from ks (lesserFrom (fails k) from k least) ≤ m
+      go : (eqb m k ≡ true) ⊎ (oneOf ks m ≡ true) → (oneOf ks m ≡ true → leastOf fails from ks (lesserFrom (fails k) from k least) ≤ m)
+          → leastOf fails from ks (lesserFrom (fails k) from k least) ≤ m
       go (inl p) ih =
           let q : m ≡ k = eqb-true m k p in
           omega (arith, pass-most ks (lesserFrom (fails k) from k least), lesser-below (fails k) from k least (ap fails (sym q) ∙ f) (omega arith))
       go (inr p) ih = ih p
 
   -- the least fails, or is the one found before
-  pass-is : (ks : List ℕ) (least : ℕ) → (leastOf fails from ks least ≡ least) ⊎ ((oneOf ks (leastOf fails from ks least) ≡ true) × (fails (leastOf fails from ks least) ≡ true) × (from ≤ leastOf fails from ks least))
+  pass-is : (ks : List ℕ) (least : ℕ) → (leastOf fails from ks least ≡ least)
+      ⊎ ((oneOf ks (leastOf fails from ks least) ≡ true) × (fails (leastOf fails from ks least) ≡ true) × (from ≤ leastOf fails from ks least))
   unfolding leastOf oneOf
   pass-is [] least = inl refl
-  pass-is (k ∷ ks) least = go (leastOf fails from ks (lesserFrom (fails k) from k least)) refl (pass-is ks (lesserFrom (fails k) from k least)) (lesser-is (fails k) from k least)
+  pass-is (k ∷ ks) least = go (leastOf fails from ks (lesserFrom (fails k) from k least)) refl (pass-is ks (lesserFrom (fails k) from k least))
+      (lesser-is (fails k) from k least)
     where
       go : (r : ℕ) → leastOf fails from ks (lesserFrom (fails k) from k least) ≡ r
           → (r ≡ lesserFrom (fails k) from k least) ⊎ ((oneOf ks r ≡ true) × (fails r ≡ true) × (from ≤ r))
@@ -153,7 +156,8 @@ unfolding rightOf oneOf maturityKeys
 keys-listed [] k e = clash e refl
 keys-listed (m ∷ ms) k e = go (eqb (m .key) k) refl e (keys-listed ms k)
   where
-    go : (b : Bool) → eqb (m .key) k ≡ b → cond {A = Right} b (record { listed = true; maturity = m }) (rightOf ms k) .listed ≡ true → (rightOf ms k .listed ≡ true → oneOf (maturityKeys ms) k ≡ true) → (eqb k (m .key) || oneOf (maturityKeys ms) k) ≡ true
+    go : (b : Bool) → eqb (m .key) k ≡ b → cond {A = Right} b (record { listed = true; maturity = m }) (rightOf ms k) .listed ≡ true
+        → (rightOf ms k .listed ≡ true → oneOf (maturityKeys ms) k ≡ true) → (eqb k (m .key) || oneOf (maturityKeys ms) k) ≡ true
     go true q e ih = or-left (oneOf (maturityKeys ms) k) (eq-eqb k (m .key) (sym (eqb-true (m .key) k q)))
     go false q e ih = or-right (eqb k (m .key)) (ih e)
 
@@ -163,7 +167,8 @@ unfolding rightOf
 right-not [] k e = refl
 right-not (m ∷ ms) k e = go (eqb (m .key) k) e (right-not ms k)
   where
-    go : (b : Bool) → cond {A = Right} b (record { listed = true; maturity = m }) (rightOf ms k) .listed ≡ false → (rightOf ms k .listed ≡ false → rightOf ms k ≡ notListed) → cond {A = Right} b (record { listed = true; maturity = m }) (rightOf ms k) ≡ notListed
+    go : (b : Bool) → cond {A = Right} b (record { listed = true; maturity = m }) (rightOf ms k) .listed ≡ false
+        → (rightOf ms k .listed ≡ false → rightOf ms k ≡ notListed) → cond {A = Right} b (record { listed = true; maturity = m }) (rightOf ms k) ≡ notListed
     go true e ih = clash refl e
     go false e ih = ih e
 
@@ -173,7 +178,8 @@ unfolding times oneOf rowKeys
 keys-delivered [] k h = absurd (omega arith)
 keys-delivered (r ∷ rs) k h = go (eqb (r .key) k) refl h (keys-delivered rs k)
   where
-    go : (b : Bool) → eqb (r .key) k ≡ b → 1 ≤ cond b 1 0 + times (rowEntries rs) k → (1 ≤ times (rowEntries rs) k → oneOf (rowKeys rs) k ≡ true) → (eqb k (r .key) || oneOf (rowKeys rs) k) ≡ true
+    go : (b : Bool) → eqb (r .key) k ≡ b → 1 ≤ cond b 1 0 + times (rowEntries rs) k → (1 ≤ times (rowEntries rs) k → oneOf (rowKeys rs) k ≡ true)
+        → (eqb k (r .key) || oneOf (rowKeys rs) k) ≡ true
     go true q h ih = or-left (oneOf (rowKeys rs) k) (eq-eqb k (r .key) (sym (eqb-true (r .key) k q)))
     go false q h ih = or-right (eqb k (r .key)) (ih (omega arith))
 
@@ -186,7 +192,8 @@ delivered-keys (r ∷ rs) k e = go (or-either (eqb k (r .key)) (oneOf (rowKeys r
     more true h = omega arith
     more false h = omega arith
 
-    go : (eqb k (r .key) ≡ true) ⊎ (oneOf (rowKeys rs) k ≡ true) → (oneOf (rowKeys rs) k ≡ true → 1 ≤ times (rowEntries rs) k) → 1 ≤ cond (eqb (r .key) k) 1 0 + times (rowEntries rs) k
+    go : (eqb k (r .key) ≡ true) ⊎ (oneOf (rowKeys rs) k ≡ true) → (oneOf (rowKeys rs) k ≡ true → 1 ≤ times (rowEntries rs) k)
+        → 1 ≤ cond (eqb (r .key) k) 1 0 + times (rowEntries rs) k
     go (inl p) ih = rw (eq-eqb (r .key) k (sym (eqb-true k (r .key) p))) (omega arith)
     go (inr p) ih = more (eqb (r .key) k) (ih p)
 
@@ -248,21 +255,24 @@ module _ (listed : List Maturity) (rows : List DeliveredRow) where
     least-differs : (least ≡ found) ⊎ ((differsIn listed rows least ≡ true) × (from ≤ least))
     least-differs = go (pass-is test from (maturityKeys listed) found)
       where
-        go : (least ≡ found) ⊎ ((oneOf (maturityKeys listed) least ≡ true) × (differsIn listed rows least ≡ true) × (from ≤ least)) → (least ≡ found) ⊎ ((differsIn listed rows least ≡ true) × (from ≤ least))
+        go : (least ≡ found) ⊎ ((oneOf (maturityKeys listed) least ≡ true) × (differsIn listed rows least ≡ true) × (from ≤ least))
+            → (least ≡ found) ⊎ ((differsIn listed rows least ≡ true) × (from ≤ least))
         go (inl p) = inl p
         go (inr p) = inr (p .1, p .2)
 
     found-differs : (found ≡ 65536) ⊎ ((differsIn listed rows found ≡ true) × (from ≤ found))
     found-differs = go (pass-is outside from (rowKeys rows) 65536)
       where
-        go : (found ≡ 65536) ⊎ ((oneOf (rowKeys rows) found ≡ true) × (unlisted listed found ≡ true) × (from ≤ found)) → (found ≡ 65536) ⊎ ((differsIn listed rows found ≡ true) × (from ≤ found))
+        go : (found ≡ 65536) ⊎ ((oneOf (rowKeys rows) found ≡ true) × (unlisted listed found ≡ true) × (from ≤ found))
+            → (found ≡ 65536) ⊎ ((differsIn listed rows found ≡ true) × (from ≤ found))
         go (inl p) = inl p
         go (inr p) = inr (extra-differs found (p .1) (delivered-keys rows found (p .0)), p .2)
 
     some-differs : least < 65536 → (differsIn listed rows least ≡ true) × (from ≤ least)
     some-differs h = go least-differs found-differs
       where
-        go : (least ≡ found) ⊎ ((differsIn listed rows least ≡ true) × (from ≤ least)) → (found ≡ 65536) ⊎ ((differsIn listed rows found ≡ true) × (from ≤ found)) → (differsIn listed rows least ≡ true) × (from ≤ least)
+        go : (least ≡ found) ⊎ ((differsIn listed rows least ≡ true) × (from ≤ least))
+            → (found ≡ 65536) ⊎ ((differsIn listed rows found ≡ true) × (from ≤ found)) → (differsIn listed rows least ≡ true) × (from ≤ least)
         go (inr p) s = p
         go (inl p) (inl s) = absurd (omega arith)
         go (inl p) (inr s) = (ap (differsIn listed rows) p ∙ s .0, omega (arith, s .1))
@@ -275,7 +285,8 @@ module _ (listed : List Maturity) (rows : List DeliveredRow) where
         here : (differsIn listed rows least ≡ true) × (from ≤ least) → least < 65536 → least ≡ firstFrom (differsIn listed rows) 65536 (65536 - from) from
         here s h =
             let at : from + (least - from) ≡ least = omega (arith, s .1) in
-            sym (first-is (differsIn listed rows) 65536 (65536 - from) from (least - from) (omega (arith, s .1)) (λ i l. below-least (from + i) (omega arith) (omega (arith, s .1))) (ap (differsIn listed rows) at ∙ s .0) ∙ at)
+            sym (first-is (differsIn listed rows) 65536 (65536 - from) from (least - from) (omega (arith, s .1))
+            (λ i l. below-least (from + i) (omega arith) (omega (arith, s .1))) (ap (differsIn listed rows) at ∙ s .0) ∙ at)
 
         go : (least < 65536) ⊎ (65536 ≤ least) → least ≡ firstFrom (differsIn listed rows) 65536 (65536 - from) from
         go (inl h) = here (some-differs h) h

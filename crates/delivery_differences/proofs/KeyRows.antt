@@ -70,7 +70,8 @@ unfolding firstRow indexIn rowKeys
 first-at [] k = refl
 first-at (r ∷ rs) k = go (eqb (r .key) k) (first-at rs k)
   where
-    go : (b : Bool) → getD rs (indexIn k (rowKeys rs)) noRow ≡ firstRow rs k → getD (r ∷ rs) (cond b 0 (suc (indexIn k (rowKeys rs)))) noRow ≡ cond b r (firstRow rs k)
+    go : (b : Bool) → getD rs (indexIn k (rowKeys rs)) noRow ≡ firstRow rs k
+        → getD (r ∷ rs) (cond b 0 (suc (indexIn k (rowKeys rs)))) noRow ≡ cond b r (firstRow rs k)
     go true e = refl
     go false e = e
 
@@ -80,12 +81,14 @@ unfolding times indexIn rowKeys
 stands-not [] k h = refl
 stands-not (r ∷ rs) k h = go (eqb (r .key) k) h (stands-not rs k)
   where
-    go : (b : Bool) → suc (length rs) ≤ cond b 0 (suc (indexIn k (rowKeys rs))) → (length rs ≤ indexIn k (rowKeys rs) → times (rowEntries rs) k ≡ 0) → cond b 1 0 + times (rowEntries rs) k ≡ 0
+    go : (b : Bool) → suc (length rs) ≤ cond b 0 (suc (indexIn k (rowKeys rs))) → (length rs ≤ indexIn k (rowKeys rs) → times (rowEntries rs) k ≡ 0)
+        → cond b 1 0 + times (rowEntries rs) k ≡ 0
     go true h ih = absurd (omega arith)
     go false h ih = omega (arith, ih (omega arith))
 
 -- one that stands: once, and as often as in the rows after its first
-pub stands-more : (rs : List DeliveredRow) (k : ℕ) → indexIn k (rowKeys rs) < length rs → times (rowEntries rs) k ≡ 1 + times (rowEntries (drop (indexIn k (rowKeys rs) + 1) rs)) k
+pub stands-more : (rs : List DeliveredRow) (k : ℕ) → indexIn k (rowKeys rs) < length rs
+    → times (rowEntries rs) k ≡ 1 + times (rowEntries (drop (indexIn k (rowKeys rs) + 1) rs)) k
 unfolding times indexIn rowKeys
 stands-more [] k h = absurd (omega arith)
 stands-more (r ∷ rs) k h = go (eqb (r .key) k) h (stands-more rs k)
@@ -115,7 +118,8 @@ module _ (keys days fulls numbers backs : List ℕ) where
   places-long [] = refl
   places-long (i ∷ places) = ap suc (places-long places)
 
-  places-at : (places : List ℕ) (j : ℕ) → j < length places → getD (rowsAt keys days fulls numbers backs places) j noRow ≡ rowAt keys days fulls numbers backs (getD places j 0)
+  places-at : (places : List ℕ) (j : ℕ) → j < length places
+      → getD (rowsAt keys days fulls numbers backs places) j noRow ≡ rowAt keys days fulls numbers backs (getD places j 0)
   unfolding rowsAt
   places-at [] j h = absurd (omega arith)
   places-at (i ∷ places) zero h = refl

@@ -22,7 +22,8 @@ use Rattle.delivery_differences.specs.declared.Right.{Right}
 use Rattle.delivery_differences.specs.Differences.{rowEntries, firstRow, rightOf, whyFrom, whyOf, oneOfFour, rowsAt, OfNote12}
 
 -- the first of six tests that holds is one of the first four
-four : (a b c d e f : Bool) → oneOfFour (cond a Missing (cond b Extra (cond c Twice (cond d Day (cond e Number (cond f DaysBack Same)))))) ≡ ((a || b) || (d || c))
+four : (a b c d e f : Bool) → oneOfFour (cond a Missing (cond b Extra (cond c Twice (cond d Day (cond e Number (cond f DaysBack Same))))))
+    ≡ ((a || b) || (d || c))
 four true b c d e f = refl
 four false true c d e f = refl
 four false false true true e f = refl
@@ -40,7 +41,8 @@ unfolding rightOf times
 right-times [] k = refl
 right-times (m ∷ ms) k = go (eqb (m .key) k) (right-times ms k)
   where
-    go : (b : Bool) → rightOf ms k .listed ≡ leb 1 (times (map vendorEntryOf ms) k) → cond {A = Right} b (record { listed = true; maturity = m }) (rightOf ms k) .listed ≡ leb 1 (cond b 1 0 + times (map vendorEntryOf ms) k)
+    go : (b : Bool) → rightOf ms k .listed ≡ leb 1 (times (map vendorEntryOf ms) k)
+        → cond {A = Right} b (record { listed = true; maturity = m }) (rightOf ms k) .listed ≡ leb 1 (cond b 1 0 + times (map vendorEntryOf ms) k)
     go true e = sym (le-leb 1 (1 + times (map vendorEntryOf ms) k) (omega arith))
     go false e = e ∙ ap (leb 1) (sym (zero-add (times (map vendorEntryOf ms) k)))
 
@@ -49,7 +51,8 @@ unfolding rightOf vendorDayIn
 right-day [] k = refl
 right-day (m ∷ ms) k = go (eqb (m .key) k) (right-day ms k)
   where
-    go : (b : Bool) → rightOf ms k .maturity .day ≡ vendorDayIn (map vendorEntryOf ms) k → cond {A = Right} b (record { listed = true; maturity = m }) (rightOf ms k) .maturity .day ≡ cond b (m .day) (vendorDayIn (map vendorEntryOf ms) k)
+    go : (b : Bool) → rightOf ms k .maturity .day ≡ vendorDayIn (map vendorEntryOf ms) k
+        → cond {A = Right} b (record { listed = true; maturity = m }) (rightOf ms k) .maturity .day ≡ cond b (m .day) (vendorDayIn (map vendorEntryOf ms) k)
     go true e = refl
     go false e = e
 
@@ -69,11 +72,16 @@ not-some (suc n) = ap not (le-leb 1 (suc n) (omega arith)) ∙ sym (ne-eqb (suc 
 -- ---- every key
 
 module _ (listed : List Maturity) (rows : List DeliveredRow) (k : ℕ) where
-  why-is : oneOfFour (whyOf listed rows k) ≡ ((rightOf listed k .listed && eqb (times (rowEntries rows) k) 0 || not (rightOf listed k .listed) && leb 1 (times (rowEntries rows) k)) || (not (eqb (rightOf listed k .maturity .day) (firstRow rows k .day)) || leb 2 (times (rowEntries rows) k)))
+  why-is : oneOfFour (whyOf listed rows k)
+      ≡ ((rightOf listed k .listed && eqb (times (rowEntries rows) k) 0 || not (rightOf listed k .listed) && leb 1 (times (rowEntries rows) k)) ||
+      (not (eqb (rightOf listed k .maturity .day) (firstRow rows k .day)) || leb 2 (times (rowEntries rows) k)))
   unfolding whyOf whyFrom
   why-is =
-      four (rightOf listed k .listed && eqb (times (rowEntries rows) k) 0) (not (rightOf listed k .listed) && leb 1 (times (rowEntries rows) k)) (leb 2 (times (rowEntries rows) k))
-      (not (eqb (rightOf listed k .maturity .day) (firstRow rows k .day))) (firstRow rows k .full && not (eqb (rightOf listed k .maturity .number) (firstRow rows k .number))) (firstRow rows k .full && not (eqb (rightOf listed k .maturity .back) (firstRow rows k .back)))
+      four (rightOf listed k .listed && eqb (times (rowEntries rows) k) 0) (not (rightOf listed k .listed) && leb 1 (times (rowEntries rows) k))
+      (leb 2 (times (rowEntries rows) k))
+      (not (eqb (rightOf listed k .maturity .day) (firstRow rows k .day)))
+      (firstRow rows k .full && not (eqb (rightOf listed k .maturity .number) (firstRow rows k .number)))
+      (firstRow rows k .full && not (eqb (rightOf listed k .maturity .back) (firstRow rows k .back)))
 
   -- a key is missing, extra, twice or of another day exactly where it differs in the sense of note 12
   pub four-differs : oneOfFour (whyOf listed rows k) ≡ differs (map vendorEntryOf listed) (rowEntries rows) k
@@ -115,13 +123,16 @@ module _ (t : Table) (rows : List DeliveredRow) (e : sound t ≡ true) (long : l
 
 -- ---- rows of lent lists of 16-bit numbers
 
-far : (keys days fulls numbers backs : List ℕ) (k : ℕ) (places : List ℕ) → ((i : ℕ) → getD keys i 0 < k) → times (rowEntries (rowsAt keys days fulls numbers backs places)) k ≡ 0
+far : (keys days fulls numbers backs : List ℕ) (k : ℕ) (places : List ℕ) → ((i : ℕ) → getD keys i 0 < k)
+    → times (rowEntries (rowsAt keys days fulls numbers backs places)) k ≡ 0
 unfolding rowsAt times
 far keys days fulls numbers backs k [] h = refl
 far keys days fulls numbers backs k (i ∷ places) h =
     let l : getD keys i 0 < k = h i in
-    rw (ne-eqb (getD keys i 0) k (λ e. omega arith)) (zero-add (times (rowEntries (rowsAt keys days fulls numbers backs places)) k) ∙ far keys days fulls numbers backs k places h)
+    rw (ne-eqb (getD keys i 0) k (λ e. omega arith))
+    (zero-add (times (rowEntries (rowsAt keys days fulls numbers backs places)) k) ∙ far keys days fulls numbers backs k places h)
 
 -- the rows of a lent list of 16-bit keys have no key from 65,536 on
-pub lent-short : (keys days fulls numbers backs places : List ℕ) → ((i : ℕ) → getD keys i 0 < 65536) → Short (rowEntries (rowsAt keys days fulls numbers backs places))
+pub lent-short : (keys days fulls numbers backs places : List ℕ) → ((i : ℕ) → getD keys i 0 < 65536)
+    → Short (rowEntries (rowsAt keys days fulls numbers backs places))
 lent-short keys days fulls numbers backs places h = record { below = λ k l. far keys days fulls numbers backs k places (λ i. omega (arith, h i)) }

@@ -17,7 +17,8 @@ use Rattle.table_vendor.proofs.FreshEntries.{listed-once}
 use Rattle.delivery_differences.specs.declared.Why.the-variants.{Same}
 use Rattle.delivery_differences.specs.declared.DeliveredRow.{DeliveredRow}
 use Rattle.delivery_differences.specs.declared.Right.{Right}
-use Rattle.delivery_differences.specs.Differences.{rowEntries, firstRow, rightOf, whyFrom, whyOf, AnyOrder, empty, kept, swapped, again, ownRow, NothingFound}
+use Rattle.delivery_differences.specs.Differences.{rowEntries, firstRow, rightOf, whyFrom, whyOf, AnyOrder, empty, kept, swapped, again, ownRow}
+use Rattle.delivery_differences.specs.Differences.{NothingFound}
 use Rattle.delivery_differences.proofs.DifferencePasses.{right-not, no-row}
 use Rattle.delivery_differences.proofs.Note12.{right-times}
 
@@ -66,7 +67,8 @@ right-first : (m : Maturity) (ms : List Maturity) → rightOf (m ∷ ms) (m .key
 unfolding rightOf
 right-first m ms = rw (eq-eqb (m .key) (m .key) refl) refl
 
-own-agrees : (full : Bool) (listed : List Maturity) (m : Maturity) → rightOf listed (m .key) ≡ record { listed = true; maturity = m } → agrees listed (ownRow full m) ≡ true
+own-agrees : (full : Bool) (listed : List Maturity) (m : Maturity) → rightOf listed (m .key) ≡ record { listed = true; maturity = m }
+    → agrees listed (ownRow full m) ≡ true
 unfolding agrees
 own-agrees true listed m e = rw (e, eq-eqb (m .day) (m .day) refl, eq-eqb (m .number) (m .number) refl, eq-eqb (m .back) (m .back) refl) refl
 own-agrees false listed m e = rw (e, eq-eqb (m .day) (m .day) refl) refl
@@ -80,7 +82,8 @@ later m ms k h e = go (eqb (m .key) k) h
     there true q s = leb-true 1 (times (map vendorEntryOf ms) k) q
     there false q s = clash s refl
 
-    go : (b : Bool) → cond b 1 0 + times (map vendorEntryOf ms) k ≤ 1 → cond {A = Right} b (record { listed = true; maturity = m }) (rightOf ms k) ≡ rightOf ms k
+    go : (b : Bool) → cond b 1 0 + times (map vendorEntryOf ms) k ≤ 1
+        → cond {A = Right} b (record { listed = true; maturity = m }) (rightOf ms k) ≡ rightOf ms k
     go true h = absurd (omega (arith, there (leb 1 (times (map vendorEntryOf ms) k)) refl (sym (right-times ms k) ∙ e)))
     go false h = refl
 
@@ -100,7 +103,8 @@ right-later m ms k e = go (eqb (m .key) k)
     go true = refl
     go false = e
 
-own-all : (full : Bool) (listed ms : List Maturity) → ((k : ℕ) → times (map vendorEntryOf ms) k ≤ 1) → ((k : ℕ) → rightOf ms k .listed ≡ true → rightOf listed k ≡ rightOf ms k) → allAgree listed (map (ownRow full) ms) ≡ true
+own-all : (full : Bool) (listed ms : List Maturity) → ((k : ℕ) → times (map vendorEntryOf ms) k ≤ 1)
+    → ((k : ℕ) → rightOf ms k .listed ≡ true → rightOf listed k ≡ rightOf ms k) → allAgree listed (map (ownRow full) ms) ≡ true
 unfolding allAgree
 own-all full listed [] once in-it = refl
 own-all full listed (m ∷ ms) once in-it =
@@ -109,7 +113,8 @@ own-all full listed (m ∷ ms) once in-it =
 
 -- ---- rows that agree
 
-first-agrees : (listed : List Maturity) (rs : List DeliveredRow) (k : ℕ) → allAgree listed rs ≡ true → 1 ≤ times (rowEntries rs) k → (agrees listed (firstRow rs k) ≡ true) × (firstRow rs k .key ≡ k)
+first-agrees : (listed : List Maturity) (rs : List DeliveredRow) (k : ℕ) → allAgree listed rs ≡ true → 1 ≤ times (rowEntries rs) k
+    → (agrees listed (firstRow rs k) ≡ true) × (firstRow rs k .key ≡ k)
 unfolding allAgree firstRow times
 first-agrees listed [] k a h = absurd (omega arith)
 first-agrees listed (r ∷ rs) k a h = go (eqb (r .key) k) refl h (both (agrees listed r) (allAgree listed rs) a) (first-agrees listed rs k)
@@ -127,21 +132,26 @@ six true true false c e = clash e refl
 six true true true false e = clash e refl
 six true true true true e = (refl, refl, refl)
 
-agreed : (listed : List Maturity) (k : ℕ) (row : DeliveredRow) → rightOf listed k .listed ≡ true → row .key ≡ k → agrees listed row ≡ true → whyFrom (rightOf listed k) 1 row ≡ Same
+agreed : (listed : List Maturity) (k : ℕ) (row : DeliveredRow) → rightOf listed k .listed ≡ true → row .key ≡ k → agrees listed row ≡ true
+    → whyFrom (rightOf listed k) 1 row ≡ Same
 unfolding whyFrom agrees
 agreed listed k row l q a =
-    let s = six (row .full) (eqb (rightOf listed k .maturity .day) (row .day)) (eqb (rightOf listed k .maturity .number) (row .number)) (eqb (rightOf listed k .maturity .back) (row .back)) (rw q at a) in
+    let s = six (row .full) (eqb (rightOf listed k .maturity .day) (row .day)) (eqb (rightOf listed k .maturity .number) (row .number))
+    (eqb (rightOf listed k .maturity .back) (row .back)) (rw q at a) in
     rw (l, s .0, s .1, s .2) refl
 
-nothing-there : (listed : List Maturity) (rows : List DeliveredRow) (k : ℕ) → rightOf listed k .listed ≡ false → times (rowEntries rows) k ≡ 0 → whyOf listed rows k ≡ Same
+nothing-there : (listed : List Maturity) (rows : List DeliveredRow) (k : ℕ) → rightOf listed k .listed ≡ false → times (rowEntries rows) k ≡ 0
+    → whyOf listed rows k ≡ Same
 unfolding whyOf whyFrom
 nothing-there listed rows k l z = rw (right-not listed k l, z, no-row rows k z) refl
 
-why-one : (listed : List Maturity) (rows : List DeliveredRow) (k : ℕ) → times (rowEntries rows) k ≡ 1 → whyOf listed rows k ≡ whyFrom (rightOf listed k) 1 (firstRow rows k)
+why-one : (listed : List Maturity) (rows : List DeliveredRow) (k : ℕ) → times (rowEntries rows) k ≡ 1
+    → whyOf listed rows k ≡ whyFrom (rightOf listed k) 1 (firstRow rows k)
 unfolding whyOf
 why-one listed rows k n = rw n refl
 
-module _ (listed : List Maturity) (once : (k : ℕ) → times (map vendorEntryOf listed) k ≤ 1) (full : Bool) (rows : List DeliveredRow) (o : AnyOrder (map (ownRow full) listed) rows) where
+module _ (listed : List Maturity) (once : (k : ℕ) → times (map vendorEntryOf listed) k ≤ 1) (full : Bool) (rows : List DeliveredRow)
+    (o : AnyOrder (map (ownRow full) listed) rows) where
   rows-agree : allAgree listed rows ≡ true
   rows-agree = sym (order-agrees listed o) ∙ own-all full listed listed once (λ k e. refl)
 
@@ -168,5 +178,6 @@ module _ (listed : List Maturity) (once : (k : ℕ) → times (map vendorEntryOf
       go k false e = nothing-there listed rows k e (none k (leb 1 (times (map vendorEntryOf listed) k)) refl (sym (right-times listed k) ∙ e))
 
 -- a sound table's own rows
-pub own-table : (t : Table) → sound t ≡ true → length (t .maturities) ≡ 15 → (full : Bool) (rows : List DeliveredRow) → AnyOrder (map (ownRow full) (listedIn t)) rows → NothingFound (listedIn t) rows
+pub own-table : (t : Table) → sound t ≡ true → length (t .maturities) ≡ 15 → (full : Bool) (rows : List DeliveredRow)
+    → AnyOrder (map (ownRow full) (listedIn t)) rows → NothingFound (listedIn t) rows
 own-table t e long full rows o = own-rows (listedIn t) (listed-once t e long) full rows o

@@ -65,7 +65,8 @@ unfolding nextLine badsCounted
 counted-more n = go (lt-or-ge (n + 1) 999999999) (lt-or-ge n 999999999)
   where
     go : (n + 1 < 999999999) ⊎ (999999999 ≤ n + 1) → (n < 999999999) ⊎ (999999999 ≤ n)
-        → cond (ltb (cond (ltb n 999999999) n 999999999) 999999999) (cond (ltb n 999999999) n 999999999 + 1) (cond (ltb n 999999999) n 999999999) ≡ cond (ltb (n + 1) 999999999) (n + 1) 999999999
+        → cond (ltb (cond (ltb n 999999999) n 999999999) 999999999) (cond (ltb n 999999999) n 999999999 + 1) (cond (ltb n 999999999) n 999999999)
+        ≡ cond (ltb (n + 1) 999999999) (n + 1) 999999999
     go (inl a) (inl b) = rw (lt-ltb n 999999999 b, lt-ltb n 999999999 b, lt-ltb (n + 1) 999999999 a) refl
     go (inl a) (inr b) = absurd (omega arith)
     go (inr a) (inl b) =

@@ -103,4 +103,5 @@ module _ (line : List ℕ) (i from r : ℕ) (e : drop i (fieldsOf line) ≡ fiel
   field-beyond h k l =
       let j : ℕ = k - i - 1 in
       let q : i + suc j ≡ k = omega arith in
-      sym (ap (λ (ws : List (List ℕ)). getD ws (suc j) []) (e ∙ field-last line from r s h)) ∙ getD-drop i (fieldsOf line) (suc j) [] ∙ ap (λ (n : ℕ). getD (fieldsOf line) n []) q
+      sym (ap (λ (ws : List (List ℕ)). getD ws (suc j) []) (e ∙ field-last line from r s h)) ∙ getD-drop i (fieldsOf line) (suc j) [] ∙
+      ap (λ (n : ℕ). getD (fieldsOf line) n []) q

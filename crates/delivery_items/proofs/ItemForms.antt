@@ -17,7 +17,8 @@ use Rattle.delivery_lines.specs.NoticeLines.{trimmed, isId}
 use Rattle.delivery_items.specs.declared.ItemRead.{ItemRead}
 use Rattle.delivery_items.specs.declared.LineRead.{LineRead}
 use Rattle.delivery_items.specs.declared.LongLine.{LongLine}
-use Rattle.delivery_items.specs.Items.{fieldsOf, unquoted, fieldAt, noItem, maturityRead, keyRead, shortItem, fullItem, fieldsItem, itemOf, productWord, isProductWord, headed, lineRead, heldRead}
+use Rattle.delivery_items.specs.Items.{fieldsOf, unquoted, fieldAt, noItem, maturityRead, keyRead, shortItem, fullItem, fieldsItem, itemOf, productWord}
+use Rattle.delivery_items.specs.Items.{isProductWord, headed, lineRead, heldRead}
 
 -- ---- quotes
 
@@ -75,8 +76,10 @@ module _ (id maturity last : List ℕ) (is : Bool) (first end : Command) (i : is
   item-none t = rw (← i, ← p, ← q, t) refl
 
   -- three fields with an id, a maturity and a date are a row of these
-  pub item-is : (is && (not (eqb (first .letter) 0) && not (eqb (end .letter) 0))) ≡ true → (four : List ℕ) (key : ℕ) → four ≡ idBytes id → key ≡ keyRead maturity (first .day)
-      → record { there = true; id = four; weekly = not (eqb (length maturity) 7); key = key; day = end .day; full = false; number = 0; back = 0 } ≡ shortItem id maturity last
+  pub item-is : (is && (not (eqb (first .letter) 0) && not (eqb (end .letter) 0))) ≡ true → (four : List ℕ) (key : ℕ) → four ≡ idBytes id
+      → key ≡ keyRead maturity (first .day)
+      → record { there = true; id = four; weekly = not (eqb (length maturity) 7); key = key; day = end .day; full = false; number = 0; back = 0 }
+      ≡ shortItem id maturity last
   unfolding shortItem
   item-is t four key a b = rw (← i, ← p, ← q, t, a, b) refl
 
@@ -88,7 +91,8 @@ module _ (item : ItemRead) (number back : NumberRead) where
 
   -- five fields with a row and two numbers are that row with its listing number and its days back
   pub full-is : (item .there && (number .there && back .there)) ≡ true
-      → record { there = true; id = item .id; weekly = item .weekly; key = item .key; day = item .day; full = true; number = number .value; back = back .value } ≡ fullItem item number back
+      → record { there = true; id = item .id; weekly = item .weekly; key = item .key; day = item .day; full = true; number = number .value; back = back .value }
+      ≡ fullItem item number back
   unfolding fullItem
   full-is t = rw t refl
 
@@ -137,16 +141,19 @@ module _ (field : List ℕ) where
 -- ---- a line
 
 -- what a line says is whether it is empty, whether it is headed and its row, all without the blanks at its end
-pub line-is : (line text : List ℕ) (r : LineRead) → text ≡ trimmed line → r .empty ≡ eqb (length text) 0 → r .heading ≡ headed text → r .item ≡ itemOf text → r ≡ lineRead line
+pub line-is : (line text : List ℕ) (r : LineRead) → text ≡ trimmed line → r .empty ≡ eqb (length text) 0 → r .heading ≡ headed text → r .item ≡ itemOf text
+    → r ≡ lineRead line
 unfolding lineRead
 line-is line text r e a b c = rw (← e) (parts r a b c)
   where
-    parts : (r : LineRead) → r .empty ≡ eqb (length text) 0 → r .heading ≡ headed text → r .item ≡ itemOf text → r ≡ record { empty = eqb (length text) 0; heading = headed text; item = itemOf text }
+    parts : (r : LineRead) → r .empty ≡ eqb (length text) 0 → r .heading ≡ headed text → r .item ≡ itemOf text
+        → r ≡ record { empty = eqb (length text) 0; heading = headed text; item = itemOf text }
     parts r a b c = rw (← a, ← b, ← c) refl
 
 module _ (l : LongLine) (n : ℕ) (e : take n (l .bytes) ≡ take (l .length) (l .bytes)) where
   -- a line with a byte past the first 255 that is no blank is not empty, is headed by its held bytes, and gives no row
-  pub held-over : l .over ≡ true → (heading : Bool) (item : ItemRead) → heading ≡ headed (take n (l .bytes)) → item ≡ noItem → record { empty = false; heading = heading; item = item } ≡ heldRead l
+  pub held-over : l .over ≡ true → (heading : Bool) (item : ItemRead) → heading ≡ headed (take n (l .bytes)) → item ≡ noItem
+      → record { empty = false; heading = heading; item = item } ≡ heldRead l
   unfolding heldRead
   held-over o heading item h i = rw (o, h, i, e) refl
 

@@ -15,7 +15,8 @@ use Rattle.questions.proofs.Bools.{lt-or-ge, or-either, clash}
 use Rattle.delivery_lines.specs.NoticeLines.{blank, trimmed}
 use Rattle.delivery_lines.proofs.Trimming.{trimmed-blank, trimmed-solid}
 use Rattle.delivery_items.specs.declared.LongLine.{LongLine}
-use Rattle.delivery_items.specs.Items.{separator, fieldsFrom, unquoted, rawField, fieldAt, noItem, itemOf, isProductWord, headed, lineRead, emptyLong, lengthened, fedLong, heldRead}
+use Rattle.delivery_items.specs.Items.{separator, fieldsFrom, unquoted, rawField, fieldAt, noItem, itemOf, isProductWord, headed, lineRead, emptyLong}
+use Rattle.delivery_items.specs.Items.{lengthened, fedLong, heldRead}
 
 -- what a line holds that was fed some bytes
 pub record Holds (l : LongLine) (line : List ℕ) : Type 0 where
@@ -60,7 +61,8 @@ module _ (l : LongLine) (line : List ℕ) (byte : ℕ) (h : Holds l line) where
       (record {
         room = length-set (l .bytes) (l .length) byte ∙ h .room;
         few = omega arith;
-        bytes = ap (λ (k : ℕ). take k (set (l .bytes) (l .length) byte)) (add-one (l .length)) ∙ take-suc-set (l .bytes) (l .length) byte (omega (arith, h .room)) ∙ ap (λ (x : List ℕ). x ++ (byte ∷ [])) (h .bytes ∙ w) ∙ sym v;
+        bytes = ap (λ (k : ℕ). take k (set (l .bytes) (l .length) byte)) (add-one (l .length)) ∙
+            take-suc-set (l .bytes) (l .length) byte (omega (arith, h .room)) ∙ ap (λ (x : List ℕ). x ++ (byte ∷ [])) (h .bytes ∙ w) ∙ sym v;
         count = λ q. omega (arith, n, long);
         full = λ q. omega (arith, n, long);
         whole = λ q. ap trimmed v;
@@ -89,10 +91,12 @@ module _ (l : LongLine) (line : List ℕ) (byte : ℕ) (h : Holds l line) where
       or-not true b q = clash refl q
       or-not false b q = (refl, q)
 
-      still : (l .over ≡ false) × (not (blank byte) ≡ false) → take 255 (line ++ (byte ∷ [])) ≡ take 255 line → trimmed (take 255 (line ++ (byte ∷ []))) ≡ trimmed (line ++ (byte ∷ []))
+      still : (l .over ≡ false) × (not (blank byte) ≡ false) → take 255 (line ++ (byte ∷ [])) ≡ take 255 line
+          → trimmed (take 255 (line ++ (byte ∷ []))) ≡ trimmed (line ++ (byte ∷ []))
       still (o, b) v = ap trimmed v ∙ h .whole o ∙ sym (trimmed-blank line byte (not-false (blank byte) b))
 
-      by-blank : (c : Bool) → blank byte ≡ c → l .over ≡ true → 255 ≤ length line → (255 < length (trimmed (line ++ (byte ∷ [])))) × (take 255 (trimmed (line ++ (byte ∷ []))) ≡ take 255 line)
+      by-blank : (c : Bool) → blank byte ≡ c → l .over ≡ true → 255 ≤ length line
+          → (255 < length (trimmed (line ++ (byte ∷ [])))) × (take 255 (trimmed (line ++ (byte ∷ []))) ≡ take 255 line)
       by-blank true b o f = let e = trimmed-blank line byte b in (rw e (h .past o .0), rw e (h .past o .1))
       by-blank false b o f =
           let e = trimmed-solid line byte b in
@@ -179,9 +183,11 @@ headed-is line = ap (λ (f : List ℕ). isProductWord (unquoted f)) (first-field
 
 -- whether a line is headed is told by its first 255 bytes
 pub headed-taken : (line : List ℕ) → headed (take 255 line) ≡ headed line
-headed-taken line = headed-is (take 255 line) ∙ ap (λ (f : List ℕ). isProductWord (unquoted f)) (first-taken 255 line) ∙ go (lt-or-ge 255 (length (firstOf line))) ∙ sym (headed-is line)
+headed-taken line = headed-is (take 255 line) ∙ ap (λ (f : List ℕ). isProductWord (unquoted f)) (first-taken 255 line) ∙
+    go (lt-or-ge 255 (length (firstOf line))) ∙ sym (headed-is line)
   where
-    go : (255 < length (firstOf line)) ⊎ (length (firstOf line) ≤ 255) → isProductWord (unquoted (take 255 (firstOf line))) ≡ isProductWord (unquoted (firstOf line))
+    go : (255 < length (firstOf line)) ⊎ (length (firstOf line) ≤ 255)
+        → isProductWord (unquoted (take 255 (firstOf line))) ≡ isProductWord (unquoted (firstOf line))
     go (inl h) = no-word (take 255 (firstOf line)) (omega (arith, length-take 255 (firstOf line))) ∙ sym (no-word (firstOf line) (omega arith))
     go (inr h) = ap (λ (f : List ℕ). isProductWord (unquoted f)) (take-all 255 (firstOf line) h)
 
@@ -201,10 +207,12 @@ held-is : (l : LongLine) (line : List ℕ) → Holds l line → heldRead l ≡ l
 unfolding heldRead
 held-is l line h = go (l .over) refl
   where
-    go : (b : Bool) → l .over ≡ b → cond b (record { empty = false; heading = headed (take (l .length) (l .bytes)); item = noItem }) (lineRead (take (l .length) (l .bytes))) ≡ lineRead line
+    go : (b : Bool) → l .over ≡ b → cond b (record { empty = false; heading = headed (take (l .length) (l .bytes)); item = noItem })
+        (lineRead (take (l .length) (l .bytes))) ≡ lineRead line
     go true o =
         let p = h .past o in
-        ap (λ (b : Bool). record { empty = false; heading = b; item = noItem }) (ap headed (h .bytes ∙ sym (p .1)) ∙ headed-taken (trimmed line)) ∙ sym (long-read line (p .0))
+        ap (λ (b : Bool). record { empty = false; heading = b; item = noItem }) (ap headed (h .bytes ∙ sym (p .1)) ∙ headed-taken (trimmed line)) ∙
+        sym (long-read line (p .0))
     go false o = ap lineRead (h .bytes) ∙ same-read (take 255 line) line (h .whole o)
 
 -- a line of any length, fed byte by byte to an empty line, says what the definition says

@@ -93,7 +93,8 @@ fullItem item number back =
 unfoldable pub fieldsItem : List ℕ → ItemRead
 fieldsItem text =
     cond (eqb (length (fieldsOf text)) 3) (shortItem (fieldAt text 0) (fieldAt text 1) (fieldAt text 2))
-    (cond (eqb (length (fieldsOf text)) 5) (fullItem (shortItem (fieldAt text 0) (fieldAt text 2) (fieldAt text 3)) (wordNumber (fieldAt text 1) 65535) (wordNumber (fieldAt text 4) 65535))
+    (cond (eqb (length (fieldsOf text)) 5) (fullItem (shortItem (fieldAt text 0) (fieldAt text 2) (fieldAt text 3)) (wordNumber (fieldAt text 1) 65535)
+    (wordNumber (fieldAt text 4) 65535))
     noItem)
 
 -- the row of a line without the blanks at its end; bad is a line of 'more than 255 bytes'

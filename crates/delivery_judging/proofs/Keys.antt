@@ -31,7 +31,8 @@ module _ (kind : Kind) (id : List ℕ) (listed : List Maturity) (rows : List Del
   -- what was written up to a key, and what is left
   pub record Going (so-far : Sent) (lines from : ℕ) : Type 0 where
     -- what was written and the lines of the keys from here on have the length of all lines, modulo 2^64, where standard output took them
-    pub text : so-far .open ≡ true → (s .open ≡ true) × ((so-far .bytes + length (reportFrom kind id listed rows from)) % 2 ^ 64 ≡ (s .bytes + length (reportFrom kind id listed rows 0)) % 2 ^ 64)
+    pub text : so-far .open ≡ true → (s .open ≡ true)
+        × ((so-far .bytes + length (reportFrom kind id listed rows from)) % 2 ^ 64 ≡ (s .bytes + length (reportFrom kind id listed rows 0)) % 2 ^ 64)
     -- the lines counted and the keys that differ from here on are all keys that differ
     pub counted : lines + length (differingFrom listed rows from) ≡ length (differingFrom listed rows 0)
     -- the next key is at most 65,536

@@ -26,7 +26,8 @@ use Rattle.delivery_judging.specs.Judging.{KeysOut, Listed, Held, PlaceO
 use Rattle.delivery_judging.proofs.Keys.{keys-few}
 
 -- a buffer of 6,554 bytes has room for the refusals
-pub listed-is : (opening : List ℕ → ℕ → Outcome) (f : List ℕ) (p date count : ℕ) (calls ids refusals refusals′ : List ℕ) (r : PlaceListed) → length refusals ≡ 6554
+pub listed-is : (opening : List ℕ → ℕ → Outcome) (f : List ℕ) (p date count : ℕ) (calls ids refusals refusals′ : List ℕ) (r : PlaceListed)
+    → length refusals ≡ 6554
     → ListedIn opening f p date count calls ids refusals refusals′ r → Listed opening f p date count calls ids r
 listed-is opening f p date count calls ids refusals refusals′ r n x =
     record {
@@ -68,8 +69,10 @@ module _ (opening : List ℕ → ℕ → Outcome) (f : List ℕ) (date count : �
       }
 
   -- a place that holds one
-  module _ (y : l .holds ≡ true) (before after : List ℕ) (b : length before ≡ places) (size : ℕ) (q : PlacesIn (l .id) (a .ids) rows before after size) (r : Printed)
-      (k : KeysOut (l .kind) (l .id) (take (l .listed) (l .maturities)) (rowsAt (a .keys) (a .days) (a .fulls) (a .numbers) (a .backs) (take size after)) s r) where
+  module _ (y : l .holds ≡ true) (before after : List ℕ) (b : length before ≡ places) (size : ℕ) (q : PlacesIn (l .id) (a .ids) rows before after size)
+      (r : Printed)
+      (k : KeysOut (l .kind) (l .id) (take (l .listed) (l .maturities))
+      (rowsAt (a .keys) (a .days) (a .fulls) (a .numbers) (a .backs) (take size after)) s r) where
     module _ (t : Told) (h : Held date count calls ids rows places t) where
       own : rowsAt (a .keys) (a .days) (a .fulls) (a .numbers) (a .backs) (take size after) ≡ rowsFor (idAt f p) (receivedTo a rows)
       own =
@@ -82,7 +85,8 @@ module _ (opening : List ℕ → ℕ → Outcome) (f : List ℕ) (date count : �
       there : isRecord f p ≡ true
       there = sym (x .holds (h .few)) ∙ y
 
-      text-is : reportFrom (l .kind) (l .id) (take (l .listed) (l .maturities)) (rowsAt (a .keys) (a .days) (a .fulls) (a .numbers) (a .backs) (take size after)) 0
+      text-is : reportFrom (l .kind) (l .id) (take (l .listed) (l .maturities))
+          (rowsAt (a .keys) (a .days) (a .fulls) (a .numbers) (a .backs) (take size after)) 0
           ≡ placeText opening f t (receivedTo a rows) p
       text-is = rw (own, listed, x .kind, x .id) (sym (all-text opening f t (receivedTo a rows) p there))
 
@@ -96,7 +100,12 @@ module _ (opening : List ℕ → ℕ → Outcome) (f : List ℕ) (date count : �
         record {
           text = λ t h o. (k .text o .0, omega (arith, k .text o .1, ap length (text-is t h)));
           lines = λ t h. k .lines ∙ ap length (keys-are t h);
-          few = omega (arith, k .lines, keys-few (take (l .listed) (l .maturities)) (rowsAt (a .keys) (a .days) (a .fulls) (a .numbers) (a .backs) (take size after)) 65536 0);
+          few = omega (
+            arith,
+            k .lines,
+            keys-few (take (l .listed) (l .maturities))
+                (rowsAt (a .keys) (a .days) (a .fulls) (a .numbers) (a .backs) (take size after)) 65536 0,
+          );
         }
 
 -- ---- place after place
@@ -145,10 +154,12 @@ module _ (opening : List ℕ → ℕ → Outcome) (f : List ℕ) (date count : �
       }
 
   -- what is said of the first p places is said of the first n where p is n
-  pub places-at : (p n : ℕ) → p ≡ n → (r : Printed) → PlacesOut opening f date count calls ids a rows places p s r → PlacesOut opening f date count calls ids a rows places n s r
+  pub places-at : (p n : ℕ) → p ≡ n → (r : Printed) → PlacesOut opening f date count calls ids a rows places p s r
+      → PlacesOut opening f date count calls ids a rows places n s r
   places-at p n e r x = rw (← e) x
 
 -- what is said of a place with room for m row places is said with room for n where m is n
-pub place-at : (opening : List ℕ → ℕ → Outcome) (f : List ℕ) (date count : ℕ) (calls ids : List ℕ) (a : Lists) (rows m n : ℕ) → m ≡ n → (p : ℕ) (s : Sent) (r : Printed)
+pub place-at : (opening : List ℕ → ℕ → Outcome) (f : List ℕ) (date count : ℕ) (calls ids : List ℕ) (a : Lists) (rows m n : ℕ) → m ≡ n
+    → (p : ℕ) (s : Sent) (r : Printed)
     → PlaceOut opening f date count calls ids a rows m p s r → PlaceOut opening f date count calls ids a rows n p s r
 place-at opening f date count calls ids a rows m n e p s r x = rw (← e) x

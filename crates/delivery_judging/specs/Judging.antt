@@ -49,13 +49,15 @@ pub record Held (date count : ℕ) (calls ids : List ℕ) (rows places : ℕ) (t
   pub notices : noticesTo calls ids count ≡ map noticeHeld (t .notices)
 
 -- the lines of the product at a place
-pub record PlaceOut (opening : List ℕ → ℕ → Outcome) (f : List ℕ) (date count : ℕ) (calls ids : List ℕ) (a : Lists) (rows places p : ℕ) (s : Sent) (r : Printed) : Type 0 where
+pub record PlaceOut (opening : List ℕ → ℕ → Outcome) (f : List ℕ) (date count : ℕ) (calls ids : List ℕ) (a : Lists) (rows places p : ℕ) (s : Sent)
+    (r : Printed) : Type 0 where
   pub text : (t : Told) → Held date count calls ids rows places t → Wrote s (length (placeText opening f t (receivedTo a rows) p)) (r .sent)
   pub lines : (t : Told) → Held date count calls ids rows places t → r .lines ≡ length (keysAt opening f t (receivedTo a rows) p)
   pub few : r .lines ≤ 65536
 
 -- the lines of the products at the first n places
-pub record PlacesOut (opening : List ℕ → ℕ → Outcome) (f : List ℕ) (date count : ℕ) (calls ids : List ℕ) (a : Lists) (rows places n : ℕ) (s : Sent) (r : Printed) : Type 0 where
+pub record PlacesOut (opening : List ℕ → ℕ → Outcome) (f : List ℕ) (date count : ℕ) (calls ids : List ℕ) (a : Lists) (rows places n : ℕ) (s : Sent)
+    (r : Printed) : Type 0 where
   pub text : (t : Told) → Held date count calls ids rows places t → Wrote s (length (partsText (placeText opening f t (receivedTo a rows)) n)) (r .sent)
   pub lines : (t : Told) → Held date count calls ids rows places t → r .lines ≡ sumTo (λ p. length (keysAt opening f t (receivedTo a rows) p)) n
   pub few : r .lines ≤ 65536 * n

@@ -14,7 +14,8 @@ use Rattle.session_lines.specs.declared.Command.{Command}
 use Rattle.file_text_lines.specs.declared.NumberRead.{NumberRead}
 use Rattle.file_text_lines.specs.Entries.{wordAt, letterForm, idBytes}
 use Rattle.confirm_lines.specs.ListingLines.{dateIn}
-use Rattle.delivery_lines.specs.NoticeLines.{isId, dateLetter, daySaid, measureWords, measureSaid, wordsSaid, trimmedSaid, numberHeld, priceHeld, dayLineHeld, lineHeld}
+use Rattle.delivery_lines.specs.NoticeLines.{isId, dateLetter, daySaid, measureWords, measureSaid, wordsSaid, trimmedSaid, numberHeld, priceHeld}
+use Rattle.delivery_lines.specs.NoticeLines.{dayLineHeld, lineHeld}
 use Rattle.delivery_lines.proofs.NoticeValues.{number-there, number-value, priced, price-value}
 
 -- an id
@@ -64,7 +65,8 @@ module _ (letter : ℕ) (date : Command) where
     pub day-is : dateLetter letter ≡ true → dayLineHeld letter (date .day) ≡ lineHeld (daySaid letter date)
     day-is f = go (eqb letter 79) (eqb letter 82) (eqb letter 67) (eqb letter 69) refl refl refl refl f
       where
-        go : (o r c q : Bool) → eqb letter 79 ≡ o → eqb letter 82 ≡ r → eqb letter 67 ≡ c → eqb letter 69 ≡ q → (o || (r || (c || q))) ≡ true → dayLineHeld letter (date .day) ≡ lineHeld (daySaid letter date)
+        go : (o r c q : Bool) → eqb letter 79 ≡ o → eqb letter 82 ≡ r → eqb letter 67 ≡ c → eqb letter 69 ≡ q → (o || (r || (c || q))) ≡ true
+            → dayLineHeld letter (date .day) ≡ lineHeld (daySaid letter date)
         go true r c q eo er ec eq h = day-o eo
         go false true c q eo er ec eq h = day-r eo er
         go false false true q eo er ec eq h = day-c eo er ec
@@ -75,7 +77,8 @@ module _ (letter : ℕ) (date : Command) where
     pub day-letterless : dateLetter letter ≡ false → dayLineHeld 0 0 ≡ lineHeld (daySaid letter date)
     day-letterless f = go (eqb letter 79) (eqb letter 82) (eqb letter 67) (eqb letter 69) refl refl refl refl f
       where
-        go : (o r c q : Bool) → eqb letter 79 ≡ o → eqb letter 82 ≡ r → eqb letter 67 ≡ c → eqb letter 69 ≡ q → (o || (r || (c || q))) ≡ false → dayLineHeld 0 0 ≡ lineHeld (daySaid letter date)
+        go : (o r c q : Bool) → eqb letter 79 ≡ o → eqb letter 82 ≡ r → eqb letter 67 ≡ c → eqb letter 69 ≡ q → (o || (r || (c || q))) ≡ false
+            → dayLineHeld 0 0 ≡ lineHeld (daySaid letter date)
         go true r c q eo er ec eq h = clash refl h
         go false true c q eo er ec eq h = clash refl h
         go false false true q eo er ec eq h = clash refl h
@@ -102,7 +105,8 @@ module _ (line : List ℕ) where
     pub measure-idless : isId (wordAt line 1) ≡ false → dayLineHeld 0 0 ≡ lineHeld (measureSaid line)
     measure-idless i = measure-bad (idless-words line i)
 
-    module _ (i : isId (wordAt line 1) ≡ true) (p q price : NumberRead) (e : p ≡ numberHeld (wordAt line 2)) (g : q ≡ numberHeld (wordAt line 3)) (h : price ≡ priceHeld (wordAt line 4)) where
+    module _ (i : isId (wordAt line 1) ≡ true) (p q price : NumberRead) (e : p ≡ numberHeld (wordAt line 2)) (g : q ≡ numberHeld (wordAt line 3))
+        (h : price ≡ priceHeld (wordAt line 4)) where
       words : measureWords line ≡ (p .there && (q .there && price .there))
       unfolding measureWords
       words = rw (i, number-there (wordAt line 2) p e, number-there (wordAt line 3) q g, priced (wordAt line 4) price h) refl
@@ -118,7 +122,15 @@ module _ (line : List ℕ) where
       measure-is t id b =
           let (x, rest) = both (p .there) (q .there && price .there) t in
           let (y, z) = both (q .there) (price .there) rest in
-          rw (eq-eqb (getD line 0 0) 77 m, words ∙ t, b, number-value (wordAt line 2) p e x, number-value (wordAt line 3) q g y, price-value (wordAt line 4) price h z) refl
+          rw (
+            eq-eqb (getD line 0 0) 77 m,
+            words ∙
+                t,
+            b,
+            number-value (wordAt line 2) p e x,
+            number-value (wordAt line 3) q g y,
+            price-value (wordAt line 4) price h z,
+          ) refl
 
 -- a line by its words
 module _ (line : List ℕ) where

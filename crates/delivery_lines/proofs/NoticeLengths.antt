@@ -16,7 +16,8 @@ use Rattle.session_lines.specs.declared.Command.{Command}
 use Rattle.session_lines.specs.CommandLines.{noId, moveForm, moveCommand, commandAt, commandOf}
 use Rattle.file_text_lines.specs.Entries.{wordsFrom, wordsOf, wordAt, pointed, partRead, letterForm, idBytes}
 use Rattle.confirm_lines.specs.ListingLines.{dateIn}
-use Rattle.delivery_lines.specs.NoticeLines.{blank, trimmed, allDigits, isNumber, wholeWord, isPrice, isId, daySaid, measureWords, measureSaid, wordsSaid, trimmedSaid, saidBy, lineHeld, Said, nothing, bad, opening, notice, valueOf, priceOf}
+use Rattle.delivery_lines.specs.NoticeLines.{blank, trimmed, allDigits, isNumber, wholeWord, isPrice, isId, daySaid, measureWords, measureSaid, wordsSaid}
+use Rattle.delivery_lines.specs.NoticeLines.{trimmedSaid, saidBy, lineHeld, Said, nothing, bad, opening, notice, valueOf, priceOf}
 
 -- ---- the words of a line and the spaces between them
 
@@ -39,11 +40,13 @@ words-total begun (byte ∷ rest) = go (eqb byte 32) (words-total [] rest) (word
     go : (b : Bool)
         → total (wordsFrom [] rest) + length (wordsFrom [] rest) ≡ 0 + length rest + 1
         → total (wordsFrom (begun ++ (byte ∷ [])) rest) + length (wordsFrom (begun ++ (byte ∷ [])) rest) ≡ length (begun ++ (byte ∷ [])) + length rest + 1
-        → total (cond b (begun ∷ wordsFrom [] rest) (wordsFrom (begun ++ (byte ∷ [])) rest)) + length (cond b (begun ∷ wordsFrom [] rest) (wordsFrom (begun ++ (byte ∷ [])) rest)) ≡ length begun + length (byte ∷ rest) + 1
+        → total (cond b (begun ∷ wordsFrom [] rest) (wordsFrom (begun ++ (byte ∷ [])) rest)) + length
+        (cond b (begun ∷ wordsFrom [] rest) (wordsFrom (begun ++ (byte ∷ [])) rest)) ≡ length begun + length (byte ∷ rest) + 1
     go true e f = omega (arith, e, total-more begun (wordsFrom [] rest))
     go false e f = omega (arith, f, n)
 
-five-total : (ws : List (List ℕ)) → length ws ≡ 5 → length (getD ws 0 []) ≡ 1 → 1 ≤ length (getD ws 1 []) → 1 ≤ length (getD ws 2 []) → 1 ≤ length (getD ws 3 []) → 1 ≤ length (getD ws 4 []) → 5 ≤ total ws
+five-total : (ws : List (List ℕ)) → length ws ≡ 5 → length (getD ws 0 []) ≡ 1 → 1 ≤ length (getD ws 1 []) → 1 ≤ length (getD ws 2 [])
+    → 1 ≤ length (getD ws 3 []) → 1 ≤ length (getD ws 4 []) → 5 ≤ total ws
 unfolding total
 five-total (v ∷ w ∷ x ∷ y ∷ z ∷ []) n a b c d e = omega arith
 five-total (v ∷ w ∷ x ∷ y ∷ z ∷ u ∷ us) n a b c d e = absurd (omega arith)
@@ -136,7 +139,8 @@ module _ (line : List ℕ) where
       let (i, rest) = both (isId (wordAt line 1)) (isNumber (wordAt line 2) && (isNumber (wordAt line 3) && isPrice (wordAt line 4))) m in
       let (a, rest′) = both (isNumber (wordAt line 2)) (isNumber (wordAt line 3) && isPrice (wordAt line 4)) rest in
       let (b, c) = both (isNumber (wordAt line 3)) (isPrice (wordAt line 4)) rest′ in
-      let t : 5 ≤ total (wordsOf line) = five-total (wordsOf line) (p .0) (p .1) (id-long (wordAt line 1) i) (number-long (wordAt line 2) a) (number-long (wordAt line 3) b) (price-long (wordAt line 4) c) in
+      let t : 5 ≤ total (wordsOf line) = five-total (wordsOf line) (p .0) (p .1) (id-long (wordAt line 1) i) (number-long (wordAt line 2) a)
+      (number-long (wordAt line 3) b) (price-long (wordAt line 4) c) in
       omega (arith, line-total, p .0, t)
 
   -- a day that is bad has no letter
@@ -169,7 +173,8 @@ module _ (line : List ℕ) where
   unfolding trimmedSaid
   trimmed-long c n = go (eqb (length line) 0 || eqb (getD line 0 0) 35) c n
     where
-      go : (b : Bool) → (lineHeld (cond b nothing (wordsSaid line)) .letter ≡ 35 → ⊥) → (lineHeld (cond b nothing (wordsSaid line)) .letter ≡ 0 → ⊥) → 9 ≤ length line
+      go : (b : Bool) → (lineHeld (cond b nothing (wordsSaid line)) .letter ≡ 35 → ⊥) → (lineHeld (cond b nothing (wordsSaid line)) .letter ≡ 0 → ⊥)
+          → 9 ≤ length line
       go true m k = absurd (m nothing-letter)
       go false m k = words-long k
 

@@ -114,7 +114,8 @@ module _ (word : List ℕ) where
       rw (e, drop-length word) refl
 
   -- a word of one or more digits is a number, with its held value
-  pub number-is : (value : ℕ) → (length word ≡ 0 → ⊥) → allDigits word ≡ true → value ≡ held (valueOf word) → record { there = true; value = value } ≡ numberHeld word
+  pub number-is : (value : ℕ) → (length word ≡ 0 → ⊥) → allDigits word ≡ true → value ≡ held (valueOf word)
+      → record { there = true; value = value } ≡ numberHeld word
   unfolding numberHeld isNumber
   number-is value n d e = rw (le-leb 1 (length word) (omega arith), d, ← e) refl
 

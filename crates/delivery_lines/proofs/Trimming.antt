@@ -49,7 +49,8 @@ unfolding endsBlank
 ends-positive line n e = ltb-true 0 n (both (ltb 0 n) (blank (getD line (n - 1) 0)) e .0)
 
 -- leaving out a blank at the end does not change the trimmed line
-pub trim-more : (line : List ℕ) (n : ℕ) → n ≤ length line → endsBlank line n ≡ true → trimmed (take n line) ≡ trimmed line → trimmed (take (n - 1) line) ≡ trimmed line
+pub trim-more : (line : List ℕ) (n : ℕ) → n ≤ length line → endsBlank line n ≡ true → trimmed (take n line) ≡ trimmed line
+    → trimmed (take (n - 1) line) ≡ trimmed line
 unfolding endsBlank
 trim-more line n l e t =
     let (p, b) = both (ltb 0 n) (blank (getD line (n - 1) 0)) e in

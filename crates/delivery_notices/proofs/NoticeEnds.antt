@@ -51,7 +51,8 @@ module _ (text : List ℕ) (from r : ℕ) (f : from < length text) (s : ByteFrom
   last : length text ≤ r → linesFrom [] (drop from text) ≡ take (r - from) (drop from text) ∷ linesFrom [] (drop (r + 1) text)
   unfolding linesFrom
   last h =
-      let e : length (take (r - from) (drop from text)) ≡ r - from = length-take-le (r - from) (drop from text) (omega (arith, length-drop from text, s .within)) in
+      let e : length (take (r - from) (drop from text)) ≡ r - from =
+      length-take-le (r - from) (drop from text) (omega (arith, length-drop from text, s .within)) in
       passed ∙ rw (past r text h, past (r + 1) text (omega arith), ne-eqb (length (take (r - from) (drop from text))) 0 (λ z. omega arith)) refl
 
   -- the line that begins at a place inside the text, and the lines after it

@@ -29,11 +29,14 @@ after-no : (told : Told) (said : Said) → (told .bad ≡ 0 → ⊥) → {x : To
 unfolding nextTold
 after-no told said n q = rw (ne-eqb (told .bad) 0 n) q
 
-cut-is : (t : NoticesTaken) (calls ids : List ℕ) (told : Told) → toldIn t calls ids ≡ toldHeld told → toldIn (badTaken t) calls ids ≡ toldHeld (saidTold told bad)
+cut-is : (t : NoticesTaken) (calls ids : List ℕ) (told : Told) → toldIn t calls ids ≡ toldHeld told
+    → toldIn (badTaken t) calls ids ≡ toldHeld (saidTold told bad)
 unfolding saidTold badTold
 cut-is t calls ids told q = ap badTold q
 
-said-id : (line : List ℕ) → lineHeld (saidBy line) .id ≡ getD (lineHeld (saidBy line) .id) 0 0 ∷ getD (lineHeld (saidBy line) .id) 1 0 ∷ getD (lineHeld (saidBy line) .id) 2 0 ∷ getD (lineHeld (saidBy line) .id) 3 0 ∷ []
+said-id : (line : List ℕ) → lineHeld (saidBy line) .id
+    ≡ getD (lineHeld (saidBy line) .id) 0 0 ∷ getD (lineHeld (saidBy line) .id) 1 0 ∷ getD (lineHeld (saidBy line) .id) 2 0
+    ∷ getD (lineHeld (saidBy line) .id) 3 0 ∷ []
 unfolding fourOf
 said-id line = said-four line
 
@@ -63,7 +66,8 @@ held-notice (reopen d) id line n e f = let g = rw e at f in rw e (rw (← g) ref
 held-notice (measure p q price) id line n e f = let g = rw e at f in rw e (rw (← g) refl)
 
 -- the letters of calls
-call-letter : (c : Call) (id : List ℕ) → (lineHeld (notice c id) .letter ≡ 35 → ⊥) × (lineHeld (notice c id) .letter ≡ 0 → ⊥) × (lineHeld (notice c id) .letter ≡ 79 → ⊥)
+call-letter : (c : Call) (id : List ℕ) → (lineHeld (notice c id) .letter ≡ 35 → ⊥) × (lineHeld (notice c id) .letter ≡ 0 → ⊥)
+    × (lineHeld (notice c id) .letter ≡ 79 → ⊥)
 unfolding lineHeld
 call-letter (roll d) id = (λ e. omega arith, λ e. omega arith, λ e. omega arith)
 call-letter (close d) id = (λ e. omega arith, λ e. omega arith, λ e. omega arith)
@@ -98,7 +102,8 @@ module _ (t : NoticesTaken) (n : NoticeLine) (calls ids : List ℕ) (z : t .bad 
     lines-same : t .lines ≡ told .lines
     lines-same = ap (λ (x : Told). x .lines) q
 
-    after-good : record { opened = t .opened; date = t .date; notices = noticesTo calls ids (t .count); lines = t .lines + 1; bad = t .bad } ≡ toldHeld (saidTold told nothing)
+    after-good : record { opened = t .opened; date = t .date; notices = noticesTo calls ids (t .count); lines = t .lines + 1; bad = t .bad }
+        ≡ toldHeld (saidTold told nothing)
     unfolding saidTold
     after-good = rw z (ap (λ (x : Told). goodTold x (x .opened) (x .date) (x .notices)) q)
 
@@ -111,18 +116,29 @@ module _ (t : NoticesTaken) (n : NoticeLine) (calls ids : List ℕ) (z : t .bad 
     after-cut = after-bad
 
   comment-told : n .letter ≡ 35 → (told : Told) (said : Said) → n ≡ lineHeld said → toldIn t calls ids ≡ toldHeld told
-      → record { opened = t .opened; date = t .date; notices = noticesTo calls ids (t .count); lines = t .lines + 1; bad = t .bad } ≡ toldHeld (saidTold told said)
+      → record { opened = t .opened; date = t .date; notices = noticesTo calls ids (t .count); lines = t .lines + 1; bad = t .bad }
+      ≡ toldHeld (saidTold told said)
   comment-told l told nothing e q = after-good told q
   comment-told l told bad e q = absurd (omega (arith, ap (λ (m : NoticeLine). m .letter) e, letter-bad))
   comment-told l told (opening d) e q = absurd (omega (arith, ap (λ (m : NoticeLine). m .letter) e, letter-opening d))
   comment-told l told (notice c id) e q = absurd (call-letter c id .0 (sym (ap (λ (m : NoticeLine). m .letter) e) ∙ l))
 
   -- a line that says nothing counts as a line and changes nothing else
-  pub said-comment : n .letter ≡ 35 → SaidIn t n calls calls ids ids (record { fits = t .fits; opened = t .opened; date = t .date; count = t .count; lines = t .lines + 1; bad = t .bad })
-  said-comment l = record { is = λ told said e f q. comment-told l told said e q; grows = inl refl; lines = refl; fits = refl; calls-long = refl; ids-long = refl }
+  pub said-comment : n .letter ≡ 35 → SaidIn t n calls calls ids ids
+      (record { fits = t .fits; opened = t .opened; date = t .date; count = t .count; lines = t .lines + 1; bad = t .bad })
+  said-comment l = record {
+    is = λ told said e f q. comment-told l told said e q;
+    grows = inl refl;
+    lines = refl;
+    fits = refl;
+    calls-long = refl;
+    ids-long =
+        refl;
+  }
 
   module _ (c : n .letter ≡ 35 → ⊥) where
-    bad-told : n .letter ≡ 0 → (told : Told) (said : Said) → n ≡ lineHeld said → toldIn t calls ids ≡ toldHeld told → toldIn (badTaken t) calls ids ≡ toldHeld (saidTold told said)
+    bad-told : n .letter ≡ 0 → (told : Told) (said : Said) → n ≡ lineHeld said → toldIn t calls ids ≡ toldHeld told
+        → toldIn (badTaken t) calls ids ≡ toldHeld (saidTold told said)
     bad-told l told nothing e q = absurd (omega (arith, ap (λ (m : NoticeLine). m .letter) e, letter-nothing))
     bad-told l told bad e q = after-cut told q
     bad-told l told (opening d) e q = absurd (omega (arith, ap (λ (m : NoticeLine). m .letter) e, letter-opening d))
@@ -134,13 +150,15 @@ module _ (t : NoticesTaken) (n : NoticeLine) (calls ids : List ℕ) (z : t .bad 
 
     module _ (b : n .letter ≡ 0 → ⊥) where
       -- a line that may not stand there
-      opening-strayed : mayStand 79 (t .opened) ≡ false → (told : Told) (d : ℕ) → toldIn t calls ids ≡ toldHeld told → toldIn (badTaken t) calls ids ≡ toldHeld (saidTold told (opening d))
+      opening-strayed : mayStand 79 (t .opened) ≡ false → (told : Told) (d : ℕ) → toldIn t calls ids ≡ toldHeld told
+          → toldIn (badTaken t) calls ids ≡ toldHeld (saidTold told (opening d))
       unfolding saidTold
       opening-strayed m told d q =
           let e : eqb (told .opened) 0 ≡ false = rw (opened-same told q) at m in
           rw e (after-bad told q)
 
-      notice-strayed : (letter : ℕ) → (letter ≡ 79 → ⊥) → mayStand letter (t .opened) ≡ false → (told : Told) (k : Call) (id : List ℕ) → toldIn t calls ids ≡ toldHeld told
+      notice-strayed : (letter : ℕ) → (letter ≡ 79 → ⊥) → mayStand letter (t .opened) ≡ false → (told : Told) (k : Call) (id : List ℕ)
+          → toldIn t calls ids ≡ toldHeld told
           → toldIn (badTaken t) calls ids ≡ toldHeld (saidTold told (notice k id))
       unfolding saidTold
       notice-strayed letter o m told k id q =
@@ -157,47 +175,72 @@ module _ (t : NoticesTaken) (n : NoticeLine) (calls ids : List ℕ) (z : t .bad 
 
       -- a line that may not stand there, a second O or one before the O, is taken as the bad line
       pub said-strayed : mayStand (n .letter) (t .opened) ≡ false → SaidIn t n calls calls ids ids (badTaken t)
-      said-strayed m = record { is = λ told said e f q. strayed-told m told said e q; grows = inl refl; lines = refl; fits = refl; calls-long = refl; ids-long = refl }
+      said-strayed m = record {
+        is = λ told said e f q. strayed-told m told said e q;
+        grows = inl refl;
+        lines = refl;
+        fits = refl;
+        calls-long = refl;
+        ids-long =
+            refl;
+      }
 
       module _ (m : mayStand (n .letter) (t .opened) ≡ true) where
         -- the O
         opening-stands : n .letter ≡ 79 → (told : Told) (d : ℕ) → n .day ≡ d → toldIn t calls ids ≡ toldHeld told
-            → record { opened = t .lines + 1; date = n .day; notices = noticesTo calls ids (t .count); lines = t .lines + 1; bad = t .bad } ≡ toldHeld (saidTold told (opening d))
+            → record { opened = t .lines + 1; date = n .day; notices = noticesTo calls ids (t .count); lines = t .lines + 1; bad = t .bad }
+            ≡ toldHeld (saidTold told (opening d))
         unfolding saidTold
         opening-stands l told d y q =
             let e : eqb (told .opened) 0 ≡ true = rw (l, opened-same told q) at m in
             rw (e, y, z) (ap (λ (x : Told). goodTold x (x .lines + 1) d (x .notices)) q)
 
         open-told : n .letter ≡ 79 → (told : Told) (said : Said) → n ≡ lineHeld said → toldIn t calls ids ≡ toldHeld told
-            → record { opened = t .lines + 1; date = n .day; notices = noticesTo calls ids (t .count); lines = t .lines + 1; bad = t .bad } ≡ toldHeld (saidTold told said)
+            → record { opened = t .lines + 1; date = n .day; notices = noticesTo calls ids (t .count); lines = t .lines + 1; bad = t .bad }
+            ≡ toldHeld (saidTold told said)
         open-told l told nothing e q = absurd (c (ap (λ (x : NoticeLine). x .letter) e ∙ letter-nothing))
         open-told l told bad e q = absurd (b (ap (λ (x : NoticeLine). x .letter) e ∙ letter-bad))
         open-told l told (opening d) e q = opening-stands l told d (ap (λ (x : NoticeLine). x .day) e ∙ day-opening d) q
         open-told l told (notice k id) e q = absurd (call-letter k id .2 (sym (ap (λ (x : NoticeLine). x .letter) e) ∙ l))
 
         -- an O is taken with its line and its date
-        pub said-open : n .letter ≡ 79 → SaidIn t n calls calls ids ids (record { fits = t .fits; opened = t .lines + 1; date = n .day; count = t .count; lines = t .lines + 1; bad = t .bad })
-        said-open l = record { is = λ told said e f q. open-told l told said e q; grows = inl refl; lines = refl; fits = refl; calls-long = refl; ids-long = refl }
+        pub said-open : n .letter ≡ 79 → SaidIn t n calls calls ids ids
+            (record { fits = t .fits; opened = t .lines + 1; date = n .day; count = t .count; lines = t .lines + 1; bad = t .bad })
+        said-open l = record {
+          is = λ told said e f q. open-told l told said e q;
+          grows = inl refl;
+          lines = refl;
+          fits = refl;
+          calls-long = refl;
+          ids-long =
+              refl;
+        }
 
         -- a call
         module _ (o : n .letter ≡ 79 → ⊥) (calls′ ids′ : List ℕ) (s : StoredIn (t .lines + 1) n (t .count) calls calls′ ids ids′) where
-          notice-stands : (told : Told) (k : Call) (id : List ℕ) → lineNotice (t .lines + 1) n ≡ noticeHeld (record { line = t .lines + 1; call = k; id = id }) → toldIn t calls ids ≡ toldHeld told
-              → record { opened = t .opened; date = t .date; notices = noticesTo calls′ ids′ (t .count + 1); lines = t .lines + 1; bad = t .bad } ≡ toldHeld (saidTold told (notice k id))
+          notice-stands : (told : Told) (k : Call) (id : List ℕ) → lineNotice (t .lines + 1) n ≡ noticeHeld (record { line = t .lines + 1; call = k; id = id })
+              → toldIn t calls ids ≡ toldHeld told
+              → record { opened = t .opened; date = t .date; notices = noticesTo calls′ ids′ (t .count + 1); lines = t .lines + 1; bad = t .bad }
+              ≡ toldHeld (saidTold told (notice k id))
           unfolding saidTold
           notice-stands told k id h q =
               let e : eqb (told .opened) 0 ≡ false = not-true (eqb (told .opened) 0) (rw (ne-eqb (n .letter) 79 o, opened-same told q) at m) in
               rw (e, z, s .is, h, lines-same told q, map-snoc noticeHeld (told .notices) (record { line = told .lines + 1; call = k; id = id }))
-              (ap (λ (x : Told). goodTold (record { opened = x .opened; date = x .date; notices = x .notices; lines = told .lines; bad = 0 }) (x .opened) (x .date) (x .notices ++ (noticeHeld (record { line = told .lines + 1; call = k; id = id }) ∷ []))) q)
+              (ap (λ (x : Told). goodTold (record { opened = x .opened; date = x .date; notices = x .notices; lines = told .lines; bad = 0 }) (x .opened)
+              (x .date) (x .notices ++ (noticeHeld (record { line = told .lines + 1; call = k; id = id }) ∷ []))) q)
 
-          call-told : (told : Told) (said : Said) → n ≡ lineHeld said → n .id ≡ getD (n .id) 0 0 ∷ getD (n .id) 1 0 ∷ getD (n .id) 2 0 ∷ getD (n .id) 3 0 ∷ [] → toldIn t calls ids ≡ toldHeld told
-              → record { opened = t .opened; date = t .date; notices = noticesTo calls′ ids′ (t .count + 1); lines = t .lines + 1; bad = t .bad } ≡ toldHeld (saidTold told said)
+          call-told : (told : Told) (said : Said) → n ≡ lineHeld said → n .id ≡ getD (n .id) 0 0 ∷ getD (n .id) 1 0 ∷ getD (n .id) 2 0 ∷ getD (n .id) 3 0 ∷ []
+              → toldIn t calls ids ≡ toldHeld told
+              → record { opened = t .opened; date = t .date; notices = noticesTo calls′ ids′ (t .count + 1); lines = t .lines + 1; bad = t .bad }
+              ≡ toldHeld (saidTold told said)
           call-told told nothing e f q = absurd (c (ap (λ (x : NoticeLine). x .letter) e ∙ letter-nothing))
           call-told told bad e f q = absurd (b (ap (λ (x : NoticeLine). x .letter) e ∙ letter-bad))
           call-told told (opening d) e f q = absurd (o (ap (λ (x : NoticeLine). x .letter) e ∙ letter-opening d))
           call-told told (notice k id) e f q = notice-stands told k id (held-notice k id (t .lines + 1) n e f) q
 
           -- a call is stored as the next notice
-          pub said-call : SaidIn t n calls calls′ ids ids′ (record { fits = t .fits; opened = t .opened; date = t .date; count = t .count + 1; lines = t .lines + 1; bad = t .bad })
+          pub said-call : SaidIn t n calls calls′ ids ids′
+              (record { fits = t .fits; opened = t .opened; date = t .date; count = t .count + 1; lines = t .lines + 1; bad = t .bad })
           said-call = record { is = call-told; grows = inr (refl, (c, b)); lines = refl; fits = refl; calls-long = s .calls-long; ids-long = s .ids-long }
 
 -- ---- a line by its bytes
@@ -230,7 +273,8 @@ module _ (t : NoticesTaken) (line : List ℕ) (calls ids : List ℕ) where
         record { is = λ told q. rw e (cut-told told q); grows = inl refl; lines = omega arith; fits = refl; calls-long = refl; ids-long = refl }
 
     -- a line that is not cut off is taken as what it says
-    pub line-said : (cut : Bool) → cut ≡ false → (n : NoticeLine) → n ≡ lineHeld (saidBy line) → (calls′ ids′ : List ℕ) (r : NoticesTaken) → SaidIn t n calls calls′ ids ids′ r
+    pub line-said : (cut : Bool) → cut ≡ false → (n : NoticeLine) → n ≡ lineHeld (saidBy line) → (calls′ ids′ : List ℕ) (r : NoticesTaken)
+        → SaidIn t n calls calls′ ids ids′ r
         → LineTaken t line cut calls calls′ ids ids′ r
     line-said cut e n h calls′ ids′ r s =
         record {
@@ -245,7 +289,8 @@ module _ (t : NoticesTaken) (line : List ℕ) (calls ids : List ℕ) where
         four : n .id ≡ getD (n .id) 0 0 ∷ getD (n .id) 1 0 ∷ getD (n .id) 2 0 ∷ getD (n .id) 3 0 ∷ []
         four = rw h (said-id line)
 
-        go : (r .count ≡ t .count) ⊎ ((r .count ≡ t .count + 1) × ((n .letter ≡ 35 → ⊥) × (n .letter ≡ 0 → ⊥))) → (r .count ≡ t .count) ⊎ ((r .count ≡ t .count + 1) × (9 ≤ length line))
+        go : (r .count ≡ t .count) ⊎ ((r .count ≡ t .count + 1) × ((n .letter ≡ 35 → ⊥) × (n .letter ≡ 0 → ⊥)))
+            → (r .count ≡ t .count) ⊎ ((r .count ≡ t .count + 1) × (9 ≤ length line))
         go (inl x) = inl x
         go (inr x) = inr (x .0, said-long line (n .letter) (ap (λ (m : NoticeLine). m .letter) h) (x .1 .0) (x .1 .1))
 
@@ -292,8 +337,10 @@ module _ (text : List ℕ) (long : Bool) (calls₀ ids₀ : List ℕ) where
       nothing-stands = no-notices calls₀ ids₀
 
   -- the state after one more line
-  pub goes-on : (t : NoticesTaken) (calls ids : List ℕ) (from end : ℕ) → Going text long calls₀ ids₀ t calls ids from → from < length text → ByteFrom 10 text from end
-      → (cut : Bool) → cut ≡ (long && leb (length text) (end + 1)) → (calls′ ids′ : List ℕ) (r : NoticesTaken) → LineTaken t (take (end - from) (drop from text)) cut calls calls′ ids ids′ r
+  pub goes-on : (t : NoticesTaken) (calls ids : List ℕ) (from end : ℕ) → Going text long calls₀ ids₀ t calls ids from → from < length text
+      → ByteFrom 10 text from end
+      → (cut : Bool) → cut ≡ (long && leb (length text) (end + 1)) → (calls′ ids′ : List ℕ) (r : NoticesTaken)
+      → LineTaken t (take (end - from) (drop from text)) cut calls calls′ ids ids′ r
       → Going text long calls₀ ids₀ r calls′ ids′ (end + 1)
   goes-on t calls ids from end g h l cut e calls′ ids′ r s =
       record {
@@ -311,7 +358,8 @@ module _ (text : List ℕ) (long : Bool) (calls₀ ids₀ : List ℕ) where
       line : List ℕ
       line = take (end - from) (drop from text)
 
-      one : linesTold long (g .told) (linesFrom [] (drop from text)) ≡ linesTold long (nextTold (g .told) (cond cut bad (saidBy line))) (linesFrom [] (drop (end + 1) text))
+      one : linesTold long (g .told) (linesFrom [] (drop from text))
+          ≡ linesTold long (nextTold (g .told) (cond cut bad (saidBy line))) (linesFrom [] (drop (end + 1) text))
       one =
           ap (linesTold long (g .told)) (line-more text from end h l)
           ∙ one-line long (g .told) line (linesFrom [] (drop (end + 1) text)) cut (e ∙ ap (λ (b : Bool). long && b) (is-last text (end + 1)))
@@ -363,15 +411,18 @@ module _ (t : NoticesTaken) where
     held-missing : t .opened ≡ 0 → t .bad ≡ 0 → toldIn (badTaken t) calls ids ≡ toldHeld (wholeTold told)
     unfolding wholeTold nextTold
     held-missing e z =
-        rw (eq-eqb (told .opened) 0 (sym (ap (λ (x : Told). x .opened) q) ∙ e), eq-eqb (told .bad) 0 (sym (ap (λ (x : Told). x .bad) q) ∙ z)) (cut-is t calls ids told q)
+        rw (eq-eqb (told .opened) 0 (sym (ap (λ (x : Told). x .opened) q) ∙ e), eq-eqb (told .bad) 0 (sym (ap (λ (x : Told). x .bad) q) ∙ z))
+        (cut-is t calls ids told q)
 
     whole-held : toldIn (wholeTaken t) calls ids ≡ toldHeld (wholeTold told)
     whole-held = go (eqb (t .opened) 0) refl (eqb (t .bad) 0) refl
       where
         go : (a : Bool) → eqb (t .opened) 0 ≡ a → (b : Bool) → eqb (t .bad) 0 ≡ b → toldIn (wholeTaken t) calls ids ≡ toldHeld (wholeTold told)
         go false ea b eb = rw (← whole-opened (eqb-false (t .opened) 0 ea)) (held-opened (eqb-false (t .opened) 0 ea))
-        go true ea false eb = rw (← whole-bad (eqb-true (t .opened) 0 ea) (eqb-false (t .bad) 0 eb)) (held-bad (eqb-true (t .opened) 0 ea) (eqb-false (t .bad) 0 eb))
-        go true ea true eb = rw (← whole-missing (eqb-true (t .opened) 0 ea) (eqb-true (t .bad) 0 eb)) (held-missing (eqb-true (t .opened) 0 ea) (eqb-true (t .bad) 0 eb))
+        go true ea false eb = rw (← whole-bad (eqb-true (t .opened) 0 ea) (eqb-false (t .bad) 0 eb))
+            (held-bad (eqb-true (t .opened) 0 ea) (eqb-false (t .bad) 0 eb))
+        go true ea true eb = rw (← whole-missing (eqb-true (t .opened) 0 ea) (eqb-true (t .bad) 0 eb))
+            (held-missing (eqb-true (t .opened) 0 ea) (eqb-true (t .bad) 0 eb))
 
   whole-fits : wholeTaken t .fits ≡ t .fits
   whole-fits = go (eqb (t .opened) 0) (eqb (t .bad) 0)
@@ -420,7 +471,8 @@ pub rest-few : (text : List ℕ) (n mark : ℕ) → n ≡ readLength (length tex
 rest-few text n mark e =
     omega (arith, rest-long (take n text) mark, length-take-le n text (part-few text n e), read-within (length text) .1)
 
-module _ (text calls calls′ ids ids′ : List ℕ) (n mark : ℕ) (long : Bool) (t : NoticesTaken) (e : n ≡ readLength (length text)) (m : mark ≡ markLength (take n text)) (l : long ≡ ltb 65536 (length text)) where
+module _ (text calls calls′ ids ids′ : List ℕ) (n mark : ℕ) (long : Bool) (t : NoticesTaken) (e : n ≡ readLength (length text))
+    (m : mark ≡ markLength (take n text)) (l : long ≡ ltb 65536 (length text)) where
   marked : take (length (take n text) - mark) (drop mark (take n text)) ≡ unmarked (take 65537 text)
   unfolding unmarked
   marked =
@@ -433,22 +485,26 @@ module _ (text calls calls′ ids ids′ : List ℕ) (n mark : ℕ) (long : Bool
   is-text g = rw (g, l) refl
 
   -- in lists that fit, the lines of the part read, without the mark, give what the text tells
-  pub text-read : NoticeLinesIn (take (length (take n text) - mark) (drop mark (take n text))) long calls calls′ ids ids′ t → (r : NoticesTaken) → r ≡ wholeTaken t → (b : Bool) → b ≡ listsFit (length calls) (length ids) → b ≡ true
+  pub text-read : NoticeLinesIn (take (length (take n text) - mark) (drop mark (take n text))) long calls calls′ ids ids′ t → (r : NoticesTaken)
+      → r ≡ wholeTaken t → (b : Bool) → b ≡ listsFit (length calls) (length ids) → b ≡ true
       → TextIn text calls calls′ ids ids′ r
   text-read s r w b f y =
       record {
         fits = rw (w, whole-fits t, s .fits) (sym y ∙ f);
-        is = λ z. rw w (whole-held t calls′ ids′ (linesTold long nothingTold (linesFrom [] (take (length (take n text) - mark) (drop mark (take n text))))) (s .is) ∙ said);
+        is = λ z. rw w (whole-held t calls′ ids′ (linesTold long nothingTold (linesFrom [] (take (length (take n text) - mark) (drop mark (take n text)))))
+            (s .is) ∙ said);
         idle = λ z. clash (rw (w, whole-fits t) (s .fits)) z;
         calls-long = s .calls-long;
         ids-long = s .ids-long;
       }
     where
-      said : toldHeld (wholeTold (linesTold long nothingTold (linesFrom [] (take (length (take n text) - mark) (drop mark (take n text)))))) ≡ toldHeld (textTold text)
+      said : toldHeld (wholeTold (linesTold long nothingTold (linesFrom [] (take (length (take n text) - mark) (drop mark (take n text))))))
+          ≡ toldHeld (textTold text)
       said = ap toldHeld (is-text marked)
 
 -- without room nothing is read
-pub text-idle : (text calls ids : List ℕ) (r : NoticesTaken) → r ≡ noNoticesTaken false → (b : Bool) → b ≡ listsFit (length calls) (length ids) → b ≡ false → TextIn text calls calls ids ids r
+pub text-idle : (text calls ids : List ℕ) (r : NoticesTaken) → r ≡ noNoticesTaken false → (b : Bool) → b ≡ listsFit (length calls) (length ids) → b ≡ false
+    → TextIn text calls calls ids ids r
 text-idle text calls ids r e b f n =
     record { fits = rw e (sym n ∙ f); is = λ z. clash z (rw e refl); idle = λ z. (refl, refl); calls-long = refl; ids-long = refl }
 

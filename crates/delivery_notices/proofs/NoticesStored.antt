@@ -45,7 +45,17 @@ same-notice : (calls calls′ ids ids′ : List ℕ) (i j : ℕ) → j < i
     → ((k : ℕ) → k < 5 * i → getD calls′ k 0 ≡ getD calls k 0) → ((k : ℕ) → k < 4 * i → getD ids′ k 0 ≡ getD ids k 0)
     → noticeAt calls′ ids′ j ≡ noticeAt calls ids j
 same-notice calls calls′ ids ids′ i j h c d =
-    rw (c (5 * j) (omega arith), c (5 * j + 1) (omega arith), c (5 * j + 2) (omega arith), c (5 * j + 3) (omega arith), c (5 * j + 4) (omega arith), d (4 * j) (omega arith), d (4 * j + 1) (omega arith), d (4 * j + 2) (omega arith), d (4 * j + 3) (omega arith)) refl
+    rw (
+      c (5 * j) (omega arith),
+      c (5 * j + 1) (omega arith),
+      c (5 * j + 2) (omega arith),
+      c (5 * j + 3) (omega arith),
+      c (5 * j + 4) (omega arith),
+      d (4 * j) (omega arith),
+      d (4 * j + 1) (omega arith),
+      d (4 * j + 2) (omega arith),
+      d (4 * j + 3) (omega arith),
+    ) refl
 
 same-notices : (calls calls′ ids ids′ : List ℕ) (i j : ℕ) → j ≤ i
     → ((k : ℕ) → k < 5 * i → getD calls′ k 0 ≡ getD calls k 0) → ((k : ℕ) → k < 4 * i → getD ids′ k 0 ≡ getD ids k 0)
@@ -62,7 +72,8 @@ notices-more calls ids i = rw (add-one i) refl
 module _ (line : ℕ) (n : NoticeLine) (i : ℕ) (calls calls′ ids ids′ : List ℕ) (kind first : ℕ)
     (h : 5 * i + 5 ≤ length calls) (g : 4 * i + 4 ≤ length ids) (p : kind ≡ kindIn (n .letter)) (q : first ≡ firstIn (n .letter) (n .day) (n .p))
     (x : calls′ ≡ set (set (set (set (set calls (5 * i) line) (5 * i + 1) kind) (5 * i + 2) first) (5 * i + 3) (n .q)) (5 * i + 4) (n .price))
-    (y : ids′ ≡ set (set (set (set ids (4 * i) (getD (n .id) 0 0)) (4 * i + 1) (getD (n .id) 1 0)) (4 * i + 2) (getD (n .id) 2 0)) (4 * i + 3) (getD (n .id) 3 0)) where
+    (y : ids′ ≡ set (set (set (set ids (4 * i) (getD (n .id) 0 0)) (4 * i + 1) (getD (n .id) 1 0)) (4 * i + 2) (getD (n .id) 2 0)) (4 * i + 3)
+    (getD (n .id) 3 0)) where
   abbrev four′ : List ℕ
   four′ = set (set (set (set calls (5 * i) line) (5 * i + 1) kind) (5 * i + 2) first) (5 * i + 3) (n .q)
 
@@ -83,10 +94,14 @@ module _ (line : ℕ) (n : NoticeLine) (i : ℕ) (calls calls′ ids ids′ : Li
       let c : getD calls′ (5 * i + 2) 0 ≡ first = other (5 * i + 2) (λ e. omega arith) ∙ four-2 calls (5 * i) line kind first (n .q) (omega arith) in
       let d : getD calls′ (5 * i + 3) 0 ≡ n .q = other (5 * i + 3) (λ e. omega arith) ∙ four-3 calls (5 * i) line kind first (n .q) (omega arith) in
       let e : getD calls′ (5 * i + 4) 0 ≡ n .price = rw x (getD-set-same four′ (5 * i + 4) (n .price) 0 (simp length-set (omega arith))) in
-      let s : getD ids′ (4 * i) 0 ≡ getD (n .id) 0 0 = rw y (four-0 ids (4 * i) (getD (n .id) 0 0) (getD (n .id) 1 0) (getD (n .id) 2 0) (getD (n .id) 3 0) g) in
-      let t : getD ids′ (4 * i + 1) 0 ≡ getD (n .id) 1 0 = rw y (four-1 ids (4 * i) (getD (n .id) 0 0) (getD (n .id) 1 0) (getD (n .id) 2 0) (getD (n .id) 3 0) g) in
-      let u : getD ids′ (4 * i + 2) 0 ≡ getD (n .id) 2 0 = rw y (four-2 ids (4 * i) (getD (n .id) 0 0) (getD (n .id) 1 0) (getD (n .id) 2 0) (getD (n .id) 3 0) g) in
-      let v : getD ids′ (4 * i + 3) 0 ≡ getD (n .id) 3 0 = rw y (four-3 ids (4 * i) (getD (n .id) 0 0) (getD (n .id) 1 0) (getD (n .id) 2 0) (getD (n .id) 3 0) g) in
+      let s : getD ids′ (4 * i) 0 ≡ getD (n .id) 0 0 =
+      rw y (four-0 ids (4 * i) (getD (n .id) 0 0) (getD (n .id) 1 0) (getD (n .id) 2 0) (getD (n .id) 3 0) g) in
+      let t : getD ids′ (4 * i + 1) 0 ≡ getD (n .id) 1 0 =
+      rw y (four-1 ids (4 * i) (getD (n .id) 0 0) (getD (n .id) 1 0) (getD (n .id) 2 0) (getD (n .id) 3 0) g) in
+      let u : getD ids′ (4 * i + 2) 0 ≡ getD (n .id) 2 0 =
+      rw y (four-2 ids (4 * i) (getD (n .id) 0 0) (getD (n .id) 1 0) (getD (n .id) 2 0) (getD (n .id) 3 0) g) in
+      let v : getD ids′ (4 * i + 3) 0 ≡ getD (n .id) 3 0 =
+      rw y (four-3 ids (4 * i) (getD (n .id) 0 0) (getD (n .id) 1 0) (getD (n .id) 2 0) (getD (n .id) 3 0) g) in
       rw (a, b, c, d, e, s, t, u, v, p, q) refl
 
   -- the five numbers and the four bytes stored at a place are the line's notice, those before it unchanged

@@ -174,7 +174,8 @@ module _ (f : List ℕ) (date : ℕ) (ns : List Notice) (p : ℕ) (a : firstNo (
       t = tableAfter f (idAt f p) date ns
 
       go : (b : Bool)
-          → rowsFor (idAt f p) (received (cond b (map (deliveryRow (idAt f p) (t .product .kind)) (listedIn t)) [])) ≡ cond b (map (ownRow true) (listedIn t)) []
+          → rowsFor (idAt f p) (received (cond b (map (deliveryRow (idAt f p) (t .product .kind)) (listedIn t)) []))
+          ≡ cond b (map (ownRow true) (listedIn t)) []
       go true = of-own (idAt f p) (t .product .kind) (listedIn t)
       go false = no-rows (idAt f p)
 

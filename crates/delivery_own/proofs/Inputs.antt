@@ -25,7 +25,8 @@ use Rattle.delivery_lines.specs.NoticeLines.{trimmed, unmarked, isId}
 use Rattle.delivery_items.specs.declared.ItemRead.{ItemRead}
 use Rattle.delivery_items.specs.Items.{fieldsOf, fieldAt, noItem, maturityRead, keyRead, shortItem, fullItem, fieldsItem, itemOf, lineRead}
 use Rattle.delivery_differences.specs.Differences.{rowEntries}
-use Rattle.delivery_receipts.specs.Receipts.{Received, Receipt, noReceipt, receivedOf, Sort, ended, empty, heading, bad, tooMany, good, sortOf, lineBrought, lineReceived, linesReceived, receiptOf}
+use Rattle.delivery_receipts.specs.Receipts.{Received, Receipt, noReceipt, receivedOf, Sort, ended, empty, heading, bad, tooMany, good, sortOf, lineBrought}
+use Rattle.delivery_receipts.specs.Receipts.{lineReceived, linesReceived, receiptOf}
 use Rattle.delivery_receipts.specs.Receiving.{rowsFor}
 
 -- ---- a line

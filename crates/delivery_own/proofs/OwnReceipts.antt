@@ -104,7 +104,8 @@ module _ (f : List ℕ) where
 
     -- at most 65,536 rows that are each read back are all received under their heading, with none bad and none too many
     pub all-received : length rows ≤ 65536 → EachBack f rows
-        → (receiptOf f (underHeading rows) .rows ≡ received rows) × (receiptOf f (underHeading rows) .bads ≡ []) × (receiptOf f (underHeading rows) .over ≡ false)
+        → (receiptOf f (underHeading rows) .rows ≡ received rows) × (receiptOf f (underHeading rows) .bads ≡ [])
+        × (receiptOf f (underHeading rows) .over ≡ false)
     all-received l e =
         let i = rows-brought (passedOver true noReceipt) rows refl refl (omega arith) e in
         rw receipt-is (i .all, i .bads, i .over)

@@ -1,4 +1,5 @@
--- The rows of an opened product can be printed and read back: its id is right, and the keys, days, numbers and days back of a sound table are within the bounds of dates and of 16 bits.
+-- The rows of an opened product can be printed and read back: its id is right, and the keys, days, numbers and days back of a sound table are within
+-- the bounds of dates and of 16 bits.
 -- Assumes nothing.
 use mathlib.Core.Path.{_≡_, refl, ap, _∙_}
 use mathlib.Core.List.{List}
@@ -15,7 +16,8 @@ use Rattle.calendar.specs.declared.Cover.{Cover}
 use Rattle.calendar.specs.Trading.{coverEnd}
 use Rattle.product.specs.declared.Kind.{Kind}
 use Rattle.product.specs.declared.Product.{Product}
-use Rattle.product.specs.Fields.{isWeekly, idRight, groupRight, marketRight, kindRight, sizeRight, tickRight, currencyRight, fieldsRight, productRight, kindNumber}
+use Rattle.product.specs.Fields.{isWeekly, idRight, groupRight, marketRight, kindRight, sizeRight, tickRight, currencyRight, fieldsRight, productRight}
+use Rattle.product.specs.Fields.{kindNumber}
 use Rattle.expiry.specs.declared.LastDay.{LastDay}
 use Rattle.expiry.specs.LastDays.{keyOf, anchorOf, lastDay, lastTradingDay, workedOut}
 use Rattle.listing.specs.declared.Maturity.{Maturity}

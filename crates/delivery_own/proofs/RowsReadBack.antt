@@ -19,10 +19,12 @@ use Rattle.file_text_lines.specs.Entries.{wordNumber, idBytes}
 use Rattle.confirm_lines.specs.ListingLines.{dateIn}
 use Rattle.delivery_lines.specs.NoticeLines.{isId}
 use Rattle.delivery_items.specs.declared.ItemRead.{ItemRead}
-use Rattle.delivery_items.specs.Items.{fieldsOf, rawField, fieldAt, maturityRead, keyRead, shortItem, fullItem, fieldsItem, itemOf, isProductWord, headed, lineRead}
+use Rattle.delivery_items.specs.Items.{fieldsOf, rawField, fieldAt, maturityRead, keyRead, shortItem, fullItem, fieldsItem, itemOf, isProductWord, headed}
+use Rattle.delivery_items.specs.Items.{lineRead}
 use Rattle.delivery_rows.specs.Delivery.{Row, rowText}
 use Rattle.delivery_own.specs.Own.{rowLine, itemBack}
-use Rattle.delivery_own.proofs.RowBytes.{allOf, plain, inRow, comma-in, all-append, all-more, field-in, field-next, field-last, no-quotes, no-blanks, one-line}
+use Rattle.delivery_own.proofs.RowBytes.{allOf, plain, inRow, comma-in, all-append, all-more, field-in, field-next, field-last, no-quotes, no-blanks}
+use Rattle.delivery_own.proofs.RowBytes.{one-line}
 use Rattle.delivery_own.proofs.WordsReadBack.{IdBack, number-back, number-plain}
 use Rattle.delivery_own.proofs.DatesReadBack.{NameBack, dayRead, day-back, day-plain}
 

@@ -25,7 +25,8 @@ use Rattle.delivery_notices.specs.declared.NoticesTaken.{NoticesTaken}
 use Rattle.delivery_notices.specs.Notices.{Told, textTold}
 use Rattle.delivery_notices.specs.NoticeLists.{noticesTo, noticeAt, noticeHeld, listsFit, toldIn, toldHeld}
 use Rattle.delivery_rows.specs.Delivery.{deliveryHeading, rowsText}
-use Rattle.delivery_refusals.specs.Refusals.{noticesName, masterText, badNoticeText, refusedNoticeText, refusalTold, placeRefusals, refusalLine, refusalLines, unknownRefusal, unknownMeasures, unknownLine, unknownLines}
+use Rattle.delivery_refusals.specs.Refusals.{noticesName, masterText, badNoticeText, refusedNoticeText, refusalTold, placeRefusals, refusalLine, refusalLines}
+use Rattle.delivery_refusals.specs.Refusals.{unknownRefusal, unknownMeasures, unknownLine, unknownLines}
 use Rattle.delivery_parts.specs.declared.PlacePart.{PlacePart}
 use Rattle.delivery_parts.specs.PlaceParts.{deliverText, deliverRefusals, partsText, PlaceIn}
 use Rattle.file_text_print.specs.WholeText.{NextOf}
@@ -310,7 +311,8 @@ module _ (f notices : List ℕ) (verdict : Answer Calendar) (t : NoticesTaken) (
       (room : 6554 ≤ length refusals) (long : length out ≡ 1024) where
     place-fits : r .fits ≡ true
     place-fits =
-        x .fits ∙ and-both (le-leb (t .count) (length refusals) (omega (arith, count-few notices calls ids t (g .held)))) (le-leb 1024 (length out) (omega arith))
+        x .fits ∙ and-both (le-leb (t .count) (length refusals) (omega (arith, count-few notices calls ids t (g .held))))
+        (le-leb 1024 (length out) (omega arith))
 
     rows-are : take (r .length) out′ ≡ placeRowsText f told p
     unfolding placeRowsText

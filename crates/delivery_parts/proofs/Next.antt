@@ -56,7 +56,8 @@ unfolding partsText
 parts-more part n = rw (add-one n) (length-append (partsText part n) (part n))
 
 -- each numbered part comes next after the parts before it
-pub next-part : (text : List ℕ) (at : ℕ) (part : ℕ → List ℕ) (p n : ℕ) → p < n → NextOf text at (partsText part n) → NextOf text (at + length (partsText part p)) (part p)
+pub next-part : (text : List ℕ) (at : ℕ) (part : ℕ → List ℕ) (p n : ℕ) → p < n → NextOf text at (partsText part n)
+    → NextOf text (at + length (partsText part p)) (part p)
 unfolding partsText
 next-part text at part p zero h x = absurd (omega arith)
 next-part text at part p (suc n) h x =

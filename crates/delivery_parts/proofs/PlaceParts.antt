@@ -35,12 +35,14 @@ unfolding rowsText
 no-row = refl
 
 -- by the file's own verdict a place gives what the file opens
-pub rows-own : (verdict : Answer Calendar) (f : List ℕ) (t : Told) (p : ℕ) → verdict ≡ judgeCall f → rowsBy (openIn verdict f) f t p ≡ placeRows f (t .date) (t .notices) p
+pub rows-own : (verdict : Answer Calendar) (f : List ℕ) (t : Told) (p : ℕ) → verdict ≡ judgeCall f
+    → rowsBy (openIn verdict f) f t p ≡ placeRows f (t .date) (t .notices) p
 unfolding rowsBy placeRows opensAt
 rows-own verdict f t p e = rw (e, open-is f (idAt f p) (t .date)) refl
 
 -- by the file's own verdict the lines of a place's refused calls are those of the file
-pub refusals-own : (verdict : Answer Calendar) (f : List ℕ) (t : Told) (p : ℕ) → verdict ≡ judgeCall f → refusalsBy (openIn verdict f) f t p ≡ placeRefusals f t p
+pub refusals-own : (verdict : Answer Calendar) (f : List ℕ) (t : Told) (p : ℕ) → verdict ≡ judgeCall f
+    → refusalsBy (openIn verdict f) f t p ≡ placeRefusals f t p
 unfolding refusalsBy placeRefusals productRefusals
 refusals-own verdict f t p e = rw (e, open-is f (idAt f p) (t .date)) refl
 
@@ -114,9 +116,12 @@ module _ (opening : List ℕ → ℕ → Outcome) (f : List ℕ) (p date count :
     wide : 1024 ≤ length out
     wide = leb-true 1024 (length out) (both (leb count (length refusals)) (leb 1024 (length out)) (sym q ∙ y) .1)
 
-    module _ (h : isRecord f p ≡ true) (id : List ℕ) (i : id ≡ idAt f p) (refusals′ : List ℕ) (d : Delivered) (m : Delivers opening id date (noticesTo calls ids count) refusals refusals′ d) where
+    module _ (h : isRecord f p ≡ true) (id : List ℕ) (i : id ≡ idAt f p) (refusals′ : List ℕ) (d : Delivered)
+        (m : Delivers opening id date (noticesTo calls ids count) refusals refusals′ d) where
       -- a place whose product has a refused opening gives that refusal and no rows
-      pub place-refused : (d .refusal ≡ 0 → ⊥) → PlaceIn opening f p date count calls ids refusals refusals′ out out (record { fits = true; holds = true; id = id; refusal = d .refusal; length = 0 })
+      pub place-refused : (d .refusal ≡ 0 → ⊥)
+          → PlaceIn opening f p date count calls ids refusals refusals′ out out
+          (record { fits = true; holds = true; id = id; refusal = d .refusal; length = 0 })
       place-refused n =
           record {
             fits = sym y ∙ q;
@@ -154,15 +159,19 @@ module _ (opening : List ℕ → ℕ → Outcome) (f : List ℕ) (p date count :
           opened : (t : Told) → date ≡ t .date → opening (idAt f p) (t .date) .refusal ≡ 0
           opened t g = sym (m .refusal ∙ rw (i, g) refl) ∙ z
 
-          table-is : (t : Told) → date ≡ t .date → noticesTo calls ids count ≡ map noticeHeld (t .notices) → d .table ≡ tableRun (opening (idAt f p) (t .date) .table) (callsFor (idAt f p) (t .notices))
+          table-is : (t : Told) → date ≡ t .date → noticesTo calls ids count ≡ map noticeHeld (t .notices)
+              → d .table ≡ tableRun (opening (idAt f p) (t .date) .table) (callsFor (idAt f p) (t .notices))
           table-is t g s = made .table ∙ rw (s, i, g) (run-same (idAt f p) (opening (idAt f p) (t .date) .table) (t .notices))
 
-          rows-are : (t : Told) → date ≡ t .date → noticesTo calls ids count ≡ map noticeHeld (t .notices) → rowsText (tableRows id (d .table)) ≡ rowsText (rowsBy opening f t p)
+          rows-are : (t : Told) → date ≡ t .date → noticesTo calls ids count ≡ map noticeHeld (t .notices)
+              → rowsText (tableRows id (d .table)) ≡ rowsText (rowsBy opening f t p)
           rows-are t g s = rw (table-is t g s, i) (rows-open opening f t p h (opened t g))
 
-          told-are : (t : Told) → date ≡ t .date → noticesTo calls ids count ≡ map noticeHeld (t .notices) → refusalLines id (t .opened) 0 calls refusals′ (count + 1) ≡ refusalsBy opening f t p
+          told-are : (t : Told) → date ≡ t .date → noticesTo calls ids count ≡ map noticeHeld (t .notices)
+              → refusalLines id (t .opened) 0 calls refusals′ (count + 1) ≡ refusalsBy opening f t p
           told-are t g s =
-              notices-told id (t .opened) calls ids refusals′ count (t .notices) (refusalsFor id (opening id date .table) (t .notices)) (omega (arith, few, m .long)) s
+              notices-told id (t .opened) calls ids refusals′ count (t .notices) (refusalsFor id (opening id date .table) (t .notices))
+              (omega (arith, few, m .long)) s
               (made .refusals ∙ rw s (refusals-same id (opening id date .table) (t .notices)))
               ∙ rw (i, g) (told-open opening f t p h (opened t g))
 

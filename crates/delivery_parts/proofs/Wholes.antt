@@ -1,4 +1,5 @@
--- The parts of a delivery make up the whole: the rows place by place, the refused calls place by place and line by line, and the measures of unknown ids line by line.
+-- The parts of a delivery make up the whole: the rows place by place, the refused calls place by place and line by line, and the measures of unknown
+-- ids line by line.
 -- Assumes nothing.
 use mathlib.Core.Path.{_≡_, refl, _∙_, sym, ap}
 use mathlib.Core.Bool.{false, cond}
@@ -15,7 +16,8 @@ use Rattle.delivery_notices.specs.Notices.{Notice, Told, textTold}
 use Rattle.delivery_notices.specs.NoticeLists.{noticeAt, noticesTo, callHeld, noticeHeld}
 use Rattle.delivery_tables.specs.Tables.{isMeasure}
 use Rattle.delivery_rows.specs.Delivery.{Row, rowText, rowsText, placeRows, rowsTo}
-use Rattle.delivery_refusals.specs.Refusals.{refusalTold, refusalsText, refusalLine, refusalLines, placeRefusals, refusalsTo, unknownRefusal, unknownMeasures, unknownLine, unknownLines}
+use Rattle.delivery_refusals.specs.Refusals.{refusalTold, refusalsText, refusalLine, refusalLines, placeRefusals, refusalsTo, unknownRefusal, unknownMeasures}
+use Rattle.delivery_refusals.specs.Refusals.{unknownLine, unknownLines}
 use Rattle.delivery_parts.specs.PlaceParts.{partsText, deliverText, deliverRefusals, WholeDelivery}
 
 -- ---- rows
@@ -71,7 +73,8 @@ unfolding refusalLines refusalLine refusalTold
 no-opening id opened calls refusals = refl
 
 one-line : (id : List ℕ) (opened refusal : ℕ) (calls refusals : List ℕ) (n : ℕ)
-    → refusalLines id opened refusal calls refusals (suc (suc n)) ≡ refusalLines id opened refusal calls refusals (suc n) ++ cond (eqb refusal 0) (refusalTold (getD calls (5 * n) 0) (getD refusals n 0) id) []
+    → refusalLines id opened refusal calls refusals (suc (suc n))
+    ≡ refusalLines id opened refusal calls refusals (suc n) ++ cond (eqb refusal 0) (refusalTold (getD calls (5 * n) 0) (getD refusals n 0) id) []
 unfolding refusalLines refusalLine
 one-line id opened refusal calls refusals n = refl
 
@@ -91,7 +94,8 @@ lines-told id opened calls ids refusals (suc n) h =
     one-line id opened 0 calls refusals n
     ∙ rw (one-notice calls ids n, take-suc refusals n 0 (omega arith))
     (ap (λ (t : List ℕ). t ++ refusalTold (getD calls (5 * n) 0) (getD refusals n 0) id) (lines-told id opened calls ids refusals n (omega arith))
-    ∙ sym (refusals-snoc id (noticesTo calls ids n) (noticeAt calls ids n) (take n refusals) (getD refusals n 0) (length-take-le n refusals (omega arith) ∙ sym (notices-length calls ids n))))
+    ∙ sym (refusals-snoc id (noticesTo calls ids n) (noticeAt calls ids n) (take n refusals) (getD refusals n 0)
+    (length-take-le n refusals (omega arith) ∙ sym (notices-length calls ids n))))
 
 held-told : (id : List ℕ) (ns : List Notice) (rs : List ℕ) → refusalsText id (map noticeHeld ns) rs ≡ refusalsText id ns rs
 unfolding refusalsText
@@ -105,7 +109,8 @@ pub notices-told : (id : List ℕ) (opened : ℕ) (calls ids refusals : List ℕ
     → refusalLines id opened 0 calls refusals (count + 1) ≡ refusalsText id ns rs
 notices-told id opened calls ids refusals count ns rs h e q =
     let k : take count refusals ≡ rs = ap (λ (n : ℕ). take n refusals) (sym (notices-length calls ids count)) ∙ q in
-    let s : refusalLines id opened 0 calls refusals (count + 1) ≡ refusalsText id (noticesTo calls ids count) (take count refusals) = rw (add-one count) (lines-told id opened calls ids refusals count h) in
+    let s : refusalLines id opened 0 calls refusals (count + 1) ≡ refusalsText id (noticesTo calls ids count) (take count refusals) =
+    rw (add-one count) (lines-told id opened calls ids refusals count h) in
     s ∙ rw (e, k) (held-told id ns rs)
 
 first-line : (id : List ℕ) (opened refusal : ℕ) (calls refusals : List ℕ) → refusalLines id opened refusal calls refusals 1 ≡ refusalTold opened refusal id
@@ -113,10 +118,12 @@ unfolding refusalLines refusalLine
 first-line id opened refusal calls refusals = refl
 
 -- of a refused one
-refused-lines : (id : List ℕ) (opened refusal : ℕ) (calls refusals : List ℕ) (n : ℕ) → eqb refusal 0 ≡ false → refusalLines id opened refusal calls refusals (suc n) ≡ refusalTold opened refusal id
+refused-lines : (id : List ℕ) (opened refusal : ℕ) (calls refusals : List ℕ) (n : ℕ) → eqb refusal 0 ≡ false
+    → refusalLines id opened refusal calls refusals (suc n) ≡ refusalTold opened refusal id
 refused-lines id opened refusal calls refusals zero e = first-line id opened refusal calls refusals
 refused-lines id opened refusal calls refusals (suc n) e =
-    one-line id opened refusal calls refusals n ∙ rw e (append-nil (refusalLines id opened refusal calls refusals (suc n)) ∙ refused-lines id opened refusal calls refusals n e)
+    one-line id opened refusal calls refusals n ∙
+    rw e (append-nil (refusalLines id opened refusal calls refusals (suc n)) ∙ refused-lines id opened refusal calls refusals n e)
 
 -- of a refused opening the lines of a product's refused calls are the line of the opening alone
 pub opening-told : (id : List ℕ) (opened refusal : ℕ) (calls refusals : List ℕ) (count : ℕ) → eqb refusal 0 ≡ false
@@ -135,7 +142,8 @@ unknown-held : (f : List ℕ) (n : Notice) → unknownRefusal f (noticeHeld n) �
 unfolding unknownRefusal
 unknown-held f n = rw (measure-held (n .call)) refl
 
-unknown-snoc : (f : List ℕ) (ns : List Notice) (n : Notice) → unknownMeasures f (ns ++ (n ∷ [])) ≡ unknownMeasures f ns ++ refusalTold (n .line) (unknownRefusal f n) (n .id)
+unknown-snoc : (f : List ℕ) (ns : List Notice) (n : Notice)
+    → unknownMeasures f (ns ++ (n ∷ [])) ≡ unknownMeasures f ns ++ refusalTold (n .line) (unknownRefusal f n) (n .id)
 unfolding unknownMeasures
 unknown-snoc f [] n = append-nil (refusalTold (n .line) (unknownRefusal f n) (n .id))
 unknown-snoc f (m ∷ ns) n =
@@ -154,5 +162,6 @@ unknown-same f [] = refl
 unknown-same f (n ∷ ns) = rw (unknown-held f n) (ap (λ (t : List ℕ). refusalTold (n .line) (unknownRefusal f n) (n .id) ++ t) (unknown-same f ns))
 
 -- the lines of the notices in two lists are those of the text
-pub unknown-told : (f calls ids : List ℕ) (count : ℕ) (ns : List Notice) → noticesTo calls ids count ≡ map noticeHeld ns → unknownLines f calls ids count ≡ unknownMeasures f ns
+pub unknown-told : (f calls ids : List ℕ) (count : ℕ) (ns : List Notice) → noticesTo calls ids count ≡ map noticeHeld ns
+    → unknownLines f calls ids count ≡ unknownMeasures f ns
 unknown-told f calls ids count ns e = unknown-lists f calls ids count ∙ rw e (unknown-same f ns)

@@ -15,7 +15,8 @@ use Rattle.delivery_notices.specs.Notices.{Told, textTold}
 use Rattle.delivery_notices.specs.NoticeLists.{noticesTo, noticeHeld}
 use Rattle.delivery_tables.specs.Tables.{callsFor, refusalsFor}
 use Rattle.delivery_rows.specs.Delivery.{Row, deliveryHeading, rowsText, tableRows, placeRows, delivery}
-use Rattle.delivery_refusals.specs.Refusals.{masterText, badNoticeText, refusedNoticeText, refusalsText, placeRefusals, refusalsTo, refusalLines, unknownMeasures}
+use Rattle.delivery_refusals.specs.Refusals.{masterText, badNoticeText, refusedNoticeText, refusalsText, placeRefusals, refusalsTo, refusalLines}
+use Rattle.delivery_refusals.specs.Refusals.{unknownMeasures}
 use Rattle.delivery_parts.specs.declared.PlacePart.{PlacePart}
 
 -- 'under a heading that is always there'; 'nothing else is printed, no heading either':
@@ -63,7 +64,8 @@ refusalsBy opening f t p =
 
 -- of a place: where the buffers have room and the lists hold the notices of a text, the rows stand at the start of the one,
 -- and the lines of the refused calls, of which there are none where the place holds no record, are those of the other
-pub record PlaceIn (opening : List ℕ → ℕ → Outcome) (f : List ℕ) (p date count : ℕ) (calls ids refusals refusals′ out out′ : List ℕ) (r : PlacePart) : Type 0 where
+pub record PlaceIn (opening : List ℕ → ℕ → Outcome) (f : List ℕ) (p date count : ℕ) (calls ids refusals refusals′ out out′ : List ℕ)
+    (r : PlacePart) : Type 0 where
   pub fits : r .fits ≡ partFits count (length refusals) (length out)
   pub rows : r .fits ≡ true → (t : Told) → date ≡ t .date → noticesTo calls ids count ≡ map noticeHeld (t .notices)
       → take (r .length) out′ ≡ rowsText (rowsBy opening f t p)
@@ -77,7 +79,8 @@ pub record PlaceIn (opening : List ℕ → ℕ → Outcome) (f : List ℕ) (p da
 -- and of each place the lines of its refused calls, then those of the measures of unknown ids
 pub record WholeDelivery (f notices : List ℕ) (t : Told) : Type 0 where
   pub rows : deliverText f notices
-      ≡ cond (eqb (firstNo (loadAsks f)) 0 && eqb (t .bad) 0) (deliveryHeading ++ partsText (λ p. rowsText (placeRows f (t .date) (t .notices) p)) (placeCount f)) []
+      ≡ cond (eqb (firstNo (loadAsks f)) 0 && eqb (t .bad) 0)
+      (deliveryHeading ++ partsText (λ p. rowsText (placeRows f (t .date) (t .notices) p)) (placeCount f)) []
   pub refusals : deliverRefusals f notices
       ≡ cond (eqb (firstNo (loadAsks f)) 0)
       (cond (eqb (t .bad) 0) (partsText (placeRefusals f t) (placeCount f) ++ unknownMeasures f (t .notices)) (badNoticeText (t .bad)))

@@ -67,7 +67,12 @@ module _ (f : List ℕ) (p : ℕ) where
 -- an id is itself
 pub self-id : (id : List ℕ) → sameId id id ≡ true
 unfolding sameId
-self-id id = rw (eq-eqb (getD id 0 0) (getD id 0 0) refl, eq-eqb (getD id 1 0) (getD id 1 0) refl, eq-eqb (getD id 2 0) (getD id 2 0) refl, eq-eqb (getD id 3 0) (getD id 3 0) refl)
+self-id id = rw (
+  eq-eqb (getD id 0 0) (getD id 0 0) refl,
+  eq-eqb (getD id 1 0) (getD id 1 0) refl,
+  eq-eqb (getD id 2 0) (getD id 2 0) refl,
+  eq-eqb (getD id 3 0) (getD id 3 0) refl,
+)
 
 -- a place that holds a record has its id
 own-id : (f : List ℕ) (p : ℕ) → isRecord f p ≡ true → hasId f (idAt f p) p ≡ true
@@ -100,7 +105,8 @@ unfolding productOf
 place-product f p a h = rw (place-is f p a h)
 
 -- no two places have the same id
-pub other-id : (f : List ℕ) (p q : ℕ) → firstNo (loadAsks f) ≡ 0 → isRecord f p ≡ true → isRecord f q ≡ true → (q ≡ p → ⊥) → sameId (idAt f q) (idAt f p) ≡ false
+pub other-id : (f : List ℕ) (p q : ℕ) → firstNo (loadAsks f) ≡ 0 → isRecord f p ≡ true → isRecord f q ≡ true → (q ≡ p → ⊥)
+    → sameId (idAt f q) (idAt f p) ≡ false
 unfolding hasId
 other-id f p q a h k n =
     is-false (sameId (idAt f q) (idAt f p))

@@ -120,7 +120,8 @@ notices-few text =
 
 -- ---- the lists of a text
 
-module _ (judged : FileCalendar) (f text calls calls′ ids ids′ : List ℕ) (t : NoticesTaken) (m : TextIn text calls calls′ ids ids′ t) (fits : t .fits ≡ true) where
+module _ (judged : FileCalendar) (f text calls calls′ ids ids′ : List ℕ) (t : NoticesTaken) (m : TextIn text calls calls′ ids ids′ t)
+    (fits : t .fits ≡ true) where
   held : noticesTo calls′ ids′ (t .count) ≡ map noticeHeld (textTold text .notices)
   held = ap (λ (x : Told). x .notices) (m .is fits)
 

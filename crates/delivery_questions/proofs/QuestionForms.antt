@@ -16,7 +16,9 @@ use Rattle.file_text_lines.specs.Entries.{wordsOf, wordAt, idBytes}
 use Rattle.confirm_lines.specs.ListingLines.{dateIn, monthIn}
 use Rattle.delivery_lines.specs.NoticeLines.{isNumber, isPrice, isId, numberHeld, priceHeld}
 use Rattle.delivery_lines.proofs.NoticeValues.{number-there, number-value, priced, price-value}
-use Rattle.delivery_questions.specs.QuestionLines.{lastWord, dueWord, tickWord, cashWord, sizeWord, isWord, lastAsked, dueAsked, tickAsked, threeAsked, cashAsked, sizeAsked, wordsAsked, trimmedAsked, bareHeld, oneHeld, dayQuestionHeld, askedHeld, bad, asks, last, due}
+use Rattle.delivery_questions.specs.QuestionLines.{lastWord, dueWord, tickWord, cashWord, sizeWord, isWord, lastAsked, dueAsked, tickAsked, threeAsked}
+use Rattle.delivery_questions.specs.QuestionLines.{cashAsked, sizeAsked, wordsAsked, trimmedAsked, bareHeld, oneHeld, dayQuestionHeld, askedHeld, bad}
+use Rattle.delivery_questions.specs.QuestionLines.{asks, last, due}
 
 -- a word by its name
 module _ (name word : List ℕ) where
@@ -64,7 +66,8 @@ module _ (id word : List ℕ) where
   last-none e m = rw (eq-eqb (length word) 7 e, eq-eqb (monthIn word .letter) 0 m) refl
 
   -- `last` with 7 characters that are a month is held with the key of that month
-  pub last-month : length word ≡ 7 → (first : Command) → first ≡ monthIn word → (first .letter ≡ 0 → ⊥) → (key : ℕ) → key ≡ monthOf (first .day) → oneHeld 108 id false key 0 ≡ askedHeld (lastAsked id word)
+  pub last-month : length word ≡ 7 → (first : Command) → first ≡ monthIn word → (first .letter ≡ 0 → ⊥) → (key : ℕ) → key ≡ monthOf (first .day)
+      → oneHeld 108 id false key 0 ≡ askedHeld (lastAsked id word)
   unfolding lastAsked askedHeld
   last-month e first q m key k = rw (eq-eqb (length word) 7 e, ← q, ne-eqb (first .letter) 0 m, ← k) refl
 
@@ -97,7 +100,8 @@ module _ (id name word : List ℕ) where
   three-due e g = rw (e, g) refl
 
   -- three words with the name `tick` ask whether a price passes
-  pub three-tick : isWord lastWord name ≡ false → isWord dueWord name ≡ false → isWord tickWord name ≡ true → askedHeld (tickAsked id word) ≡ askedHeld (threeAsked id name word)
+  pub three-tick : isWord lastWord name ≡ false → isWord dueWord name ≡ false → isWord tickWord name ≡ true
+      → askedHeld (tickAsked id word) ≡ askedHeld (threeAsked id name word)
   unfolding threeAsked
   three-tick e g h = rw (e, g, h) refl
 
@@ -124,7 +128,8 @@ module _ (id name contracts agreed final : List ℕ) where
 
     -- `cash` with a number of contracts and two prices is held with the three as they are read
     pub cash-is : (c .there && (a .there && f .there)) ≡ true
-        → record { letter = 99; id = id; friday = false; day = 0; number = c .value; agreed = a .value; «final_price» = f .value } ≡ askedHeld (cashAsked id name contracts agreed final)
+        → record { letter = 99; id = id; friday = false; day = 0; number = c .value; agreed = a .value; «final_price» = f .value }
+        ≡ askedHeld (cashAsked id name contracts agreed final)
     unfolding cashAsked askedHeld
     cash-is t =
         let (x, rest) = both (c .there) (a .there && f .there) t in
@@ -157,7 +162,8 @@ module _ (line : List ℕ) where
 
     module _ (n : length (wordsOf line) ≡ 2 → ⊥) where
       -- a line of three words asks what its name and its third word ask
-      pub three-words : length (wordsOf line) ≡ 3 → askedHeld (threeAsked (idBytes (wordAt line 0)) (wordAt line 1) (wordAt line 2)) ≡ askedHeld (wordsAsked line)
+      pub three-words : length (wordsOf line) ≡ 3
+          → askedHeld (threeAsked (idBytes (wordAt line 0)) (wordAt line 1) (wordAt line 2)) ≡ askedHeld (wordsAsked line)
       unfolding wordsAsked
       three-words e = rw (i, ne-eqb (length (wordsOf line)) 2 n, eq-eqb (length (wordsOf line)) 3 e) refl
 

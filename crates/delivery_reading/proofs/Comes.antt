@@ -37,7 +37,8 @@ use Rattle.delivery_reading.specs.Reading.{BadsTold, RowTold, EndTold, P
 -- ---- one line
 
 -- the line that tells a bad line has room in its bytes, and is as long as that text
-pub row-fits : (n : ℕ) (l : Line) → LineWith emptyLine (badRowsText (toldOf n)) l → (l .length ≤ length (l .bytes)) × (l .length ≡ length (badRowsText (toldOf n)))
+pub row-fits : (n : ℕ) (l : Line) → LineWith emptyLine (badRowsText (toldOf n)) l
+    → (l .length ≤ length (l .bytes)) × (l .length ≡ length (badRowsText (toldOf n)))
 row-fits n l made =
     let room : length (l .bytes) ≡ 64 = line-room (badRowsText (toldOf n)) (told-short n) l made in
     (omega (arith, room, line-fits (badRowsText (toldOf n)) (told-short n) l made), line-long (badRowsText (toldOf n)) (told-short n) l made)
@@ -133,12 +134,14 @@ module _ (f : List ℕ) (k : LinesRead) (a : Lists) (part : List ℕ) where
           ≡ restReceived (roomIn a) f (receiptIn (r .kept .state) c (told ++ (d .bads ++ toldOf (r .kept .state .bad)))) (r .line) (drop (e .next) part ++ rest)
       one-more y told rest =
           fed .ended y (roomIn a) f (receiptIn (s .kept .state) b (told ++ d .bads)) rest
-          ∙ ap (λ (n : ℕ). restReceived (roomIn a) f (lineReceived n f (receiptIn (s .kept .state) b (told ++ d .bads)) (heldRead (e .line))) emptyLong (drop (e .next) part ++ rest))
+          ∙ ap (λ (n : ℕ). restReceived (roomIn a) f (lineReceived n f (receiptIn (s .kept .state) b (told ++ d .bads)) (heldRead (e .line))) emptyLong
+          (drop (e .next) part ++ rest))
           (sym (room-same a b (d .lengths)))
           ∙ ap (λ (x : Receipt). restReceived (roomIn a) f x emptyLong (drop (e .next) part ++ rest)) (sym (t .ended y .0 .is (told ++ d .bads)))
           ∙ ap (λ (x : List ℕ). restReceived (roomIn a) f (receiptIn (r .kept .state) c x) emptyLong (drop (e .next) part ++ rest))
           (append-assoc told (d .bads) (toldOf (r .kept .state .bad)))
-          ∙ ap (λ (x : LongLine). restReceived (roomIn a) f (receiptIn (r .kept .state) c (told ++ (d .bads ++ toldOf (r .kept .state .bad)))) x (drop (e .next) part ++ rest))
+          ∙ ap (λ (x : LongLine). restReceived (roomIn a) f (receiptIn (r .kept .state) c (told ++ (d .bads ++ toldOf (r .kept .state .bad)))) x
+          (drop (e .next) part ++ rest))
           (sym (t .ended y .1))
 
       more-ended : e .ended ≡ true → PartTold f k a part r c (drop (e .next) part)
@@ -211,7 +214,8 @@ without-mark part mark m =
     ap (λ (n : ℕ). drop n part) (sym m) ∙ sym (take-all (length part - mark) (drop mark part) (omega (arith, length-drop mark part)))
 
 module _ (f : List ℕ) (t : stream.Told) (k : LinesRead) (own : k .kept .told ≡ t) (empty : k .line ≡ emptyLong) (nothing : Nothing (k .kept))
-    (part : List ℕ) (mark : ℕ) (m : mark ≡ markLength part) (a b : Lists) (r : LinesRead) (d : PartTold f k a (take (length part - mark) (drop mark part)) r b []) where
+    (part : List ℕ) (mark : ℕ) (m : mark ≡ markLength part) (a b : Lists) (r : LinesRead)
+    (d : PartTold f k a (take (length part - mark) (drop mark part)) r b []) where
   first-is : roomIn a ≡ 65536 → (rest : List ℕ) → (length part < 3 → rest ≡ [])
       → receiptOf f (part ++ rest) ≡ restReceived 65536 f (receiptIn (r .kept .state) b (d .bads)) (r .line) rest
   first-is room rest z =
@@ -337,7 +341,8 @@ none-over f k a b r d z = go (k .kept .state .over) refl
 
 -- ---- the whole input
 
-module _ (f : List ℕ) (i : Input) (k : LinesRead) (a b : Lists) (r : Reading) (j : Input) (same : j ≡ i) (last : i .failed ≡ false → LastTold f k a b r) (z : j .failed ≡ false) where
+module _ (f : List ℕ) (i : Input) (k : LinesRead) (a b : Lists) (r : Reading) (j : Input) (same : j ≡ i) (last : i .failed ≡ false → LastTold f k a b r)
+    (z : j .failed ≡ false) where
   taken : LastTold f k a b r
   taken = last (sym (ap (λ (x : Input). x .failed) same) ∙ z)
 

@@ -49,7 +49,8 @@ module _ (id ids : List ℕ) (n : ℕ) (before out : List ℕ) (size i : ℕ) (g
   place-small = omega (arith, g .small)
 
   -- a row with the product's id adds its place, another row adds none
-  pub gathers : (own : Bool) → own ≡ sameId (idIn ids i) id → (r : ℕ) (after : List ℕ) → r ≡ size + cond own 1 0 → after ≡ cond own (set out size i) out → Gathering id ids n before after r (i + 1)
+  pub gathers : (own : Bool) → own ≡ sameId (idIn ids i) id → (r : ℕ) (after : List ℕ) → r ≡ size + cond own 1 0 → after ≡ cond own (set out size i) out
+      → Gathering id ids n before after r (i + 1)
   gathers true e r after p q =
       let w : take r after ≡ take size out ++ (i ∷ []) = rw (q, p, add-one size) (take-suc-set out size i place-room) in
       record {
@@ -63,7 +64,8 @@ module _ (id ids : List ℕ) (n : ℕ) (before out : List ℕ) (size i : ℕ) (g
   gathers false e r after p q =
       let z : r ≡ size = omega arith in
       record {
-        is = rw (q, z) (g .is ∙ sym (append-nil (placesTo id ids i)) ∙ sym (places-more id ids i ∙ ap (λ (b : Bool). placesTo id ids i ++ cond b (i ∷ []) []) (sym e)));
+        is = rw (q, z) (g .is ∙ sym (append-nil (placesTo id ids i)) ∙
+            sym (places-more id ids i ∙ ap (λ (b : Bool). placesTo id ids i ++ cond b (i ∷ []) []) (sym e)));
         few = omega (arith, g .few);
         within = omega arith;
         small = g .small;
@@ -97,7 +99,8 @@ unfolding rowsFor
 for-append id [] y = refl
 for-append id (r ∷ x) y = go (sameId (r .id) id) (for-append id x y)
   where
-    go : (b : Bool) → rowsFor id (x ++ y) ≡ rowsFor id x ++ rowsFor id y → cond b (r .row ∷ rowsFor id (x ++ y)) (rowsFor id (x ++ y)) ≡ cond b (r .row ∷ rowsFor id x) (rowsFor id x) ++ rowsFor id y
+    go : (b : Bool) → rowsFor id (x ++ y) ≡ rowsFor id x ++ rowsFor id y
+        → cond b (r .row ∷ rowsFor id (x ++ y)) (rowsFor id (x ++ y)) ≡ cond b (r .row ∷ rowsFor id x) (rowsFor id x) ++ rowsFor id y
     go true e = ap (λ (rs : List DeliveredRow). r .row ∷ rs) e
     go false e = e
 
@@ -105,21 +108,25 @@ none : (id a b c d e : List ℕ) → rowsAt a b c d e [] ≡ rowsFor id []
 unfolding rowsAt rowsFor
 none id a b c d e = refl
 
-last : (id : List ℕ) (a : Lists) (n : ℕ) → rowsAt (a .keys) (a .days) (a .fulls) (a .numbers) (a .backs) (cond (sameId (idIn (a .ids) n) id) (n ∷ []) []) ≡ rowsFor id (receivedAt a n ∷ [])
+last : (id : List ℕ) (a : Lists) (n : ℕ)
+    → rowsAt (a .keys) (a .days) (a .fulls) (a .numbers) (a .backs) (cond (sameId (idIn (a .ids) n) id) (n ∷ []) []) ≡ rowsFor id (receivedAt a n ∷ [])
 unfolding rowsAt rowsFor
 last id a n = go (sameId (idIn (a .ids) n) id)
   where
-    go : (b : Bool) → rowsAt (a .keys) (a .days) (a .fulls) (a .numbers) (a .backs) (cond b (n ∷ []) []) ≡ cond b (rowAt (a .keys) (a .days) (a .fulls) (a .numbers) (a .backs) n ∷ []) []
+    go : (b : Bool) → rowsAt (a .keys) (a .days) (a .fulls) (a .numbers) (a .backs) (cond b (n ∷ []) [])
+        ≡ cond b (rowAt (a .keys) (a .days) (a .fulls) (a .numbers) (a .backs) n ∷ []) []
     go true = refl
     go false = refl
 
 -- the rows at a product's places are the rows of the product, in their order
-pub rows-are : (id : List ℕ) (a : Lists) (n : ℕ) → rowsAt (a .keys) (a .days) (a .fulls) (a .numbers) (a .backs) (placesTo id (a .ids) n) ≡ rowsFor id (receivedTo a n)
+pub rows-are : (id : List ℕ) (a : Lists) (n : ℕ)
+    → rowsAt (a .keys) (a .days) (a .fulls) (a .numbers) (a .backs) (placesTo id (a .ids) n) ≡ rowsFor id (receivedTo a n)
 unfolding placesTo receivedTo
 rows-are id a zero = none id (a .keys) (a .days) (a .fulls) (a .numbers) (a .backs)
 rows-are id a (suc n) =
     rows-append (a .keys) (a .days) (a .fulls) (a .numbers) (a .backs) (placesTo id (a .ids) n) (cond (sameId (idIn (a .ids) n) id) (n ∷ []) [])
-    ∙ ap (λ (rs : List DeliveredRow). rs ++ rowsAt (a .keys) (a .days) (a .fulls) (a .numbers) (a .backs) (cond (sameId (idIn (a .ids) n) id) (n ∷ []) [])) (rows-are id a n)
+    ∙ ap (λ (rs : List DeliveredRow). rs ++ rowsAt (a .keys) (a .days) (a .fulls) (a .numbers) (a .backs) (cond (sameId (idIn (a .ids) n) id) (n ∷ []) []))
+    (rows-are id a n)
     ∙ ap (λ (rs : List DeliveredRow). rowsFor id (receivedTo a n) ++ rs) (last id a n)
     ∙ sym (for-append id (receivedTo a n) (receivedAt a n ∷ []))
 

@@ -21,18 +21,21 @@ use Rattle.delivery_receipts.specs.Receiving.{LineFed}
 
 -- the byte at i comes next
 module _ (room : ℕ) (f : List ℕ) (s : Receipt) (l : LongLine) (part : List ℕ) (i : ℕ) (h : i < length part) (rest : List ℕ) where
-  feed-ends : getD part i 0 ≡ 10 → restReceived room f s l (drop i part ++ rest) ≡ restReceived room f (lineReceived room f s (heldRead l)) emptyLong (drop (i + 1) part ++ rest)
+  feed-ends : getD part i 0 ≡ 10 → restReceived room f s l (drop i part ++ rest)
+      ≡ restReceived room f (lineReceived room f s (heldRead l)) emptyLong (drop (i + 1) part ++ rest)
   unfolding restReceived
   feed-ends e = rw (drop-cons part i 0 h, eq-eqb (getD part i 0) 10 e, add-one i) refl
 
-  feed-more : (getD part i 0 ≡ 10 → ⊥) → restReceived room f s l (drop i part ++ rest) ≡ restReceived room f s (lengthened l (getD part i 0)) (drop (i + 1) part ++ rest)
+  feed-more : (getD part i 0 ≡ 10 → ⊥) → restReceived room f s l (drop i part ++ rest)
+      ≡ restReceived room f s (lengthened l (getD part i 0)) (drop (i + 1) part ++ rest)
   unfolding restReceived
   feed-more e = rw (drop-cons part i 0 h, ne-eqb (getD part i 0) 10 e, add-one i) refl
 
 -- bytes so far, no line feed among them
 pub record Going (l₀ : LongLine) (part : List ℕ) (from : ℕ) (l : LongLine) (i : ℕ) : Type 0 where
   -- what is received from the line begun and the first place is what is received from the bytes fed so far
-  pub same : (room : ℕ) (f : List ℕ) (s : Receipt) (rest : List ℕ) → restReceived room f s l₀ (drop from part ++ rest) ≡ restReceived room f s l (drop i part ++ rest)
+  pub same : (room : ℕ) (f : List ℕ) (s : Receipt) (rest : List ℕ)
+      → restReceived room f s l₀ (drop from part ++ rest) ≡ restReceived room f s l (drop i part ++ rest)
   -- the place does not go back
   pub on : from ≤ i
   -- a place that begins in the part stays in the part
@@ -47,7 +50,8 @@ module _ (l₀ : LongLine) (part : List ℕ) (from : ℕ) (l : LongLine) (i : �
   pub goes : i < length part → (getD part i 0 ≡ 10 → ⊥) → (m : LongLine) → m ≡ lengthened l (getD part i 0) → Going l₀ part from m (i + 1)
   goes h e m q =
       record {
-        same = λ room f s rest. g .same room f s rest ∙ feed-more room f s l part i h rest e ∙ ap (λ (x : LongLine). restReceived room f s x (drop (i + 1) part ++ rest)) (sym q);
+        same = λ room f s rest. g .same room f s rest ∙ feed-more room f s l part i h rest e ∙
+            ap (λ (x : LongLine). restReceived room f s x (drop (i + 1) part ++ rest)) (sym q);
         on = omega (arith, g .on);
         within = λ w. omega arith;
       }
@@ -81,22 +85,29 @@ no-bytes : fedLong emptyLong [] ≡ emptyLong
 unfolding fedLong
 no-bytes = refl
 
-whole : (room : ℕ) (f : List ℕ) (s : Receipt) (begun input : List ℕ) → restReceived room f s (fedLong emptyLong begun) input ≡ linesReceived room f s (linesFrom begun input)
+whole : (room : ℕ) (f : List ℕ) (s : Receipt) (begun input : List ℕ)
+    → restReceived room f s (fedLong emptyLong begun) input ≡ linesReceived room f s (linesFrom begun input)
 unfolding restReceived linesReceived linesFrom
 whole room f s begun [] = rw (any-empty begun) (go (eqb (length begun) 0))
   where
     go : (b : Bool) → cond b s (lineReceived room f s (heldRead (fedLong emptyLong begun))) ≡ linesReceived room f s (cond b [] (begun ∷ []))
     go true = refl
     go false = ap (lineReceived room f s) (any-length begun)
-whole room f s begun (byte ∷ rest) = go (eqb byte 10) (whole room f (lineReceived room f s (heldRead (fedLong emptyLong begun))) [] rest) (whole room f s (begun ++ (byte ∷ [])) rest)
+whole room f s begun (byte ∷ rest) = go (eqb byte 10) (whole room f (lineReceived room f s (heldRead (fedLong emptyLong begun))) [] rest)
+    (whole room f s (begun ++ (byte ∷ [])) rest)
   where
-    go : (b : Bool) → restReceived room f (lineReceived room f s (heldRead (fedLong emptyLong begun))) (fedLong emptyLong []) rest ≡ linesReceived room f (lineReceived room f s (heldRead (fedLong emptyLong begun))) (linesFrom [] rest)
+    go : (b : Bool) → restReceived room f (lineReceived room f s (heldRead (fedLong emptyLong begun))) (fedLong emptyLong []) rest
+        ≡ linesReceived room f (lineReceived room f s (heldRead (fedLong emptyLong begun))) (linesFrom [] rest)
         → restReceived room f s (fedLong emptyLong (begun ++ (byte ∷ []))) rest ≡ linesReceived room f s (linesFrom (begun ++ (byte ∷ [])) rest)
-        → cond b (restReceived room f (lineReceived room f s (heldRead (fedLong emptyLong begun))) emptyLong rest) (restReceived room f s (lengthened (fedLong emptyLong begun) byte) rest) ≡ linesReceived room f s (cond b (begun ∷ linesFrom [] rest) (linesFrom (begun ++ (byte ∷ [])) rest))
+        → cond b (restReceived room f (lineReceived room f s (heldRead (fedLong emptyLong begun))) emptyLong rest)
+        (restReceived room f s (lengthened (fedLong emptyLong begun) byte) rest)
+        ≡ linesReceived room f s (cond b (begun ∷ linesFrom [] rest) (linesFrom (begun ++ (byte ∷ [])) rest))
     go true p q = none-fed p ∙ ap (λ (x : Receipt). linesReceived room f x (linesFrom [] rest)) (ap (lineReceived room f s) (any-length begun))
       where
-        none-fed : restReceived room f (lineReceived room f s (heldRead (fedLong emptyLong begun))) (fedLong emptyLong []) rest ≡ linesReceived room f (lineReceived room f s (heldRead (fedLong emptyLong begun))) (linesFrom [] rest)
-            → restReceived room f (lineReceived room f s (heldRead (fedLong emptyLong begun))) emptyLong rest ≡ linesReceived room f (lineReceived room f s (heldRead (fedLong emptyLong begun))) (linesFrom [] rest)
+        none-fed : restReceived room f (lineReceived room f s (heldRead (fedLong emptyLong begun))) (fedLong emptyLong []) rest
+            ≡ linesReceived room f (lineReceived room f s (heldRead (fedLong emptyLong begun))) (linesFrom [] rest)
+            → restReceived room f (lineReceived room f s (heldRead (fedLong emptyLong begun))) emptyLong rest
+            ≡ linesReceived room f (lineReceived room f s (heldRead (fedLong emptyLong begun))) (linesFrom [] rest)
         none-fed p = ap (λ (x : LongLine). restReceived room f (lineReceived room f s (heldRead (fedLong emptyLong begun))) x rest) (sym no-bytes) ∙ p
     go false p q = ap (λ (x : LongLine). restReceived room f s x rest) (sym (fed-more emptyLong begun byte)) ∙ q
 

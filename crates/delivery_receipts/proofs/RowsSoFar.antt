@@ -107,14 +107,21 @@ pub record Roomy (i : ℕ) (a : Lists) : Type 0 where
 pub roomy : (i : ℕ) (a : Lists) → i < roomIn a → Roomy i a
 unfolding roomIn
 roomy i a h =
-    go (leb 262144 (length (a .ids)) && (leb 65536 (length (a .keys)) && (leb 65536 (length (a .days)) && (leb 65536 (length (a .fulls)) && (leb 65536 (length (a .numbers)) && leb 65536 (length (a .backs))))))) refl h
+    go (leb 262144 (length (a .ids)) && (leb 65536 (length (a .keys))
+    && (leb 65536 (length (a .days)) && (leb 65536 (length (a .fulls)) && (leb 65536 (length (a .numbers)) && leb 65536 (length (a .backs))))))) refl h
   where
-    go : (t : Bool) → (leb 262144 (length (a .ids)) && (leb 65536 (length (a .keys)) && (leb 65536 (length (a .days)) && (leb 65536 (length (a .fulls)) && (leb 65536 (length (a .numbers)) && leb 65536 (length (a .backs))))))) ≡ t → i < cond t 65536 0 → Roomy i a
+    go : (t : Bool) → (leb 262144 (length (a .ids))
+        && (leb 65536 (length (a .keys)) && (leb 65536 (length (a .days))
+        && (leb 65536 (length (a .fulls)) && (leb 65536 (length (a .numbers)) && leb 65536 (length (a .backs))))))) ≡ t → i < cond t 65536 0 → Roomy i a
     go false e l = absurd (omega arith)
     go true e l =
-        let (x, p) = both (leb 262144 (length (a .ids))) (leb 65536 (length (a .keys)) && (leb 65536 (length (a .days)) && (leb 65536 (length (a .fulls)) && (leb 65536 (length (a .numbers)) && leb 65536 (length (a .backs)))))) e in
-        let (y, q) = both (leb 65536 (length (a .keys))) (leb 65536 (length (a .days)) && (leb 65536 (length (a .fulls)) && (leb 65536 (length (a .numbers)) && leb 65536 (length (a .backs))))) p in
-        let (z, r) = both (leb 65536 (length (a .days))) (leb 65536 (length (a .fulls)) && (leb 65536 (length (a .numbers)) && leb 65536 (length (a .backs)))) q in
+        let (x, p) = both (leb 262144 (length (a .ids)))
+        (leb 65536 (length (a .keys)) && (leb 65536 (length (a .days))
+        && (leb 65536 (length (a .fulls)) && (leb 65536 (length (a .numbers)) && leb 65536 (length (a .backs)))))) e in
+        let (y, q) = both (leb 65536 (length (a .keys)))
+        (leb 65536 (length (a .days)) && (leb 65536 (length (a .fulls)) && (leb 65536 (length (a .numbers)) && leb 65536 (length (a .backs))))) p in
+        let (z, r) = both (leb 65536 (length (a .days)))
+        (leb 65536 (length (a .fulls)) && (leb 65536 (length (a .numbers)) && leb 65536 (length (a .backs)))) q in
         let (u, v) = both (leb 65536 (length (a .fulls))) (leb 65536 (length (a .numbers)) && leb 65536 (length (a .backs))) r in
         let (w, t) = both (leb 65536 (length (a .numbers))) (leb 65536 (length (a .backs))) v in
         record {
@@ -126,7 +133,8 @@ roomy i a h =
           backs = omega (arith, leb-true 65536 (length (a .backs)) t);
         }
 
-module _ (f : List ℕ) (s : Receiving) (l : LongLine) (b : Lists) (read : LineRead) (e : read ≡ heldRead l) (r : Receiving) (q : r ≡ receiving (roomIn b) f s read) where
+module _ (f : List ℕ) (s : Receiving) (l : LongLine) (b : Lists) (read : LineRead) (e : read ≡ heldRead l) (r : Receiving)
+    (q : r ≡ receiving (roomIn b) f s read) where
   abbrev sort : Sort
   sort = sortOf (roomIn b) f (s .over) (s .begun) (s .rows) read
 
@@ -134,7 +142,8 @@ module _ (f : List ℕ) (s : Receiving) (l : LongLine) (b : Lists) (read : LineR
   unfolding receiving
   brought = q
 
-  received : (bads : List ℕ) → lineReceived (roomIn b) f (receiptIn s b bads) (heldRead l) ≡ lineBrought (sortOf (roomIn b) f (s .over) (s .begun) (s .rows) read) (receiptIn s b bads) (read .item)
+  received : (bads : List ℕ) → lineReceived (roomIn b) f (receiptIn s b bads) (heldRead l)
+      ≡ lineBrought (sortOf (roomIn b) f (s .over) (s .begun) (s .rows) read) (receiptIn s b bads) (read .item)
   unfolding lineReceived
   received bads = rw (← e, received-long b (s .rows)) refl
 
@@ -142,7 +151,8 @@ module _ (f : List ℕ) (s : Receiving) (l : LongLine) (b : Lists) (read : LineR
   pub none-stored : r .rows ≡ s .rows → RowLineIn f s l b b r
   none-stored n =
       record {
-        is = λ bads. ap (λ (x : Receiving). receiptIn x b (bads ++ toldOf (x .bad))) brought ∙ no-row sort s b (read .item) bads (sym (ap (λ (x : Receiving). x .rows) brought) ∙ n) ∙ sym (received bads);
+        is = λ bads. ap (λ (x : Receiving). receiptIn x b (bads ++ toldOf (x .bad))) brought ∙
+            no-row sort s b (read .item) bads (sym (ap (λ (x : Receiving). x .rows) brought) ∙ n) ∙ sym (received bads);
         lengths = record { ids = refl; keys = refl; days = refl; fulls = refl; numbers = refl; backs = refl };
       }
 
@@ -160,7 +170,8 @@ module _ (f : List ℕ) (s : Receiving) (l : LongLine) (b : Lists) (read : LineR
         let h = has-room in
         record {
           is = λ bads. ap (λ (x : Receiving). receiptIn x a (bads ++ toldOf (x .bad))) (brought ∙ ap (λ (k : Sort). stateBrought k s) it-is-good)
-              ∙ good-row s b a (read .item) bads (stored-more (s .rows) (read .item) b a st (h .ids) (h .keys) (h .days) (h .fulls) (h .numbers) (h .backs) four)
+              ∙ good-row s b a (read .item) bads (stored-more (s .rows) (read .item) b a st (h .ids) (h .keys) (h .days) (h .fulls) (h .numbers)
+              (h .backs) four)
               ∙ sym (received bads ∙ ap (λ (k : Sort). lineBrought k (receiptIn s b bads) (read .item)) it-is-good);
           lengths = stored-lengths (s .rows) (read .item) b a st (h .ids) (h .keys) (h .days) (h .fulls) (h .numbers) (h .backs);
         }
@@ -181,23 +192,27 @@ module _ (room : ℕ) (f : List ℕ) (s : Receiving) (read : LineRead) where
 
     module _ (e : read .empty ≡ false) where
       -- a heading, as the first line that is not empty, is counted and adds no row
-      pub is-heading : (not (s .begun) && read .heading) ≡ true → record { rows = s .rows; begun = true; lines = lines; over = false; bad = 0 } ≡ receiving room f s read
+      pub is-heading : (not (s .begun) && read .heading) ≡ true
+          → record { rows = s .rows; begun = true; lines = lines; over = false; bad = 0 } ≡ receiving room f s read
       unfolding receiving sortOf stateBrought
       is-heading h = rw (n, o, e, h) refl
 
       module _ (h : (not (s .begun) && read .heading) ≡ false) (fits : Bool) (p : fits ≡ formFits f (read .item)) where
         -- a line without a row, or with a maturity of the wrong form, is bad and told by its number
-        pub is-bad : (read .item .there && fits) ≡ false → record { rows = s .rows; begun = true; lines = lines; over = false; bad = lines } ≡ receiving room f s read
+        pub is-bad : (read .item .there && fits) ≡ false
+            → record { rows = s .rows; begun = true; lines = lines; over = false; bad = lines } ≡ receiving room f s read
         unfolding receiving sortOf stateBrought
         is-bad g = rw (n, o, e, h, ← p, g) refl
 
         -- a line with a row that fits adds a row, where there is room
-        pub is-row : (read .item .there && fits) ≡ true → s .rows < room → record { rows = s .rows + 1; begun = true; lines = lines; over = false; bad = 0 } ≡ receiving room f s read
+        pub is-row : (read .item .there && fits) ≡ true → s .rows < room
+            → record { rows = s .rows + 1; begun = true; lines = lines; over = false; bad = 0 } ≡ receiving room f s read
         unfolding receiving sortOf stateBrought
         is-row g l = rw (n, o, e, h, ← p, g, lt-ltb (s .rows) room l) refl
 
         -- a line with a row that fits, but without room, is bad, and reading ends
-        pub is-too-many : (read .item .there && fits) ≡ true → room ≤ s .rows → record { rows = s .rows; begun = true; lines = lines; over = true; bad = lines } ≡ receiving room f s read
+        pub is-too-many : (read .item .there && fits) ≡ true → room ≤ s .rows
+            → record { rows = s .rows; begun = true; lines = lines; over = true; bad = lines } ≡ receiving room f s read
         unfolding receiving sortOf stateBrought
         is-too-many g l = rw (n, o, e, h, ← p, g, le-ltb (s .rows) room l) refl
 
@@ -210,9 +225,11 @@ same-bool false true = refl
 same-bool false false = refl
 
 -- of an id in the file the form of a maturity fits exactly where it is of the product's sort
-pub form-here : (f : List ℕ) (item : ItemRead) (block place : ℕ) → findAnswer (At block place) ≡ findCall f (item .id) → (p : Product) → p ≡ productAt f block place → (w : Bool) → w ≡ isWeekly (p .kind) → Bool·beq w (item .weekly) ≡ formFits f item
+pub form-here : (f : List ℕ) (item : ItemRead) (block place : ℕ) → findAnswer (At block place) ≡ findCall f (item .id) → (p : Product)
+    → p ≡ productAt f block place → (w : Bool) → w ≡ isWeekly (p .kind) → Bool·beq w (item .weekly) ≡ formFits f item
 unfolding formFits
-form-here f item block place e p q w v = same-bool w (item .weekly) ∙ rw (v, q, find-product f (item .id) block place e, find-there f (item .id) block place e) refl
+form-here f item block place e p q w v =
+    same-bool w (item .weekly) ∙ rw (v, q, find-product f (item .id) block place e, find-there f (item .id) block place e) refl
 
 -- of an id that is not in the file both forms of a maturity fit
 pub form-none : (f : List ℕ) (item : ItemRead) → findAnswer Nothing ≡ findCall f (item .id) → true ≡ formFits f item
@@ -225,7 +242,18 @@ short-four : (a b c : List ℕ) → length (shortItem a b c .id) ≡ 4
 unfolding shortItem idBytes
 short-four a b c = go (isId a && (not (eqb (maturityRead b .letter) 0) && not (eqb (dateIn c .letter) 0)))
   where
-    go : (t : Bool) → length (cond {A = ItemRead} t (record { there = true; id = idBytes a; weekly = not (eqb (length b) 7); key = keyRead b (maturityRead b .day); day = dateIn c .day; full = false; number = 0; back = 0 }) noItem .id) ≡ 4
+    go : (t : Bool) → length (cond {A = ItemRead} t
+        (record {
+          there = true;
+          id = idBytes a;
+          weekly = not (eqb (length b) 7);
+          key = keyRead b (maturityRead b .day);
+          day = dateIn c .day;
+          full =
+              false;
+          number = 0;
+          back = 0;
+        }) noItem .id) ≡ 4
     go true = refl
     go false = refl
 
@@ -233,7 +261,9 @@ full-four : (item : ItemRead) (x y : NumberRead) → length (item .id) ≡ 4 →
 unfolding fullItem
 full-four item x y h = go (item .there && (x .there && y .there))
   where
-    go : (t : Bool) → length (cond {A = ItemRead} t (record { there = true; id = item .id; weekly = item .weekly; key = item .key; day = item .day; full = true; number = x .value; back = y .value }) noItem .id) ≡ 4
+    go : (t : Bool) → length (cond {A = ItemRead} t
+        (record { there = true; id = item .id; weekly = item .weekly; key = item .key; day = item .day; full = true; number = x .value; back = y .value })
+        noItem .id) ≡ 4
     go true = h
     go false = refl
 
@@ -245,21 +275,35 @@ item-four : (text : List ℕ) → length (itemOf text .id) ≡ 4
 unfolding itemOf fieldsItem
 item-four text =
     pick-four (leb (length text) 255) (fieldsItem text) noItem
-    (pick-four (eqb (length (fieldsOf text)) 3) (shortItem (fieldAt text 0) (fieldAt text 1) (fieldAt text 2)) (cond (eqb (length (fieldsOf text)) 5) (fullItem (shortItem (fieldAt text 0) (fieldAt text 2) (fieldAt text 3)) (wordNumber (fieldAt text 1) 65535) (wordNumber (fieldAt text 4) 65535)) noItem)
+    (pick-four (eqb (length (fieldsOf text)) 3) (shortItem (fieldAt text 0) (fieldAt text 1) (fieldAt text 2))
+    (cond (eqb (length (fieldsOf text)) 5)
+    (fullItem (shortItem (fieldAt text 0) (fieldAt text 2) (fieldAt text 3)) (wordNumber (fieldAt text 1) 65535) (wordNumber (fieldAt text 4) 65535))
+    noItem)
     (short-four (fieldAt text 0) (fieldAt text 1) (fieldAt text 2))
-    (pick-four (eqb (length (fieldsOf text)) 5) (fullItem (shortItem (fieldAt text 0) (fieldAt text 2) (fieldAt text 3)) (wordNumber (fieldAt text 1) 65535) (wordNumber (fieldAt text 4) 65535)) noItem
-    (full-four (shortItem (fieldAt text 0) (fieldAt text 2) (fieldAt text 3)) (wordNumber (fieldAt text 1) 65535) (wordNumber (fieldAt text 4) 65535) (short-four (fieldAt text 0) (fieldAt text 2) (fieldAt text 3))) refl)) refl
+    (pick-four (eqb (length (fieldsOf text)) 5)
+    (fullItem (shortItem (fieldAt text 0) (fieldAt text 2) (fieldAt text 3)) (wordNumber (fieldAt text 1) 65535) (wordNumber (fieldAt text 4) 65535)) noItem
+    (full-four (shortItem (fieldAt text 0) (fieldAt text 2) (fieldAt text 3)) (wordNumber (fieldAt text 1) 65535) (wordNumber (fieldAt text 4) 65535)
+    (short-four (fieldAt text 0) (fieldAt text 2) (fieldAt text 3))) refl)) refl
 
 -- the id of a line that is read has four bytes
 pub held-four : (l : LongLine) (read : LineRead) → read ≡ heldRead l → length (read .item .id) ≡ 4
 unfolding heldRead lineRead
 held-four l read e = rw e (go (l .over))
   where
-    go : (b : Bool) → length (cond {A = LineRead} b (record { empty = false; heading = headed (take (l .length) (l .bytes)); item = noItem }) (record { empty = eqb (length (trimmed (take (l .length) (l .bytes)))) 0; heading = headed (trimmed (take (l .length) (l .bytes))); item = itemOf (trimmed (take (l .length) (l .bytes))) }) .item .id) ≡ 4
+    go : (b : Bool) → length (cond {A = LineRead} b (record { empty = false; heading = headed (take (l .length) (l .bytes)); item = noItem })
+        (record {
+          empty = eqb (length (trimmed (take (l .length) (l .bytes)))) 0;
+          heading = headed (trimmed (take (l .length) (l .bytes)));
+          item =
+              itemOf (trimmed (take (l .length) (l .bytes)));
+        }) .item .id) ≡ 4
     go true = refl
     go false = item-four (trimmed (take (l .length) (l .bytes)))
 
 -- the room of six lists
-pub room-is : (a : Lists) (r : ℕ) → r ≡ cond (leb 262144 (length (a .ids)) && (leb 65536 (length (a .keys)) && (leb 65536 (length (a .days)) && (leb 65536 (length (a .fulls)) && (leb 65536 (length (a .numbers)) && leb 65536 (length (a .backs))))))) 65536 0 → r ≡ roomIn a
+pub room-is : (a : Lists) (r : ℕ) → r ≡ cond
+    (leb 262144 (length (a .ids)) && (leb 65536 (length (a .keys))
+    && (leb 65536 (length (a .days)) && (leb 65536 (length (a .fulls)) && (leb 65536 (length (a .numbers)) && leb 65536 (length (a .backs))))))) 65536 0
+    → r ≡ roomIn a
 unfolding roomIn
 room-is a r e = e

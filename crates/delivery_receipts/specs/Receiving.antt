@@ -56,7 +56,8 @@ fullMark full = cond full 1 0
 
 -- of the lists before and after one row more, as row i
 pub record RowStored (i : ℕ) (item : ItemRead) (before after : Lists) : Type 0 where
-  pub ids : after .ids ≡ set (set (set (set (before .ids) (4 * i) (getD (item .id) 0 0)) (4 * i + 1) (getD (item .id) 1 0)) (4 * i + 2) (getD (item .id) 2 0)) (4 * i + 3) (getD (item .id) 3 0)
+  pub ids : after .ids ≡ set (set (set (set (before .ids) (4 * i) (getD (item .id) 0 0)) (4 * i + 1) (getD (item .id) 1 0)) (4 * i + 2) (getD (item .id) 2 0))
+      (4 * i + 3) (getD (item .id) 3 0)
   pub keys : after .keys ≡ set (before .keys) i (item .key)
   pub days : after .days ≡ set (before .days) i (item .day)
   pub fulls : after .fulls ≡ set (before .fulls) i (fullMark (item .full))
@@ -106,7 +107,8 @@ pub record RowLineIn (f : List ℕ) (s : Receiving) (l : LongLine) (before after
 -- of a line begun, a part of the input and a place in it: the line's bytes up to its line feed, or to the part's end
 pub record LineFed (l : LongLine) (part : List ℕ) (from : ℕ) (r : LineEnd) : Type 0 where
   pub ended : r .ended ≡ true → (room : ℕ) (f : List ℕ) (s : Receipt) (rest : List ℕ)
-      → restReceived room f s l (drop from part ++ rest) ≡ restReceived room f (lineReceived room f s (heldRead (r .line))) emptyLong (drop (r .next) part ++ rest)
+      → restReceived room f s l (drop from part ++ rest)
+      ≡ restReceived room f (lineReceived room f s (heldRead (r .line))) emptyLong (drop (r .next) part ++ rest)
   pub begun : r .ended ≡ false → (room : ℕ) (f : List ℕ) (s : Receipt) (rest : List ℕ)
       → restReceived room f s l (drop from part ++ rest) ≡ restReceived room f s (r .line) rest
   pub on : from < length part → from < r .next

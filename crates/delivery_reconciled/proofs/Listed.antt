@@ -67,7 +67,8 @@ module _ (opening : List ℕ → ℕ → Outcome) (f : List ℕ) (p date count :
           long = refl;
         }
 
-    module _ (y : isRecord f p ≡ true) (refusals′ : List ℕ) (d : Delivered) (m : Delivers opening id date (noticesTo calls ids count) refusals refusals′ d) where
+    module _ (y : isRecord f p ≡ true) (refusals′ : List ℕ) (d : Delivered)
+        (m : Delivers opening id date (noticesTo calls ids count) refusals refusals′ d) where
       number : (t : Told) → date ≡ t .date → d .refusal ≡ opening (idAt f p) (t .date) .refusal
       number t e = m .refusal ∙ rw (i, e) refl
 

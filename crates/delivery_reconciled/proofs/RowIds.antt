@@ -54,7 +54,8 @@ module _ (f : List ℕ) (a : Lists) (n : ℕ) where
   stranger-here : (i : ℕ) → i < n → isStranger f (receivedTo a n) i ≡ firstUnknown f (a .ids) i
   unfolding isStranger firstUnknown
   stranger-here i h =
-      let s : every i (λ j. not (sameId (idOf (receivedTo a n) j) (idOf (receivedTo a n) i))) ≡ every i (λ j. not (sameId (idIn (a .ids) j) (idIn (a .ids) i))) =
+      let s : every i (λ j. not (sameId (idOf (receivedTo a n) j) (idOf (receivedTo a n) i)))
+      ≡ every i (λ j. not (sameId (idIn (a .ids) j) (idIn (a .ids) i))) =
       every-same i (λ j. not (sameId (idOf (receivedTo a n) j) (idOf (receivedTo a n) i))) (λ j. not (sameId (idIn (a .ids) j) (idIn (a .ids) i)))
       (λ j l. ap (λ (x : List ℕ). not (sameId x (idOf (receivedTo a n) i))) (id-here a n j (omega arith))
       ∙ ap (λ (x : List ℕ). not (sameId (idIn (a .ids) j) x)) (id-here a n i h)) in

@@ -56,7 +56,8 @@ module _ (f ids : List ℕ) (i : ℕ) where
     row-none n e = rw n (nothing r e)
 
     -- the first row of an id that is not in the file has the line of that id
-    pub row-some : firstUnknown f ids i ≡ true → (id : List ℕ) → id ≡ idIn ids i → LineWith emptyLine (unknownText id) r → LineWith emptyLine (idRowText f ids i) r
+    pub row-some : firstUnknown f ids i ≡ true → (id : List ℕ) → id ≡ idIn ids i → LineWith emptyLine (unknownText id) r
+        → LineWith emptyLine (idRowText f ids i) r
     unfolding idRowText
     row-some y id e l = rw (y, ← e) l
 

@@ -64,30 +64,38 @@ pub summary-short : (products rows differ bad : ℕ) → products < 100000 → r
     → length (summaryText products rows differ bad) < 64
 unfolding summaryText
 summary-short products rows differ bad a b c d =
-    let last : length (numberText bad ++ (32 ∷ 98 ∷ 97 ∷ 100 ∷ 10 ∷ [])) ≤ 14 = omega (arith, length-append (numberText bad) (32 ∷ 98 ∷ 97 ∷ 100 ∷ 10 ∷ []), number-nine bad d) in
-    let third : length (numberText differ ++ ((32 ∷ 100 ∷ 105 ∷ 102 ∷ 102 ∷ 101 ∷ 114 ∷ 44 ∷ 32 ∷ []) ++ (numberText bad ++ (32 ∷ 98 ∷ 97 ∷ 100 ∷ 10 ∷ [])))) ≤ 32 =
+    let last : length (numberText bad ++ (32 ∷ 98 ∷ 97 ∷ 100 ∷ 10 ∷ [])) ≤ 14 =
+    omega (arith, length-append (numberText bad) (32 ∷ 98 ∷ 97 ∷ 100 ∷ 10 ∷ []), number-nine bad d) in
+    let third : length (numberText differ ++
+    ((32 ∷ 100 ∷ 105 ∷ 102 ∷ 102 ∷ 101 ∷ 114 ∷ 44 ∷ 32 ∷ []) ++ (numberText bad ++ (32 ∷ 98 ∷ 97 ∷ 100 ∷ 10 ∷ [])))) ≤ 32 =
     omega (
       arith,
       length-append (numberText differ) ((32 ∷ 100 ∷ 105 ∷ 102 ∷ 102 ∷ 101 ∷ 114 ∷ 44 ∷ 32 ∷ []) ++ (numberText bad ++ (32 ∷ 98 ∷ 97 ∷ 100 ∷ 10 ∷ []))),
       number-nine differ c,
       last,
     ) in
-    let second : length (numberText rows ++ ((32 ∷ 114 ∷ 111 ∷ 119 ∷ 115 ∷ 44 ∷ 32 ∷ []) ++ (numberText differ ++ ((32 ∷ 100 ∷ 105 ∷ 102 ∷ 102 ∷ 101 ∷ 114 ∷ 44 ∷ 32 ∷ []) ++ (numberText bad ++ (32 ∷ 98 ∷ 97 ∷ 100 ∷ 10 ∷ [])))))) ≤ 44 =
+    let second : length (numberText rows ++
+    ((32 ∷ 114 ∷ 111 ∷ 119 ∷ 115 ∷ 44 ∷ 32 ∷ [])
+    ++ (numberText differ ++ ((32 ∷ 100 ∷ 105 ∷ 102 ∷ 102 ∷ 101 ∷ 114 ∷ 44 ∷ 32 ∷ []) ++ (numberText bad ++ (32 ∷ 98 ∷ 97 ∷ 100 ∷ 10 ∷ [])))))) ≤ 44 =
     omega (
       arith,
-      length-append (numberText rows) ((32 ∷ 114 ∷ 111 ∷ 119 ∷ 115 ∷ 44 ∷ 32 ∷ []) ++ (numberText differ ++ ((32 ∷ 100 ∷ 105 ∷ 102 ∷ 102 ∷ 101 ∷ 114 ∷ 44 ∷ 32 ∷ []) ++ (numberText bad ++ (32 ∷ 98 ∷ 97 ∷ 100 ∷ 10 ∷ []))))),
+      length-append (numberText rows) ((32 ∷ 114 ∷ 111 ∷ 119 ∷ 115 ∷ 44 ∷ 32 ∷ [])
+          ++ (numberText differ ++ ((32 ∷ 100 ∷ 105 ∷ 102 ∷ 102 ∷ 101 ∷ 114 ∷ 44 ∷ 32 ∷ []) ++ (numberText bad ++ (32 ∷ 98 ∷ 97 ∷ 100 ∷ 10 ∷ []))))),
       number-five rows b,
       third,
     ) in
     omega (
       arith,
-      length-append (numberText products) ((32 ∷ 112 ∷ 114 ∷ 111 ∷ 100 ∷ 117 ∷ 99 ∷ 116 ∷ 115 ∷ 44 ∷ 32 ∷ []) ++ (numberText rows ++ ((32 ∷ 114 ∷ 111 ∷ 119 ∷ 115 ∷ 44 ∷ 32 ∷ []) ++ (numberText differ ++ ((32 ∷ 100 ∷ 105 ∷ 102 ∷ 102 ∷ 101 ∷ 114 ∷ 44 ∷ 32 ∷ []) ++ (numberText bad ++ (32 ∷ 98 ∷ 97 ∷ 100 ∷ 10 ∷ []))))))),
+      length-append (numberText products) ((32 ∷ 112 ∷ 114 ∷ 111 ∷ 100 ∷ 117 ∷ 99 ∷ 116 ∷ 115 ∷ 44 ∷ 32 ∷ [])
+          ++ (numberText rows ++ ((32 ∷ 114 ∷ 111 ∷ 119 ∷ 115 ∷ 44 ∷ 32 ∷ [])
+          ++ (numberText differ ++ ((32 ∷ 100 ∷ 105 ∷ 102 ∷ 102 ∷ 101 ∷ 114 ∷ 44 ∷ 32 ∷ []) ++ (numberText bad ++ (32 ∷ 98 ∷ 97 ∷ 100 ∷ 10 ∷ []))))))),
       number-five products a,
       second,
     )
 
 -- such a line has room in its bytes, and is as long as its text
-pub summary-fits : (products rows differ bad : ℕ) → length (summaryText products rows differ bad) < 64 → (l : Line) → LineWith emptyLine (summaryText products rows differ bad) l
+pub summary-fits : (products rows differ bad : ℕ) → length (summaryText products rows differ bad) < 64 → (l : Line)
+    → LineWith emptyLine (summaryText products rows differ bad) l
     → (l .length ≤ length (l .bytes)) × (l .length ≡ length (summaryText products rows differ bad))
 summary-fits products rows differ bad short l made =
     let text = summaryText products rows differ bad in

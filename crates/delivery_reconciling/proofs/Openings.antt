@@ -41,8 +41,10 @@ module _ (opening : List ℕ → ℕ → Outcome) (f : List ℕ) (opened date p 
   pub opening-fits : (l : Line) → LineWith emptyLine (openingText opening f opened date p) l
       → (l .length ≤ length (l .bytes)) × (l .length ≡ length (openingText opening f opened date p))
   opening-fits l made =
-      let room : length (l .bytes) ≡ 64 = line-room (openingText opening f opened date p) opening-short l made in
-      (omega (arith, room, line-fits (openingText opening f opened date p) opening-short l made), line-long (openingText opening f opened date p) opening-short l made)
+      let room : length (l .bytes) ≡ 64 = line-room (openingText opening f opened date p) opening-short l made in (
+        omega (arith, room, line-fits (openingText opening f opened date p) opening-short l made),
+        line-long (openingText opening f opened date p) opening-short l made,
+      )
 
 -- ---- place after place
 
@@ -51,7 +53,8 @@ pub openings-none : (part : ℕ → List ℕ) (n : ℕ) → Grew n (length (part
 openings-none part n = omega (arith, parts-none part)
 
 -- the lines of the first places and that of the next are those of one place more
-pub openings-more : (part : ℕ → List ℕ) (p n m k : ℕ) → Grew n (length (partsText part p)) m → Grew m (length (part p)) k → Grew n (length (partsText part (p + 1))) k
+pub openings-more : (part : ℕ → List ℕ) (p n m k : ℕ) → Grew n (length (partsText part p)) m → Grew m (length (part p)) k
+    → Grew n (length (partsText part (p + 1))) k
 openings-more part p n m k a b = omega (arith, a, b, parts-more part p)
 
 -- what was told of the first p places was told of the first q where p is q

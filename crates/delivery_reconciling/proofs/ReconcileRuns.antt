@@ -31,11 +31,13 @@ use Rattle.delivery_reports.specs.Reports.{differencesHeading}
 use Rattle.delivery_items.specs.declared.ItemRead.{ItemRead}
 use Rattle.delivery_items.specs.declared.LineRead.{LineRead}
 use Rattle.delivery_items.specs.Items.{lineRead}
-use Rattle.delivery_receipts.specs.Receipts.{Receipt, Sort, ended, empty, heading, bad, tooMany, good, receivedOf, sortOf, lineBrought, lineReceived, linesReceived, noReceipt, receiptOf}
+use Rattle.delivery_receipts.specs.Receipts.{Receipt, Sort, ended, empty, heading, bad, tooMany, good, receivedOf, sortOf, lineBrought, lineReceived}
+use Rattle.delivery_receipts.specs.Receipts.{linesReceived, noReceipt, receiptOf}
 use Rattle.delivery_receipts.specs.Receiving.{Lists, receivedTo, receiptIn, firstUnknown}
 use Rattle.delivery_receipts.proofs.RowsSoFar.{good-room}
 use Rattle.delivery_inputs.specs.ReconcileInputs.{badRowsText, badsCounted}
-use Rattle.delivery_reconciled.specs.Reconciled.{sumTo, keysAt, placeText, strangerText, isStranger, differencesText, differCount, openingText, summaryText, lastText, toldText, reconcileText, reconcileTold}
+use Rattle.delivery_reconciled.specs.Reconciled.{sumTo, keysAt, placeText, strangerText, isStranger, differencesText, differCount, openingText, summaryText}
+use Rattle.delivery_reconciled.specs.Reconciled.{lastText, toldText, reconcileText, reconcileTold}
 use Rattle.delivery_reconciled.specs.Standings.{idRowText, rowCount}
 use Rattle.delivery_reconciled.proofs.RowIds.{received-count, strangers-are, strangers-counted}
 use Rattle.delivery_reading.specs.declared.Reading.{Reading}
@@ -46,7 +48,8 @@ use Rattle.delivery_reconciling.specs.ReconcileRuns.{ProductsOut, Differ
 
 -- ---- no more than 65,536 rows are received
 
-brought-few : (room : ℕ) (k : Sort) (s : Receipt) (i : ItemRead) → length (s .rows) ≤ room → (k ≡ good → length (s .rows) < room) → length (lineBrought k s i .rows) ≤ room
+brought-few : (room : ℕ) (k : Sort) (s : Receipt) (i : ItemRead) → length (s .rows) ≤ room → (k ≡ good → length (s .rows) < room)
+    → length (lineBrought k s i .rows) ≤ room
 unfolding lineBrought
 brought-few room ended s i h g = h
 brought-few room empty s i h g = h
@@ -133,14 +136,21 @@ module _ (f notices : List ℕ) (verdict : Answer Calendar) (t : NoticesTaken) (
         record {
           text = λ o.
               let w = x .text (textTold notices) held o in
-              omega (arith, w .1, h (w .0), length-append differencesHeading (partsText (placeText (openCall f) f (textTold notices) (receivedTo a rows)) (placeCount f)));
+              omega (
+                arith,
+                w .1,
+                h (w .0),
+                length-append differencesHeading
+                    (partsText (placeText (openCall f) f (textTold notices) (receivedTo a rows)) (placeCount f)),
+              );
           lines = x .lines (textTold notices) held;
           few = x .few;
         }
 
 module _ (f notices : List ℕ) (a : Lists) (rows : ℕ) where
   whole-text : length (differencesText (openCall f) f (textTold notices) (receivedTo a rows))
-      ≡ length (differencesHeading ++ partsText (placeText (openCall f) f (textTold notices) (receivedTo a rows)) (placeCount f)) + length (partsText (idRowText f (a .ids)) rows)
+      ≡ length (differencesHeading ++ partsText (placeText (openCall f) f (textTold notices) (receivedTo a rows)) (placeCount f)) + length
+      (partsText (idRowText f (a .ids)) rows)
   unfolding differencesText
   whole-text =
       let places = partsText (placeText (openCall f) f (textTold notices) (receivedTo a rows)) (placeCount f) in
@@ -223,7 +233,13 @@ module _ (f notices : List ℕ) (verdict : Answer Calendar) (t : NoticesTaken) (
         let openings = partsText (openingText (openCall f) f (textTold notices .opened) (textTold notices .date)) (placeCount f) in
         let last = lastText (openCall f) f (textTold notices) (receiptIn (s .state) a (x .bads)) in
         let whole : reconcileTold f notices (x .input) ≡ openings ++ (badRowsText (x .bads) ++ last) = told-of (x .input) ∙ rw (← x .is) refl in
-        omega (arith, ap length whole, length-append openings (badRowsText (x .bads) ++ last), length-append (badRowsText (x .bads)) last, ap length openings-own)
+        omega (
+          arith,
+          ap length whole,
+          length-append openings (badRowsText (x .bads) ++ last),
+          length-append (badRowsText (x .bads)) last,
+          ap length openings-own,
+        )
 
     -- where there were too many rows nothing is written, and no counts are told
     pub ran-over : s .state .over ≡ true → (bytes : ℕ) → bytes ≡ 0 → (taken : Bool) → ReconcileRan f notices n taken bytes (s .told .bytes)
@@ -256,7 +272,8 @@ module _ (f notices : List ℕ) (verdict : Answer Calendar) (t : NoticesTaken) (
         all-written : reconcileText f notices (x .input) ≡ differencesText (openCall f) f (textTold notices) (receivedTo a (s .state .rows))
         all-written = text-of (x .input) ∙ rw (← x .is, e) refl
 
-        the-counts : lastText (openCall f) f (textTold notices) (receiptIn (s .state) a (x .bads)) ≡ summaryText (recordCount f) (s .state .rows) (p .lines) (s .bad)
+        the-counts : lastText (openCall f) f (textTold notices) (receiptIn (s .state) a (x .bads))
+            ≡ summaryText (recordCount f) (s .state .rows) (p .lines) (s .bad)
         the-counts =
             last-some (openCall f) f (textTold notices) (receiptIn (s .state) a (x .bads)) e
             ∙ rw (received-count a (s .state .rows), d .lines, x .tells .count) refl

@@ -27,7 +27,8 @@ five-digits n h =
     rw (decimal-5 n (omega arith) (omega arith) (omega arith) h, e) refl
 
 -- a line with the last digit of the ten thousands and then four digits has the number of 10000 or more
-pub number-large : (l m r : Line) (n : ℕ) → 10000 ≤ n → LineWith l (lastDigit (n / 10000 % 10) ∷ []) m → LineWith m (inFourDigits (n % 10000)) r → LineWith l (decimal n) r
+pub number-large : (l m r : Line) (n : ℕ) → 10000 ≤ n → LineWith l (lastDigit (n / 10000 % 10) ∷ []) m → LineWith m (inFourDigits (n % 10000)) r
+    → LineWith l (decimal n) r
 number-large l m r n h a b = rw (← five-digits n h) (then a b)
 
 -- a refusal that is 0, and one that is not
@@ -89,7 +90,8 @@ module _ (f calls ids : List ℕ) (i kind : ℕ) (k : kind ≡ getD calls (5 * i
     unknown-not t = rw (is-measure, eq-eqb kind 3 m, there ∙ t) refl
 
 -- the line for a notice with an unknown id tells the refusal with the line number and the id of the notice
-pub unknown-told : (f calls ids : List ℕ) (i refusal line : ℕ) (id : List ℕ) (r : Line) → refusal ≡ unknownRefusal f (noticeAt calls ids i) → line ≡ getD calls (5 * i) 0
+pub unknown-told : (f calls ids : List ℕ) (i refusal line : ℕ) (id : List ℕ) (r : Line) → refusal ≡ unknownRefusal f (noticeAt calls ids i)
+    → line ≡ getD calls (5 * i) 0
     → id ≡ noticeAt calls ids i .id → LineWith emptyLine (refusalTold line refusal id) r → LineWith emptyLine (unknownLine f calls ids i) r
 unfolding unknownLine
 unknown-told f calls ids i refusal line id r a b c q = rw (← a, ← b, ← c) q

@@ -66,8 +66,11 @@ unfolding differenceText
 difference-short kind id k d h =
     omega (
       arith,
-      length-append (idText id) ((44 ∷ []) ++ (nameText kind k ++ ((44 ∷ []) ++ (whyText (d .why) ++ ((44 ∷ []) ++ (deliveredText (d .why) (d .delivered) ++ ((44 ∷ []) ++ (rightText (d .why) (d .right) ++ (10 ∷ []))))))))),
-      length-append (nameText kind k) ((44 ∷ []) ++ (whyText (d .why) ++ ((44 ∷ []) ++ (deliveredText (d .why) (d .delivered) ++ ((44 ∷ []) ++ (rightText (d .why) (d .right) ++ (10 ∷ []))))))),
+      length-append (idText id) ((44 ∷ []) ++
+          (nameText kind k ++ ((44 ∷ []) ++ (whyText (d .why)
+          ++ ((44 ∷ []) ++ (deliveredText (d .why) (d .delivered) ++ ((44 ∷ []) ++ (rightText (d .why) (d .right) ++ (10 ∷ []))))))))),
+      length-append (nameText kind k) ((44 ∷ [])
+          ++ (whyText (d .why) ++ ((44 ∷ []) ++ (deliveredText (d .why) (d .delivered) ++ ((44 ∷ []) ++ (rightText (d .why) (d .right) ++ (10 ∷ []))))))),
       length-append (whyText (d .why)) ((44 ∷ []) ++ (deliveredText (d .why) (d .delivered) ++ ((44 ∷ []) ++ (rightText (d .why) (d .right) ++ (10 ∷ []))))),
       length-append (deliveredText (d .why) (d .delivered)) ((44 ∷ []) ++ (rightText (d .why) (d .right) ++ (10 ∷ []))),
       length-append (rightText (d .why) (d .right)) (10 ∷ []),

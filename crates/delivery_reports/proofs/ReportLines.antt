@@ -82,7 +82,8 @@ module _ (kind : Kind) (id : List ℕ) (k : ℕ) (d : Difference) (four : length
 
 module _ (listed : List Maturity) (rows : List DeliveredRow) where
   -- keys that do not differ have no line
-  skipped : (n from next : ℕ) → next ≡ firstFrom (differsIn listed rows) 65536 n from → from + n ≡ 65536 → differing listed rows n from ≡ differingFrom listed rows next
+  skipped : (n from next : ℕ) → next ≡ firstFrom (differsIn listed rows) 65536 n from → from + n ≡ 65536
+      → differing listed rows n from ≡ differingFrom listed rows next
   unfolding differing firstFrom
   skipped zero from next e s =
       let z : 65536 - next ≡ 0 = omega arith in
@@ -95,7 +96,8 @@ module _ (listed : List Maturity) (rows : List DeliveredRow) where
           ap (λ (n : ℕ). differing listed rows n next) z ∙ ap (differing listed rows (suc n)) q ∙ rw d refl
 
       go : (b : Bool) → differsIn listed rows from ≡ b → next ≡ cond b from (firstFrom (differsIn listed rows) 65536 n (suc from))
-          → (next ≡ firstFrom (differsIn listed rows) 65536 n (suc from) → suc from + n ≡ 65536 → differing listed rows n (suc from) ≡ differing listed rows (65536 - next) next)
+          → (next ≡ firstFrom (differsIn listed rows) 65536 n (suc from) → suc from + n ≡ 65536
+          → differing listed rows n (suc from) ≡ differing listed rows (65536 - next) next)
           → cond b (from ∷ differing listed rows n (suc from)) (differing listed rows n (suc from)) ≡ differing listed rows (65536 - next) next
       go true d e ih = sym (there d e)
       go false d e ih = ih e (omega arith)
@@ -122,7 +124,8 @@ module _ (listed : List Maturity) (rows : List DeliveredRow) where
   unfolding nextDifference
   next-most from next e = go (first-found (differsIn listed rows) 65536 (65536 - from) from)
     where
-      go : (firstFrom (differsIn listed rows) 65536 (65536 - from) from ≡ 65536) ⊎ Found (differsIn listed rows) (65536 - from) from (firstFrom (differsIn listed rows) 65536 (65536 - from) from) → next ≤ 65536
+      go : (firstFrom (differsIn listed rows) 65536 (65536 - from) from ≡ 65536)
+          ⊎ Found (differsIn listed rows) (65536 - from) from (firstFrom (differsIn listed rows) 65536 (65536 - from) from) → next ≤ 65536
       go (inl q) = omega arith
       go (inr w) = omega (arith, w .below, w .from)
 
@@ -131,7 +134,8 @@ module _ (listed : List Maturity) (rows : List DeliveredRow) where
   unfolding nextDifference
   next-on from next e h = go (first-found (differsIn listed rows) 65536 (65536 - from) from)
     where
-      go : (firstFrom (differsIn listed rows) 65536 (65536 - from) from ≡ 65536) ⊎ Found (differsIn listed rows) (65536 - from) from (firstFrom (differsIn listed rows) 65536 (65536 - from) from) → from ≤ next
+      go : (firstFrom (differsIn listed rows) 65536 (65536 - from) from ≡ 65536)
+          ⊎ Found (differsIn listed rows) (65536 - from) from (firstFrom (differsIn listed rows) 65536 (65536 - from) from) → from ≤ next
       go (inl q) = omega arith
       go (inr w) = omega (arith, w .from)
 
@@ -139,7 +143,8 @@ module _ (listed : List Maturity) (rows : List DeliveredRow) where
   unfolding nextDifference
   next-from from next e h = go (first-found (differsIn listed rows) 65536 (65536 - from) from)
     where
-      go : (firstFrom (differsIn listed rows) 65536 (65536 - from) from ≡ 65536) ⊎ Found (differsIn listed rows) (65536 - from) from (firstFrom (differsIn listed rows) 65536 (65536 - from) from) → from ≤ next
+      go : (firstFrom (differsIn listed rows) 65536 (65536 - from) from ≡ 65536)
+          ⊎ Found (differsIn listed rows) (65536 - from) from (firstFrom (differsIn listed rows) 65536 (65536 - from) from) → from ≤ next
       go (inl q) = absurd (omega arith)
       go (inr w) = omega (arith, w .from)
 
@@ -147,7 +152,8 @@ module _ (listed : List Maturity) (rows : List DeliveredRow) where
   unfolding nextDifference
   next-differs from next e h = go (first-found (differsIn listed rows) 65536 (65536 - from) from)
     where
-      go : (firstFrom (differsIn listed rows) 65536 (65536 - from) from ≡ 65536) ⊎ Found (differsIn listed rows) (65536 - from) from (firstFrom (differsIn listed rows) 65536 (65536 - from) from) → differsIn listed rows next ≡ true
+      go : (firstFrom (differsIn listed rows) 65536 (65536 - from) from ≡ 65536)
+          ⊎ Found (differsIn listed rows) (65536 - from) from (firstFrom (differsIn listed rows) 65536 (65536 - from) from) → differsIn listed rows next ≡ true
       go (inl q) = absurd (omega arith)
       go (inr w) = ap (differsIn listed rows) e ∙ w .passes
 
@@ -158,7 +164,8 @@ module _ (listed : List Maturity) (rows : List DeliveredRow) where
       ap (λ (n : ℕ). differing listed rows n k) z ∙ rw (d, add-one k) refl
 
 module _ (kind : Kind) (id : List ℕ) (listed : List Maturity) (rows : List DeliveredRow) where
-  key-line : (k : ℕ) → k < 65536 → differsIn listed rows k ≡ true → reportFrom kind id listed rows k ≡ differenceText kind id k (differenceOf listed rows k) ++ reportFrom kind id listed rows (k + 1)
+  key-line : (k : ℕ) → k < 65536 → differsIn listed rows k ≡ true
+      → reportFrom kind id listed rows k ≡ differenceText kind id k (differenceOf listed rows k) ++ reportFrom kind id listed rows (k + 1)
   unfolding reportFrom keysText
   key-line k h d = ap (keysText kind id listed rows) (one-more listed rows k h d)
 
@@ -168,7 +175,8 @@ module _ (kind : Kind) (id : List ℕ) (listed : List Maturity) (rows : List Del
 
 -- ---- line by line
 
-pub record Printing (kind : Kind) (id : List ℕ) (listed : List Maturity) (rows : List DeliveredRow) (from : ℕ) (before : List ℕ) (next n lines : ℕ) (out : List ℕ) : Type 0 where
+pub record Printing (kind : Kind) (id : List ℕ) (listed : List Maturity) (rows : List DeliveredRow) (from : ℕ) (before : List ℕ) (next n lines : ℕ)
+    (out : List ℕ) : Type 0 where
   -- what was written and the lines that are left are all lines
   pub is : reportFrom kind id listed rows from ≡ take n out ++ reportFrom kind id listed rows next
   -- the keys that differ are as many as the lines written and those left
@@ -207,17 +215,22 @@ module _ (kind : Kind) (id : List ℕ) (four : length id ≡ 4) (listed : List M
   module _ (next n lines : ℕ) (out : List ℕ) (g : Printing kind id listed rows from before next n lines out) {b : Bool} (s : b ≡ anotherKey next out n) where
     -- where there is another line, it is written after those before it, and the next key that differs follows
     pub goes : b ≡ true → (l : Line) → LineWith emptyLine (differenceText kind id next (differenceOf listed rows next)) l → (r : ℕ) (after : List ℕ)
-        → r ≡ n + l .length → after ≡ paste out n (l .bytes) (l .length) → (then : ℕ) → then ≡ nextDifference listed rows (next + 1) → Printing kind id listed rows from before then r (lines + 1) after
+        → r ≡ n + l .length → after ≡ paste out n (l .bytes) (l .length) → (then : ℕ) → then ≡ nextDifference listed rows (next + 1)
+        → Printing kind id listed rows from before then r (lines + 1) after
     goes t l e r after p a then q =
         let m : (next < 65536) × (n + 64 ≤ length out) = has-more next out n s t in
         let d : differsIn listed rows next ≡ true = g .differs (m .0) in
         let k : length (l .bytes) ≡ 64 = line-room kind id next (differenceOf listed rows next) four l e in
         let w : l .length ≤ 64 = line-fits kind id next (differenceOf listed rows next) four l e in
-        let x : take r after ≡ take n out ++ differenceText kind id next (differenceOf listed rows next) = rw (p, a) (take-paste out n (l .bytes) (l .length) (g .fits) (omega (arith, k, w)) ∙ ap (λ (t : List ℕ). take n out ++ t) (line-is kind id next (differenceOf listed rows next) four l e)) in
+        let x : take r after ≡ take n out ++ differenceText kind id next (differenceOf listed rows next) =
+        rw (p, a) (take-paste out n (l .bytes) (l .length) (g .fits) (omega (arith, k, w)) ∙
+        ap (λ (t : List ℕ). take n out ++ t) (line-is kind id next (differenceOf listed rows next) four l e)) in
         let len : length after ≡ length out = rw a (length-paste out n (l .bytes) (l .length) (omega (arith, w, m .1)) (omega (arith, k, w))) in
         let u : next + 1 ≤ then = next-on listed rows (next + 1) then q (omega (arith, m .0)) in
         record {
-          is = g .is ∙ ap (λ (t : List ℕ). take n out ++ t) (key-line kind id listed rows next (m .0) d ∙ ap (λ (t : List ℕ). differenceText kind id next (differenceOf listed rows next) ++ t) (skip-lines kind id listed rows (next + 1) then q))
+          is = g .is ∙ ap (λ (t : List ℕ). take n out ++ t)
+              (key-line kind id listed rows next (m .0) d ∙
+              ap (λ (t : List ℕ). differenceText kind id next (differenceOf listed rows next) ++ t) (skip-lines kind id listed rows (next + 1) then q))
               ∙ sym (append-assoc (take n out) (differenceText kind id next (differenceOf listed rows next)) (reportFrom kind id listed rows then))
               ∙ ap (λ (t : List ℕ). t ++ reportFrom kind id listed rows then) (sym x);
           written = omega (arith, g .written, ap length (one-more listed rows next (m .0) d), ap length (next-skips listed rows (next + 1) then q));
@@ -239,7 +252,16 @@ module _ (kind : Kind) (id : List ℕ) (four : length id ≡ 4) (listed : List M
     -- where there is no other line, the lines of the keys from the first to the next stand in the buffer
     pub ends : b ≡ false → ReportLinesIn kind id listed rows from before out (record { next = next; length = n; lines = lines })
     ends t =
-        record { is = g .is; lines = g .written; fits = g .fits; unchanged = g .unchanged; long = g .long; moves = λ h l. moved (g .on) h l; within = g .within }
+        record {
+          is = g .is;
+          lines = g .written;
+          fits = g .fits;
+          unchanged = g .unchanged;
+          long = g .long;
+          moves = λ h l. moved (g .on) h l;
+          within =
+              g .within;
+        }
       where
         moved : ((n ≡ 0) × (next < 65536 → from ≤ next)) ⊎ (from < next) → 64 ≤ length before → from < 65536 → from < next
         moved (inl d) h l = still (lt-or-ge next 65536)

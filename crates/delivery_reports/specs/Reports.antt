@@ -92,7 +92,8 @@ unfoldable pub anotherKey : ℕ → List ℕ → ℕ → Bool
 anotherKey next out length′ = ltb next 65536 && leb (length′ + 64) (length out)
 
 -- of a buffer before and after: the lines of the keys from one on, up to the next, stand at its start
-pub record ReportLinesIn (kind : Kind) (id : List ℕ) (listed : List Maturity) (rows : List DeliveredRow) (from : ℕ) (before after : List ℕ) (r : ReportProgress) : Type 0 where
+pub record ReportLinesIn (kind : Kind) (id : List ℕ) (listed : List Maturity) (rows : List DeliveredRow) (from : ℕ) (before after : List ℕ)
+    (r : ReportProgress) : Type 0 where
   -- what was written and the lines that are left are all
   pub is : reportFrom kind id listed rows from ≡ take (r .length) after ++ reportFrom kind id listed rows (r .next)
   -- how many were written

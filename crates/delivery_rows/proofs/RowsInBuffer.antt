@@ -114,7 +114,8 @@ module _ (id : List ℕ) (kind : Kind) (ms : List Maturity) (at : ℕ) (before :
   unfolding rowsFirst
   begins = record { is = sym (append-nil (take at before)); to = omega arith; small = omega arith; unchanged = refl; long = refl }
 
-  module _ (next i : ℕ) (out : List ℕ) (g : Putting id kind ms at before next i out) (few : i < 15) (room : at + 1024 ≤ length before) (four : length id ≡ 4) (l : Line)
+  module _ (next i : ℕ) (out : List ℕ) (g : Putting id kind ms at before next i out) (few : i < 15) (room : at + 1024 ≤ length before) (four : length id ≡ 4)
+      (l : Line)
       (made : LineWith emptyLine (rowText (deliveryRow id kind (getD ms i unused))) l) where
     abbrev text : List ℕ
     text = rowText (deliveryRow id kind (getD ms i unused))
@@ -127,7 +128,8 @@ module _ (id : List ℕ) (kind : Kind) (ms : List Maturity) (at : ℕ) (before :
     fits = (omega (arith, short, line-count text l made short), omega (arith, g .to, g .small, g .long))
 
     -- the state after one more row, put at the next place
-    pub goes : (r j : ℕ) (after : List ℕ) → r ≡ next + l .length → after ≡ paste out next (l .bytes) (l .length) → j ≡ i + 1 → Putting id kind ms at before r j after
+    pub goes : (r j : ℕ) (after : List ℕ) → r ≡ next + l .length → after ≡ paste out next (l .bytes) (l .length) → j ≡ i + 1
+        → Putting id kind ms at before r j after
     unfolding rowsFirst
     goes r j after p a e =
         let k : length (l .bytes) ≡ 64 = line-room text l made short in
@@ -140,7 +142,8 @@ module _ (id : List ℕ) (kind : Kind) (ms : List Maturity) (at : ℕ) (before :
         (record {
           is =
               rw (p, a)
-              (take-paste out next (l .bytes) (l .length) within (omega (arith, k, w)) ∙ rw (g .is, line-is text l made short) (append-assoc (take at before) (rowsFirst id kind ms i) text));
+              (take-paste out next (l .bytes) (l .length) within (omega (arith, k, w)) ∙
+              rw (g .is, line-is text l made short) (append-assoc (take at before) (rowsFirst id kind ms i) text));
           to = omega (arith, p, g .to, c, length-append (rowsFirst id kind ms i) text);
           small = omega (arith, g .small, short, length-append (rowsFirst id kind ms i) text);
           unchanged = rw (p, a)
@@ -160,16 +163,19 @@ unfolding rowsText
 rows-snoc [] r = append-nil (rowText r)
 rows-snoc (x ∷ rs) r = ap (λ (t : List ℕ). rowText x ++ t) (rows-snoc rs r) ∙ sym (append-assoc (rowText x) (rowsText rs) (rowText r))
 
-map-snoc : (id : List ℕ) (kind : Kind) (ms : List Maturity) (m : Maturity) → map (deliveryRow id kind) (ms ++ (m ∷ [])) ≡ map (deliveryRow id kind) ms ++ (deliveryRow id kind m ∷ [])
+map-snoc : (id : List ℕ) (kind : Kind) (ms : List Maturity) (m : Maturity)
+    → map (deliveryRow id kind) (ms ++ (m ∷ [])) ≡ map (deliveryRow id kind) ms ++ (deliveryRow id kind m ∷ [])
 map-snoc id kind [] m = refl
 map-snoc id kind (x ∷ ms) m = ap (λ (rs : List Row). deliveryRow id kind x ∷ rs) (map-snoc id kind ms m)
 
-first-rows : (id : List ℕ) (kind : Kind) (ms : List Maturity) (n : ℕ) → n ≤ length ms → rowsFirst id kind ms n ≡ rowsText (map (deliveryRow id kind) (take n ms))
+first-rows : (id : List ℕ) (kind : Kind) (ms : List Maturity) (n : ℕ) → n ≤ length ms
+    → rowsFirst id kind ms n ≡ rowsText (map (deliveryRow id kind) (take n ms))
 unfolding rowsFirst rowsText
 first-rows id kind ms zero h = refl
 first-rows id kind ms (suc n) h =
     rw (take-suc ms n unused (omega arith), map-snoc id kind (take n ms) (getD ms n unused))
-    (ap (λ (t : List ℕ). t ++ rowText (deliveryRow id kind (getD ms n unused))) (first-rows id kind ms n (omega arith)) ∙ sym (rows-snoc (map (deliveryRow id kind) (take n ms)) (deliveryRow id kind (getD ms n unused))))
+    (ap (λ (t : List ℕ). t ++ rowText (deliveryRow id kind (getD ms n unused))) (first-rows id kind ms n (omega arith)) ∙
+    sym (rows-snoc (map (deliveryRow id kind) (take n ms)) (deliveryRow id kind (getD ms n unused))))
 
 -- ---- whether there is room
 

@@ -29,13 +29,15 @@ use Rattle.delivery_tables.specs.Tables.{callsFor, tableAfter}
 use Rattle.delivery_rows.specs.Delivery.{Row, deliveryRow, tableRows, opensAt, placeRows, rowsTo, RowOfTable, EveryRow}
 
 -- a row of some maturities
-row-at : (id : List ℕ) (kind : Kind) (none : Row) (ms : List Maturity) (i : ℕ) → i < length ms → getD (map (deliveryRow id kind) ms) i none ≡ deliveryRow id kind (getD ms i unused)
+row-at : (id : List ℕ) (kind : Kind) (none : Row) (ms : List Maturity) (i : ℕ) → i < length ms
+    → getD (map (deliveryRow id kind) ms) i none ≡ deliveryRow id kind (getD ms i unused)
 row-at id kind none [] i h = absurd (omega arith)
 row-at id kind none (m ∷ ms) zero h = refl
 row-at id kind none (m ∷ ms) (suc i) h = row-at id kind none ms i (omega arith)
 
 -- calls on an opened table leave the product's kind
-kind-kept : (f id : List ℕ) (date : ℕ) (cs : List Call) → openCall f id date .refusal ≡ 0 → tableRun (openCall f id date .table) cs .product .kind ≡ productOf f id .kind
+kind-kept : (f id : List ℕ) (date : ℕ) (cs : List Call) → openCall f id date .refusal ≡ 0
+    → tableRun (openCall f id date .table) cs .product .kind ≡ productOf f id .kind
 kind-kept f id date cs z =
     let h = from-file f id date z cs [] in
     ap (λ (t : Table). tableRun t cs .product .kind) (h .opened) ∙ ap (λ (p : Product). p .kind) (h .demand .product)
@@ -49,7 +51,8 @@ module _ (f : List ℕ) (date : ℕ) (ns : List Notice) where
       (a, eqb-true _ _ b)
 
   -- a row of a place
-  of-place : (p i : ℕ) (none : Row) → opensAt f date p ≡ true → i < length (tableRows (idAt f p) (tableAfter f (idAt f p) date ns)) → RowOfTable f date ns (getD (tableRows (idAt f p) (tableAfter f (idAt f p) date ns)) i none)
+  of-place : (p i : ℕ) (none : Row) → opensAt f date p ≡ true → i < length (tableRows (idAt f p) (tableAfter f (idAt f p) date ns))
+      → RowOfTable f date ns (getD (tableRows (idAt f p) (tableAfter f (idAt f p) date ns)) i none)
   unfolding tableRows
   of-place p i none e h =
       let t = tableAfter f (idAt f p) date ns in
@@ -74,7 +77,8 @@ module _ (f : List ℕ) (date : ℕ) (ns : List Notice) where
   unfolding placeRows
   placed p i none h = go (opensAt f date p) refl h
     where
-      go : (b : Bool) → opensAt f date p ≡ b → i < length (cond b (tableRows (idAt f p) (tableAfter f (idAt f p) date ns)) []) → RowOfTable f date ns (getD (cond b (tableRows (idAt f p) (tableAfter f (idAt f p) date ns)) []) i none)
+      go : (b : Bool) → opensAt f date p ≡ b → i < length (cond b (tableRows (idAt f p) (tableAfter f (idAt f p) date ns)) [])
+          → RowOfTable f date ns (getD (cond b (tableRows (idAt f p) (tableAfter f (idAt f p) date ns)) []) i none)
       go true e h = of-place p i none e h
       go false e h = absurd (omega arith)
 

@@ -49,7 +49,8 @@ module _ (of : List ℕ → Standing) (k : ℕ) (l : LongLine) (part : List ℕ)
       long = length-append (d .text) (take (r .length) after) ∙ ap (λ (x : ℕ). length (d .text) + x) (length-take-le (r .length) after (a .fits))
 
   -- it is used up
-  pub handed-all : (k′ : ℕ) (l′ : LongLine) (at m : ℕ) → length part ≤ at → QueryHanded of k l part n k′ l′ (drop at part) m → QueryHanded of k l part n k′ l′ [] m
+  pub handed-all : (k′ : ℕ) (l′ : LongLine) (at m : ℕ) → length part ≤ at → QueryHanded of k l part n k′ l′ (drop at part) m
+      → QueryHanded of k l part n k′ l′ [] m
   handed-all k′ l′ at m h d = rw (drop-of-length-le part h) at d
 
 -- the count after the last line

@@ -31,7 +31,8 @@ pub record LineFed (l : LongLine) (part : List ℕ) (from : ℕ) (r : LineEnd) :
 -- one line, or the rest of the part: a piece of text stands after what stood in the buffer, and for every rest of the input it is what comes next
 pub record QueryNext (of : List ℕ → Standing) (part before after : List ℕ) (s r : QueryProgress) : Type 0 where
   pub piece : List ℕ
-  pub text : (rest : List ℕ) → queryRest of (s .number) (s .line) (drop (s .at) part ++ rest) ≡ piece ++ queryRest of (r .number) (r .line) (drop (r .at) part ++ rest)
+  pub text : (rest : List ℕ) → queryRest of (s .number) (s .line) (drop (s .at) part ++ rest)
+      ≡ piece ++ queryRest of (r .number) (r .line) (drop (r .at) part ++ rest)
   pub is : take (r .length) after ≡ take (s .length) before ++ piece
   pub unchanged : drop (r .length) after ≡ drop (r .length) before
   pub long : length after ≡ length before
@@ -41,7 +42,8 @@ pub record QueryNext (of : List ℕ → Standing) (part before after : List ℕ)
 -- the answers to the lines that end in a part from a place on
 pub record QueryAnswers (of : List ℕ → Standing) (k : ℕ) (l : LongLine) (part : List ℕ) (from : ℕ) (before after : List ℕ) (r : QueryProgress) : Type 0 where
   -- for every rest of the input, what was written followed by the text of what remains is the text of the whole
-  pub text : (rest : List ℕ) → queryRest of k l (drop from part ++ rest) ≡ take (r .length) after ++ queryRest of (r .number) (r .line) (drop (r .at) part ++ rest)
+  pub text : (rest : List ℕ) → queryRest of k l (drop from part ++ rest)
+      ≡ take (r .length) after ++ queryRest of (r .number) (r .line) (drop (r .at) part ++ rest)
   -- it stands at the buffer's start, and nothing else is changed
   pub fits : r .length ≤ length after
   pub unchanged : drop (r .length) after ≡ drop (r .length) before

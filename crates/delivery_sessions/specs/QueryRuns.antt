@@ -20,7 +20,8 @@ use Rattle.delivery_sessions.specs.QueryParts.{queryRest}
 -- those to the lines that end in the part between the places of s and r; or the answer to the line of s as the last one;
 -- that s is the state which the run has reached, and that `last` is used where the input has ended, is seen where it is used, not said here
 pub data QueryComesNext (of : List ℕ → Standing) (part : List ℕ) (s r : QueryProgress) (bytes : List ℕ) : Type 0 where
-  answers : ((rest : List ℕ) → queryRest of (s .number) (s .line) (drop (s .at) part ++ rest) ≡ bytes ++ queryRest of (r .number) (r .line) (drop (r .at) part ++ rest))
+  answers : ((rest : List ℕ) → queryRest of (s .number) (s .line) (drop (s .at) part ++ rest)
+      ≡ bytes ++ queryRest of (r .number) (r .line) (drop (r .at) part ++ rest))
       → QueryComesNext of part s r bytes
   last : queryRest of (s .number) (s .line) [] ≡ bytes → QueryComesNext of part s r bytes
 

@@ -130,7 +130,8 @@ q-out p q h = rw (lt-leb q 1000 h) (no-fourth (leb 1 p) (leb p 1000) (leb 1 q))
 ratio-either : (p q : ℕ) → ((capped p ≡ p) × (capped q ≡ q)) ⊎ ((ratioRight (capped p) (capped q) ≡ false) × (ratioRight p q ≡ false))
 ratio-either p q = go (lt-or-ge 1000 p) (lt-or-ge 1000 q)
   where
-    go : (1000 < p) ⊎ (p ≤ 1000) → (1000 < q) ⊎ (q ≤ 1000) → ((capped p ≡ p) × (capped q ≡ q)) ⊎ ((ratioRight (capped p) (capped q) ≡ false) × (ratioRight p q ≡ false))
+    go : (1000 < p) ⊎ (p ≤ 1000) → (1000 < q) ⊎ (q ≤ 1000)
+        → ((capped p ≡ p) × (capped q ≡ q)) ⊎ ((ratioRight (capped p) (capped q) ≡ false) × (ratioRight p q ≡ false))
     go (inl h) g = inr (p-out (capped p) (capped q) (capped-out p h), p-out p q h)
     go (inr h) (inl g) = inr (q-out (capped p) (capped q) (capped-out q g), q-out p q g)
     go (inr h) (inr g) = inl (capped-small p h, capped-small q g)
@@ -178,7 +179,8 @@ measure-same t p q price = go (priceRight price) refl
 
 -- ---- every call
 
-day-same : (call : Table → ℕ → Outcome) (t : Table) → ((day : ℕ) → 36525 ≤ day → call t day ≡ refusedWith t (cond (sound t) 11 10)) → (day : ℕ) → call t (shortIn day) ≡ call t day
+day-same : (call : Table → ℕ → Outcome) (t : Table) → ((day : ℕ) → 36525 ≤ day → call t day ≡ refusedWith t (cond (sound t) 11 10)) → (day : ℕ)
+    → call t (shortIn day) ≡ call t day
 day-same call t past day = go (lt-or-ge 65535 day)
   where
     go : (65535 < day) ⊎ (day ≤ 65535) → call t (shortIn day) ≡ call t day

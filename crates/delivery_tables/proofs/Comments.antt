@@ -19,7 +19,8 @@ noticed-still id t n h = go (concerns id n) refl
     go true e = rw e (refused-same t (n .call) (h e))
     go false e = rw e refl
 
-refusals-one : (id : List ℕ) (t : Table) (n : Notice) (ns : List Notice) → refusalsFor id t (n ∷ ns) ≡ noticed id t n .refusal ∷ refusalsFor id (noticed id t n .table) ns
+refusals-one : (id : List ℕ) (t : Table) (n : Notice) (ns : List Notice)
+    → refusalsFor id t (n ∷ ns) ≡ noticed id t n .refusal ∷ refusalsFor id (noticed id t n .table) ns
 unfolding refusalsFor
 refusals-one id t n ns = refl
 
@@ -29,7 +30,8 @@ pub comment : (id : List ℕ) (t : Table) (before : List Notice) (n : Notice) (r
 comment id t before n rest h =
     record {
       table =
-          run-append id t before (n ∷ rest) ∙ run-first id so-far n rest ∙ ap (λ (x : Table). tableRun x (callsFor id rest)) still ∙ sym (run-append id t before rest);
+          run-append id t before (n ∷ rest) ∙ run-first id so-far n rest ∙ ap (λ (x : Table). tableRun x (callsFor id rest)) still ∙
+          sym (run-append id t before rest);
       refusals = refusals-append id t before (n ∷ rest) ∙ rw (refusals-one id so-far n rest, still) refl;
       without = refusals-append id t before rest;
     }

@@ -77,11 +77,13 @@ noticed-tenth id t n = go (concerns id n) refl
 -- ---- lists of notices
 
 -- the first notice of a list, and the calls of the product
-pub run-first : (id : List ℕ) (t : Table) (n : Notice) (ns : List Notice) → tableRun t (callsFor id (n ∷ ns)) ≡ tableRun (noticed id t n .table) (callsFor id ns)
+pub run-first : (id : List ℕ) (t : Table) (n : Notice) (ns : List Notice)
+    → tableRun t (callsFor id (n ∷ ns)) ≡ tableRun (noticed id t n .table) (callsFor id ns)
 unfolding noticed callsFor tableRun
 run-first id t n ns = go (concerns id n) refl
   where
-    go : (b : Bool) → concerns id n ≡ b → tableRun t (cond (concerns id n) (n .call ∷ callsFor id ns) (callsFor id ns)) ≡ tableRun (cond (concerns id n) (tableCall t (n .call)) (noCall t) .table) (callsFor id ns)
+    go : (b : Bool) → concerns id n ≡ b → tableRun t (cond (concerns id n) (n .call ∷ callsFor id ns) (callsFor id ns))
+        ≡ tableRun (cond (concerns id n) (tableCall t (n .call)) (noCall t) .table) (callsFor id ns)
     go true e = rw e
     go false e = rw e
 
@@ -99,35 +101,44 @@ refusals-none : (id : List ℕ) (t : Table) → refusalsFor id t [] ≡ []
 unfolding refusalsFor
 refusals-none id t = refl
 
-refusals-first : (id : List ℕ) (t : Table) (n : Notice) (ns : List Notice) → refusalsFor id t (n ∷ ns) ≡ noticed id t n .refusal ∷ refusalsFor id (noticed id t n .table) ns
+refusals-first : (id : List ℕ) (t : Table) (n : Notice) (ns : List Notice)
+    → refusalsFor id t (n ∷ ns) ≡ noticed id t n .refusal ∷ refusalsFor id (noticed id t n .table) ns
 unfolding refusalsFor
 refusals-first id t n ns = refl
 
 -- the refusals of two lists of notices are those of the first, then those of the second on the table after the first
-pub refusals-append : (id : List ℕ) (t : Table) (ns ms : List Notice) → refusalsFor id t (ns ++ ms) ≡ refusalsFor id t ns ++ refusalsFor id (tableRun t (callsFor id ns)) ms
+pub refusals-append : (id : List ℕ) (t : Table) (ns ms : List Notice)
+    → refusalsFor id t (ns ++ ms) ≡ refusalsFor id t ns ++ refusalsFor id (tableRun t (callsFor id ns)) ms
 refusals-append id t [] ms = rw (refusals-none id t, run-none id t) refl
 refusals-append id t (n ∷ ns) ms =
     rw (refusals-first id t n (ns ++ ms), refusals-first id t n ns, refusals-append id (noticed id t n .table) ns ms, run-first id t n ns) refl
 
 -- one notice more
-pub run-more : (id : List ℕ) (t : Table) (ns : List Notice) (n : Notice) → tableRun t (callsFor id (ns ++ (n ∷ []))) ≡ noticed id (tableRun t (callsFor id ns)) n .table
-run-more id t ns n = run-append id t ns (n ∷ []) ∙ run-first id (tableRun t (callsFor id ns)) n [] ∙ run-none id (noticed id (tableRun t (callsFor id ns)) n .table)
+pub run-more : (id : List ℕ) (t : Table) (ns : List Notice) (n : Notice)
+    → tableRun t (callsFor id (ns ++ (n ∷ []))) ≡ noticed id (tableRun t (callsFor id ns)) n .table
+run-more id t ns n = run-append id t ns (n ∷ []) ∙ run-first id (tableRun t (callsFor id ns)) n [] ∙
+    run-none id (noticed id (tableRun t (callsFor id ns)) n .table)
 
-refusals-more : (id : List ℕ) (t : Table) (ns : List Notice) (n : Notice) → refusalsFor id t (ns ++ (n ∷ [])) ≡ refusalsFor id t ns ++ (noticed id (tableRun t (callsFor id ns)) n .refusal ∷ [])
+refusals-more : (id : List ℕ) (t : Table) (ns : List Notice) (n : Notice)
+    → refusalsFor id t (ns ++ (n ∷ [])) ≡ refusalsFor id t ns ++ (noticed id (tableRun t (callsFor id ns)) n .refusal ∷ [])
 refusals-more id t ns n =
     refusals-append id t ns (n ∷ [])
     ∙ rw (refusals-first id (tableRun t (callsFor id ns)) n [], refusals-none id (noticed id (tableRun t (callsFor id ns)) n .table)) refl
 
 -- the refusals of the notices that are calls of the product are those of the list of demand 3
-only-replies : (id : List ℕ) (t : Table) (ns : List Notice) → onlyFor id ns (refusalsFor id t ns) ≡ map (λ (x : Reply). x .refusal) (tableReplies t (callsFor id ns))
+only-replies : (id : List ℕ) (t : Table) (ns : List Notice)
+    → onlyFor id ns (refusalsFor id t ns) ≡ map (λ (x : Reply). x .refusal) (tableReplies t (callsFor id ns))
 unfolding onlyFor refusalsFor callsFor tableReplies noticed
 only-replies id t [] = refl
 only-replies id t (n ∷ ns) = go (concerns id n) refl (only-replies id (tableCall t (n .call) .table) ns) (only-replies id t ns)
   where
     go : (b : Bool) → concerns id n ≡ b
-        → onlyFor id ns (refusalsFor id (tableCall t (n .call) .table) ns) ≡ map (λ (x : Reply). x .refusal) (tableReplies (tableCall t (n .call) .table) (callsFor id ns))
+        → onlyFor id ns (refusalsFor id (tableCall t (n .call) .table) ns)
+        ≡ map (λ (x : Reply). x .refusal) (tableReplies (tableCall t (n .call) .table) (callsFor id ns))
         → onlyFor id ns (refusalsFor id t ns) ≡ map (λ (x : Reply). x .refusal) (tableReplies t (callsFor id ns))
-        → cond (concerns id n) (cond (concerns id n) (tableCall t (n .call)) (noCall t) .refusal ∷ onlyFor id ns (refusalsFor id (cond (concerns id n) (tableCall t (n .call)) (noCall t) .table) ns)) (onlyFor id ns (refusalsFor id (cond (concerns id n) (tableCall t (n .call)) (noCall t) .table) ns))
+        → cond (concerns id n) (cond (concerns id n) (tableCall t (n .call)) (noCall t) .refusal
+        ∷ onlyFor id ns (refusalsFor id (cond (concerns id n) (tableCall t (n .call)) (noCall t) .table) ns))
+        (onlyFor id ns (refusalsFor id (cond (concerns id n) (tableCall t (n .call)) (noCall t) .table) ns))
         ≡ map (λ (x : Reply). x .refusal) (tableReplies t (cond (concerns id n) (n .call ∷ callsFor id ns) (callsFor id ns)))
     go true e with-call without = rw e (ap (λ (l : List ℕ). tableCall t (n .call) .refusal ∷ l) with-call)
     go false e with-call without = rw e without
@@ -156,7 +167,8 @@ drop-one : (l : List ℕ) (k : ℕ) → drop (suc k) l ≡ drop 1 (drop k l)
 drop-one l k = sym (drop-drop 1 k l ∙ rw (add-one k) refl)
 
 -- question 10 stays as it was
-pub tenth-turns : (id : List ℕ) (t : Table) (n : Notice) (o : MadeApart) (closed exchange : List ℕ) (ten : Bool) → ten ≡ sound t → CallMade (noticed id t n) o closed exchange
+pub tenth-turns : (id : List ℕ) (t : Table) (n : Notice) (o : MadeApart) (closed exchange : List ℕ) (ten : Bool) → ten ≡ sound t
+    → CallMade (noticed id t n) o closed exchange
     → ten ≡ sound (tableWith (o .rest) closed exchange)
 tenth-turns id t n o closed exchange ten w e = w ∙ sym (noticed-tenth id t n) ∙ sym (ap sound (e .table))
 
@@ -183,7 +195,8 @@ module _ (id calls ids before : List ℕ) (start : Table) where
       }
 
   -- the state after one more notice, its refusal stored in its place
-  pub turns : (buffer after : List ℕ) (t : Table) (i : ℕ) (o : MadeApart) (closed exchange : List ℕ) → Taking id calls ids before start buffer t i → i < length before
+  pub turns : (buffer after : List ℕ) (t : Table) (i : ℕ) (o : MadeApart) (closed exchange : List ℕ) → Taking id calls ids before start buffer t i
+      → i < length before
       → CallMade (noticed id t (noticeAt calls ids i)) o closed exchange → after ≡ set buffer i (o .refusal)
       → Taking id calls ids before start after (tableWith (o .rest) closed exchange) (i + 1)
   turns buffer after t i o closed exchange s h e q =
@@ -191,7 +204,15 @@ module _ (id calls ids before : List ℕ) (start : Table) where
         table =
             rw (notices-more calls ids i, run-more id start (noticesTo calls ids i) (noticeAt calls ids i), ← s .table) (e .table);
         refusals =
-            rw (notices-more calls ids i, refusals-more id start (noticesTo calls ids i) (noticeAt calls ids i), add-one i, q, take-suc-set buffer i (o .refusal) (omega (arith, s .long)), s .refusals, ← s .table)
+            rw (
+              notices-more calls ids i,
+              refusals-more id start (noticesTo calls ids i) (noticeAt calls ids i),
+              add-one i,
+              q,
+              take-suc-set buffer i (o .refusal) (omega (arith, s .long)),
+              s .refusals,
+              ← s .table,
+            )
             (ap (λ (x : ℕ). refusalsFor id start (noticesTo calls ids i) ++ (x ∷ [])) (e .refusal));
         unchanged = rw (q, add-one i, drop-set-lt (suc i) buffer i (o .refusal) (omega arith)) (later buffer before i (s .unchanged));
         long = ap length q ∙ simp length-set (s .long);
@@ -213,7 +234,8 @@ module _ (id calls ids before : List ℕ) (start : Table) where
 
 module _ (opening : List ℕ → ℕ → Outcome) (id calls ids : List ℕ) (date count : ℕ) (before : List ℕ) (o : Outcome) (is : o ≡ opening id date) where
   -- no room: no notice is taken
-  pub not-made : length before < count → Delivers opening id date (noticesTo calls ids count) before before (record { fits = false; refusal = o .refusal; table = o .table })
+  pub not-made : length before < count → Delivers opening id date (noticesTo calls ids count) before before
+      (record { fits = false; refusal = o .refusal; table = o .table })
   not-made h =
       record {
         fits = rw (notices-length calls ids count) (sym (lt-leb count (length before) h));

@@ -62,14 +62,16 @@ onlyFor id (n ∷ ns) (r ∷ rs) = cond (concerns id n) (r ∷ onlyFor id ns rs)
 -- of a product with notices:
 -- what is said of them is what demand 3 says of the list of their calls, and it holds of this list, at its end and after any more calls
 pub record Claimed (f id : List ℕ) (date : ℕ) (ns : List Notice) : Type 0 where
-  pub replies : onlyFor id ns (refusalsFor id (openCall f id date .table) ns) ≡ map (λ (x : Reply). x .refusal) (tableReplies (openCall f id date .table) (callsFor id ns))
+  pub replies : onlyFor id ns (refusalsFor id (openCall f id date .table) ns)
+      ≡ map (λ (x : Reply). x .refusal) (tableReplies (openCall f id date .table) (callsFor id ns))
   pub history : openCall f id date .refusal ≡ 0 → (ds : List Call) → FromFile f id date (callsFor id ns) ds
 
 -- 'A notice that is refused for every product may be made a comment: nothing changes by it':
 -- of a product with some notices, one that is refused on its table or is no call of it, and more
 pub record Comment (id : List ℕ) (t : Table) (before : List Notice) (n : Notice) (rest : List Notice) : Type 0 where
   pub table : tableRun t (callsFor id (before ++ (n ∷ rest))) ≡ tableRun t (callsFor id (before ++ rest))
-  pub refusals : refusalsFor id t (before ++ (n ∷ rest)) ≡ refusalsFor id t before ++ (noticed id (tableRun t (callsFor id before)) n .refusal ∷ refusalsFor id (tableRun t (callsFor id before)) rest)
+  pub refusals : refusalsFor id t (before ++ (n ∷ rest))
+      ≡ refusalsFor id t before ++ (noticed id (tableRun t (callsFor id before)) n .refusal ∷ refusalsFor id (tableRun t (callsFor id before)) rest)
   pub without : refusalsFor id t (before ++ rest) ≡ refusalsFor id t before ++ refusalsFor id (tableRun t (callsFor id before)) rest
 
 -- of a table, notices and a buffer before and after: the table is the one that the calls leave, and the buffer starts with the refusals

@@ -64,11 +64,13 @@ module _ (cal : Calendar) (anchor : ℕ) where
   before t = rw t
 
 -- the Italian exception
-pub exception : (group : List ℕ) (month friday anchor : ℕ) → friday ≡ thirdFriday month → anchor ≡ cond (italian group) (friday - 1) friday → anchor ≡ monthAnchor group month
+pub exception : (group : List ℕ) (month friday anchor : ℕ) → friday ≡ thirdFriday month → anchor ≡ cond (italian group) (friday - 1) friday
+    → anchor ≡ monthAnchor group month
 unfolding monthAnchor
 exception group month friday anchor e q = q ∙ rw e
 
 -- the day of what is worked out
-pub worked-day : (cal : Calendar) (kind : Kind) (group : List ℕ) (k : ℕ) (l : LastDay) → l ≡ workedOut cal kind group k → l .day ≡ lastTradingDay cal kind group k
+pub worked-day : (cal : Calendar) (kind : Kind) (group : List ℕ) (k : ℕ) (l : LastDay) → l ≡ workedOut cal kind group k
+    → l .day ≡ lastTradingDay cal kind group k
 unfolding workedOut
 worked-day cal kind group k l e = ap (λ (x : LastDay). x .day) e

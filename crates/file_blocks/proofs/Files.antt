@@ -27,7 +27,8 @@ unfolding weightedSum
 weighted-more b i = rw add-one
 
 -- the sum of both halves, of which i places each are summed
-pub halves-more : (b : List ℕ) (i sum term : ℕ) → sum + weightedSum b 255 ≡ weightedSum b i + weightedSum b (255 + i) → term ≡ (i + 1) * getD b i 0 + (255 + i + 1) * getD b (255 + i) 0 → sum + term + weightedSum b 255 ≡ weightedSum b (i + 1) + weightedSum b (255 + (i + 1))
+pub halves-more : (b : List ℕ) (i sum term : ℕ) → sum + weightedSum b 255 ≡ weightedSum b i + weightedSum b (255 + i)
+    → term ≡ (i + 1) * getD b i 0 + (255 + i + 1) * getD b (255 + i) 0 → sum + term + weightedSum b 255 ≡ weightedSum b (i + 1) + weightedSum b (255 + (i + 1))
 halves-more b i sum term e t =
     let q : 255 + (i + 1) ≡ 255 + i + 1 = omega arith in
     rw q (omega (arith, weighted-more b i, weighted-more b (255 + i)))

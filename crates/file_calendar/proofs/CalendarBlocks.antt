@@ -21,7 +21,8 @@ use Rattle.calendar.proofs.Covered.{Covered, covered}
 use Rattle.days.specs.Dates.{yearOf, dayInYear}
 use Rattle.days.proofs.Years.{in-year-below}
 use Rattle.file_blocks.specs.Blocks.{blockCount, blockOf, zeros, isCalendar, isProducts, yearOfBlock}
-use Rattle.file_calendar.specs.Calendars.{yearCount, yearInOrder, inOrder, orderRight, mapBit, dayClean, blockClean, calendarsClean, upTo, mapByte, mapsFrom, calendarBlocks, calendarOf, oldFile}
+use Rattle.file_calendar.specs.Calendars.{yearCount, yearInOrder, inOrder, orderRight, mapBit, dayClean, blockClean, calendarsClean, upTo, mapByte}
+use Rattle.file_calendar.specs.Calendars.{mapsFrom, calendarBlocks, calendarOf, oldFile}
 use Rattle.file_calendar.proofs.Filling.{listed-at, listed-length, up-in, up-out}
 
 module _ (f : List ℕ) (years : ℕ) (e : years ≡ yearCount f) where
@@ -207,7 +208,9 @@ module _ (f : List ℕ) (o : Ordered f) where
   old-bit : oldFile f ≡ true → (k n : ℕ) → k < yearCount f → n < 368 → mapBit 62 (blockOf f k) n ≡ false
   unfolding oldFile mapBit zeros
   old-bit e k n h l =
-      let z : getD (blockOf f k) (62 + n / 8) 0 ≡ 0 = eqb-true _ _ (every-at (λ i. eqb (getD (blockOf f k) (62 + i) 0) 0) 46 (n / 8) (every-at (λ k. zeros (blockOf f k) 62 46) (yearCount f) k e h) (omega arith)) in
+      let z : getD (blockOf f k) (62 + n / 8) 0 ≡ 0 =
+      eqb-true _ _ (every-at (λ i. eqb (getD (blockOf f k) (62 + i) 0) 0) 46 (n / 8) (every-at (λ k. zeros (blockOf f k) 62 46) (yearCount f) k e h)
+      (omega arith)) in
       simp (z, zero-div (2 ^ (7 - n % 8)))
 
   old-map : oldFile f ≡ true → (s : ℕ) → bitAt (maps 62) s ≡ false

@@ -98,7 +98,8 @@ module _ (cal : Calendar) (records : List ℕ) where
       here : List ℕ
       here = blockFor cal records n
 
-      go : (k ≡ n) ⊎ (k < n) → (k < n → take 512 (drop (512 * k) before) ≡ blockFor cal records k) → take 512 (drop (512 * k) (before ++ here)) ≡ blockFor cal records k
+      go : (k ≡ n) ⊎ (k < n) → (k < n → take 512 (drop (512 * k) before) ≡ blockFor cal records k)
+          → take 512 (drop (512 * k) (before ++ here)) ≡ blockFor cal records k
       go (inl q) ih =
           ap (take 512) (drop-at before here (512 * k) (blocks-length n ∙ ap (λ (m : ℕ). 512 * m) (sym q)))
           ∙ take-all 512 here (omega (arith, block-length n))

@@ -17,7 +17,8 @@ use Rattle.questions.proofs.Search.{every-all}
 use Rattle.calendar.specs.declared.Calendar.{Calendar}
 use Rattle.calendar.specs.Trading.{clean, everyWeek}
 use Rattle.file_blocks.specs.Blocks.{blockCount, blockOf, countOf, zeros, isCalendar, isProducts, yearOfBlock}
-use Rattle.file_calendar.specs.Calendars.{listed, upTo, mapByte, mapsFrom, yearCount, yearInOrder, inOrder, orderRight, calendarsClean, calendarBlocks, calendarOf, weeksRight}
+use Rattle.file_calendar.specs.Calendars.{listed, upTo, mapByte, mapsFrom, yearCount, yearInOrder, inOrder, orderRight, calendarsClean, calendarBlocks}
+use Rattle.file_calendar.specs.Calendars.{calendarOf, weeksRight}
 use Rattle.file_calendar.proofs.Filling.{listed-length, listed-at, up-in, up-out}
 use Rattle.file_calendar.proofs.CalendarBlocks.{ordered, calendar-is, clean-test}
 use Rattle.file_draft.specs.Drafts.{calendarByte, blockFor, blocksIn, fileOf, countsRight, yearsOfMap, withinCover}
@@ -25,7 +26,8 @@ use Rattle.file_draft.proofs.DraftBlocks.{block-byte, file-blocks, file
 use Rattle.file_draft.proofs.Headers.{calendar-byte, calendar-header, product-header}
 
 -- of the numbers below n those from a on pass, up to c of them, and no other
-pub count-run : (test : ℕ → Bool) (a c n : ℕ) → ((k : ℕ) → k < a → test k ≡ false) → ((k : ℕ) → a ≤ k → k < a + c → test k ≡ true) → ((k : ℕ) → a + c ≤ k → k < n → test k ≡ false) → countOf n test ≡ min c (n - a)
+pub count-run : (test : ℕ → Bool) (a c n : ℕ) → ((k : ℕ) → k < a → test k ≡ false) → ((k : ℕ) → a ≤ k → k < a + c → test k ≡ true)
+    → ((k : ℕ) → a + c ≤ k → k < n → test k ≡ false) → countOf n test ≡ min c (n - a)
 unfolding countOf
 count-run test a c zero before within after = omega arith
 count-run test a c (suc n) before within after =
@@ -77,10 +79,12 @@ module _ (cal : Calendar) (records : List ℕ) where
   pub years-written : yearCount f ≡ years
   unfolding yearCount
   years-written =
-      count-run (λ k. isCalendar (blockOf f k)) 0 years (blockCount f) (λ k h. absurd (omega arith)) (λ k g h. calendar-kind k (omega arith)) (λ k g h. other-kind k (omega arith) (omega (arith, file-blocks cal records)))
+      count-run (λ k. isCalendar (blockOf f k)) 0 years (blockCount f) (λ k h. absurd (omega arith)) (λ k g h. calendar-kind k (omega arith))
+      (λ k g h. other-kind k (omega arith) (omega (arith, file-blocks cal records)))
       ∙ omega (arith, file-blocks cal records)
 
-  block-in-order : 1 ≤ years → (k : ℕ) → k < blocks → (k < years) ⊎ (years ≤ k) → cond (ltb k years) (isCalendar (blockOf f k) && yearInOrder f k) (isProducts (blockOf f k)) ≡ true
+  block-in-order : 1 ≤ years → (k : ℕ) → k < blocks → (k < years) ⊎ (years ≤ k)
+      → cond (ltb k years) (isCalendar (blockOf f k) && yearInOrder f k) (isProducts (blockOf f k)) ≡ true
   block-in-order s k h (inl l) =
       rw (lt-ltb k years l)
       (and-both (calendar-kind k l)

@@ -122,7 +122,8 @@ module _ (cal : Calendar) (records : List ℕ) (whole : length records % 32 ≡ 
     unfolding recordPlaceRight listRight
     place-right e i l = go (lt-or-ge i (recordsWithin records m))
       where
-        go : (i < recordsWithin records m) ⊎ (recordsWithin records m ≤ i) → cond (ltb i (recordsOfBlock b)) (recordRight (recordOf b i)) (zeros (recordOf b i) 0 32) ≡ true
+        go : (i < recordsWithin records m) ⊎ (recordsWithin records m ≤ i)
+            → cond (ltb i (recordsOfBlock b)) (recordRight (recordOf b i)) (zeros (recordOf b i) 0 32) ≡ true
         go (inl h) =
             rw (count-is, lt-ltb i (recordsWithin records m) h, record-written i h)
             (every-at (λ j. recordRight (listRecord records j)) n (15 * m + i) e (omega arith))
@@ -157,7 +158,8 @@ module _ (cal : Calendar) (records : List ℕ) (whole : length records % 32 ≡ 
       there e i h =
           let k : ℕ = years + i / 15 in
           let l : k < blocks = omega arith in
-          let t : recordsRight (blockOf f k) ≡ true = rw (product-kind cal records k (omega arith) l) at (every-at right (blockCount f) k e (omega (arith, file-blocks cal records))) in
+          let t : recordsRight (blockOf f k) ≡ true =
+          rw (product-kind cal records k (omega arith) l) at (every-at right (blockCount f) k e (omega (arith, file-blocks cal records))) in
           let q : 15 * (years + i / 15 - years) + i % 15 ≡ i = omega arith in
           ap (λ (j : ℕ). recordRight (listRecord records j)) (sym q)
           ∙ right-place (years + i / 15) (omega arith) l t (i % 15) (omega arith)
@@ -220,7 +222,8 @@ module _ (cal : Calendar) (records : List ℕ) (whole : length records % 32 ≡ 
           let i : start + (q - start) ≡ q = omega arith in
           let j : start + (q - start + suc (p - q - 1)) ≡ p = omega arith in
           or-right (not (isRecord f q))
-          (ap₂ idRises (ap (idAt f) (sym i) ∙ id-written (q - start) (omega arith)) (ap (idAt f) (sym j) ∙ id-written (q - start + suc (p - q - 1)) (omega arith))
+          (ap₂ idRises (ap (idAt f) (sym i) ∙ id-written (q - start) (omega arith))
+          (ap (idAt f) (sym j) ∙ id-written (q - start + suc (p - q - 1)) (omega arith))
           ∙ rising e (q - start) (p - q - 1) (omega arith))
 
   place-rises : listRises records ≡ true → (p : ℕ) → p < placeCount f → (p < start) ⊎ (start ≤ p) → (p < start + n) ⊎ (start + n ≤ p) → placeRises f p ≡ true

@@ -14,7 +14,8 @@ use Rattle.questions.proofs.Bools.{same-test, lt-or-ge}
 use Rattle.questions.proofs.Search.{every-at, every-all}
 use Rattle.calendar.specs.declared.Calendar.{Calendar}
 use Rattle.file_blocks.specs.Blocks.{blockCount, blockOf, numberAt, zeros, blockKindRight, headerRight, headersRight}
-use Rattle.file_draft.specs.Drafts.{headerByte, calendarByte, productBlocks, recordsWithin, productByte, blockByte, blockFor, blocksIn, fileOf, yearsRight}
+use Rattle.file_draft.specs.Drafts.{headerByte, calendarByte, productBlocks, recordsWithin, productByte, blockByte, blockFor, blocksIn, fileOf}
+use Rattle.file_draft.specs.Drafts.{yearsRight}
 use Rattle.file_draft.proofs.DraftBlocks.{block-byte, file-blocks, file-block}
 
 -- what a block's first 16 bytes say

@@ -133,7 +133,8 @@ module _ (f : List ℕ) (n : ℕ) where
     pub walk-fails : follows f n p last ≡ false → every n (placeRises f) ≡ false
     walk-fails t = go (isRecord f p) refl (leb n last) refl (idRises (idAt f last) (idAt f p)) refl t
       where
-        go : (a : Bool) → isRecord f p ≡ a → (b : Bool) → leb n last ≡ b → (c : Bool) → idRises (idAt f last) (idAt f p) ≡ c → (not a || b || c) ≡ false → every n (placeRises f) ≡ false
+        go : (a : Bool) → isRecord f p ≡ a → (b : Bool) → leb n last ≡ b → (c : Bool) → idRises (idAt f last) (idAt f p) ≡ c → (not a || b || c) ≡ false
+            → every n (placeRises f) ≡ false
         go true e false g false s h = every-not (placeRises f) n p (fails e (leb-false n last g) s) l
         go true e true g c s h = clash refl h
         go true e false g true s h = clash refl h

@@ -44,7 +44,8 @@ module _ (f : List ℕ) (e : lengthRight f ≡ true) where
   starts r q = ap (λ (t : Taken). t .state) (q ∙ held .announced)
 
   -- after its next block is taken, the state is that after one block more
-  pub goes-on : (k : ℕ) (s r : Intake) → k < blockCount f → s ≡ stateAfter f (blockCount f) k → r ≡ takeCall s (blockOf f k) .state → r ≡ stateAfter f (blockCount f) (k + 1)
+  pub goes-on : (k : ℕ) (s r : Intake) → k < blockCount f → s ≡ stateAfter f (blockCount f) k → r ≡ takeCall s (blockOf f k) .state
+      → r ≡ stateAfter f (blockCount f) (k + 1)
   goes-on k s r h p t =
       let a : takeCall s (blockOf f k) ≡ record { refusal = 0; state = stateAfter f (blockCount f) (suc k) } = rw p (held .taken k h) in
       t ∙ ap (λ (x : Taken). x .state) a ∙ ap (stateAfter f (blockCount f)) (sym (add-one k))

@@ -17,7 +17,8 @@ use Rattle.file_intake.specs.Intake.{idleNext}
 pub every-parts : (f : ℕ → Bool) (m n : ℕ) → every (m + n) f ≡ (every m f && every n (λ j. f (m + j)))
 every-parts f m n =
     same-test (every (m + n) f) (every m f && every n (λ j. f (m + j)))
-    (λ e. and-both (every-all f m (λ k h. every-at f (m + n) k e (omega arith))) (every-all (λ j. f (m + j)) n (λ j h. every-at f (m + n) (m + j) e (omega arith))))
+    (λ e. and-both (every-all f m (λ k h. every-at f (m + n) k e (omega arith)))
+    (every-all (λ j. f (m + j)) n (λ j h. every-at f (m + n) (m + j) e (omega arith))))
     (λ e. let (a, b) = both (every m f) (every n (λ j. f (m + j))) e in every-add f m n a b)
 
 module _ (test : ℕ → Bool) (s : ℕ) where

@@ -118,7 +118,8 @@ rises-to : (f : List ℕ) (p q : ℕ) → placeRises f p ≡ true → isRecord f
 unfolding placeRises
 rises-to f p q t e h g = rw g at (every-at (pairRises f p) p q (rw e at t) h)
 
-place-rises : (f : List ℕ) (p : ℕ) → (isRecord f p ≡ true → (q : ℕ) → q < p → isRecord f q ≡ true → idRises (idAt f q) (idAt f p) ≡ true) → placeRises f p ≡ true
+place-rises : (f : List ℕ) (p : ℕ) → (isRecord f p ≡ true → (q : ℕ) → q < p → isRecord f q ≡ true → idRises (idAt f q) (idAt f p) ≡ true)
+    → placeRises f p ≡ true
 unfolding placeRises
 place-rises f p h = go (isRecord f p) refl
   where
@@ -182,7 +183,8 @@ module _ (f : List ℕ) (whole : length f ≡ 512 * blockCount f) (k : ℕ) (h :
         go : (c : Bool) → isRecord b 0 ≡ c → (not c || idRises (s .«last_id») (idAt b 0)) ≡ true
         go true e =
             rw (w .id, id-same f whole k h 0 (omega arith))
-            (rises-to f (15 * k + 0) (w .place) (every-at (λ p. placeRises f (15 * k + p)) 15 0 t (omega arith)) (sym (record-same f whole k h 0 (omega arith)) ∙ e) (omega (arith, w .before)) (w .holds))
+            (rises-to f (15 * k + 0) (w .place) (every-at (λ p. placeRises f (15 * k + p)) 15 0 t (omega arith))
+            (sym (record-same f whole k h 0 (omega arith)) ∙ e) (omega (arith, w .before)) (w .holds))
         go false e = refl
 
     -- every id of the block is greater than the last before it
@@ -207,7 +209,8 @@ module _ (f : List ℕ) (whole : length f ≡ 512 * blockCount f) (k : ℕ) (h :
     place-held : idsRise b ≡ true → joins ≡ true → None f whole k ⊎ Last f whole k → (p : ℕ) → p < 15 → placeRises f (15 * k + p) ≡ true
     place-held r j n p l = place-rises f (15 * k + p) (λ e q g u. go (record-same f whole k h p l ∙ e) q g u n (lt-or-ge q (15 * k)))
       where
-        go : isRecord b p ≡ true → (q : ℕ) → q < 15 * k + p → isRecord f q ≡ true → None f whole k ⊎ Last f whole k → (q < 15 * k) ⊎ (15 * k ≤ q) → idRises (idAt f q) (idAt f (15 * k + p)) ≡ true
+        go : isRecord b p ≡ true → (q : ℕ) → q < 15 * k + p → isRecord f q ≡ true → None f whole k ⊎ Last f whole k → (q < 15 * k) ⊎ (15 * k ≤ q)
+            → idRises (idAt f q) (idAt f (15 * k + p)) ≡ true
         go e q g u (inl n) (inl a) = clash u (n q a)
         go e q g u (inr w) (inl a) = side (below-last w q a u)
           where
@@ -226,7 +229,8 @@ module _ (f : List ℕ) (whole : length f ≡ 512 * blockCount f) (k : ℕ) (h :
     unfolding idsGoOn
     block-ids =
         same-test (every 15 (λ p. placeRises f (15 * k + p))) (idsRise b && joins)
-        (λ t. and-both (one-file ∙ every-all (placeRises b) 15 (λ p l. block-rises p l (every-at (λ p. placeRises f (15 * k + p)) 15 p t l))) (joined t (walked f whole k (omega arith))))
+        (λ t. and-both (one-file ∙ every-all (placeRises b) 15 (λ p l. block-rises p l (every-at (λ p. placeRises f (15 * k + p)) 15 p t l)))
+        (joined t (walked f whole k (omega arith))))
         (λ t. let (r, j) = both (idsRise b) joins t in every-all (λ p. placeRises f (15 * k + p)) 15 (place-held r j (walked f whole k (omega arith))))
 
 -- 8, block by block and over the file
@@ -243,7 +247,8 @@ module _ (f : List ℕ) (whole : length f ≡ 512 * blockCount f) where
       next : 15 * k + 15 ≡ 15 * suc k
       next = omega arith
 
-      step : (c : Bool) → every (15 * k) (placeRises f) ≡ c → every k goesOn ≡ every (15 * k) (placeRises f) → (every k goesOn && goesOn k) ≡ (every (15 * k) (placeRises f) && every 15 (λ p. placeRises f (15 * k + p)))
+      step : (c : Bool) → every (15 * k) (placeRises f) ≡ c → every k goesOn ≡ every (15 * k) (placeRises f)
+          → (every k goesOn && goesOn k) ≡ (every (15 * k) (placeRises f) && every 15 (λ p. placeRises f (15 * k + p)))
       step true e ih = ap₂ _&&_ ih (sym (block-ids f whole k h e))
       step false e ih = rw (ih, e)
 

@@ -47,7 +47,8 @@ above : (q : ℕ) (ps : List Bool) → (firstNo (numbered (suc q) ps) ≡ 0) ⊎
 above q [] = inl no-asks
 above q (true ∷ ps) = side (above (suc q) ps)
   where
-    side : (firstNo (numbered (suc (suc q)) ps) ≡ 0) ⊎ (suc q < firstNo (numbered (suc (suc q)) ps)) → (firstNo (numbered (suc q) (true ∷ ps)) ≡ 0) ⊎ (q < firstNo (numbered (suc q) (true ∷ ps)))
+    side : (firstNo (numbered (suc (suc q)) ps) ≡ 0) ⊎ (suc q < firstNo (numbered (suc (suc q)) ps))
+        → (firstNo (numbered (suc q) (true ∷ ps)) ≡ 0) ⊎ (q < firstNo (numbered (suc q) (true ∷ ps)))
     side (inl e) = inl (first-yes (suc q) (numbered (suc (suc q)) ps) refl ∙ e)
     side (inr h) = inr (omega (arith, first-yes (suc q) {b = true} (numbered (suc (suc q)) ps) refl))
 above q (false ∷ ps) = inr (omega (arith, first-no (suc q) {b = false} (numbered (suc (suc q)) ps) refl))
@@ -56,14 +57,16 @@ weak : {q x : ℕ} → (x ≡ 0) ⊎ (q < x) → (x ≡ 0) ⊎ (q ≤ x)
 weak (inl e) = inl e
 weak (inr h) = inr (omega arith)
 
-lower-ask : (q : ℕ) (a b : Bool) (x y z : ℕ) → 0 < q → (x ≡ 0) ⊎ (q < x) → (y ≡ 0) ⊎ (q < y) → lower x y ≡ z → lower (cond a x q) (cond b y q) ≡ cond (a && b) z q
+lower-ask : (q : ℕ) (a b : Bool) (x y z : ℕ) → 0 < q → (x ≡ 0) ⊎ (q < x) → (y ≡ 0) ⊎ (q < y) → lower x y ≡ z
+    → lower (cond a x q) (cond b y q) ≡ cond (a && b) z q
 lower-ask q true true x y z h l r e = e
 lower-ask q true false x y z h l r e = lower-right x q h (weak l)
 lower-ask q false true x y z h l r e = lower-left q y h (weak r)
 lower-ask q false false x y z h l r e = lower-left q q h (inr (omega arith))
 
 -- the lower of the refusals of two lists of answers is the first question that either list answers no
-pub lower-each : (q : ℕ) (xs ys : List Bool) → length xs ≡ length ys → lower (firstNo (numbered (suc q) xs)) (firstNo (numbered (suc q) ys)) ≡ firstNo (numbered (suc q) (each xs ys))
+pub lower-each : (q : ℕ) (xs ys : List Bool) → length xs ≡ length ys
+    → lower (firstNo (numbered (suc q) xs)) (firstNo (numbered (suc q) ys)) ≡ firstNo (numbered (suc q) (each xs ys))
 unfolding firstNo
 lower-each q [] [] e = lower-none 0
 lower-each q [] (y ∷ ys) e = absurd (omega arith)

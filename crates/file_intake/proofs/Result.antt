@@ -24,7 +24,8 @@ use Rattle.file_load.specs.Load.{loadAsks, loadCall}
 use Rattle.file_load.specs.declared.Counts.{Counts}
 use Rattle.file_load.proofs.Accepting.{year-right}
 use Rattle.file_intake.specs.declared.Intake.{Intake}
-use Rattle.file_intake.specs.Intake.{dayTrades, daysOf, idleThrough, withBlock, announceCall, plausible, takeCall, allTaken, finishCall, stateAfter, refusedState, tooEarly}
+use Rattle.file_intake.specs.Intake.{dayTrades, daysOf, idleThrough, withBlock, announceCall, plausible, takeCall, allTaken, finishCall, stateAfter}
+use Rattle.file_intake.specs.Intake.{refusedState, tooEarly}
 use Rattle.file_intake.specs.OneBlock.{OneBlock}
 use Rattle.file_intake.proofs.Steps.{finish-early}
 use Rattle.file_intake.proofs.Lowest.{numbered, answersBelow, lowest-is, yes2, yes3, yes4, yes5, yes6, yes7, yes8}
@@ -138,7 +139,8 @@ module _ (f : List ℕ) (whole : length f ≡ 512 * blockCount f) (low : 2 ≤ b
   idle-most zero = omega arith
   idle-most (suc k) = go (isCalendar (blockOf f k)) (idle-most k)
     where
-      go : (b : Bool) → stateAfter f n k .idle ≤ 7 → cond b (idleThrough (blockOf f k) (stateAfter f n k .idle) (daysOf (blockOf f k))) (stateAfter f n k .idle) ≤ 7
+      go : (b : Bool) → stateAfter f n k .idle ≤ 7
+          → cond b (idleThrough (blockOf f k) (stateAfter f n k .idle) (daysOf (blockOf f k))) (stateAfter f n k .idle) ≤ 7
       go true h = through-most (blockOf f k) (stateAfter f n k .idle) (daysOf (blockOf f k)) h
       go false h = h
 
@@ -151,7 +153,8 @@ module _ (f : List ℕ) (whole : length f ≡ 512 * blockCount f) (low : 2 ≤ b
       (and-both (le-leb k n h)
       (and-both (le-leb _ 8 (lowest-most k))
       (and-both (le-leb (stateAfter f n k .years) k (omega (arith, years-is f n k, count-most (λ j. isCalendar (blockOf f j)) k)))
-      (and-both (le-leb _ 7 (idle-most k)) (le-leb (stateAfter f n k .records) (15 * k) (omega (arith, records-is f whole k h, count-most (isRecord f) (15 * k))))))))))
+      (and-both (le-leb _ 7 (idle-most k)) (le-leb (stateAfter f n k .records) (15 * k)
+      (omega (arith, records-is f whole k h, count-most (isRecord f) (15 * k))))))))))
 
   asks-right : firstNo (ask 1 (allTaken last) ∷ ask (last .lowest) (eqb (last .lowest) 0) ∷ []) ≡ firstNo (loadAsks f)
   asks-right =
@@ -182,7 +185,8 @@ module _ (f : List ℕ) (whole : length f ≡ 512 * blockCount f) (low : 2 ≤ b
   early-refused : (k : ℕ) → k < n → finishCall (stateAfter f n k) ≡ tooEarly
   early-refused k h =
       finish-early (stateAfter f n k)
-      (rw (ne-eqb (stateAfter f n k .taken) (stateAfter f n k .announced) (λ z. omega (arith, taken-is f n k, announced-is f n k))) (and-false (plausible (stateAfter f n k))))
+      (rw (ne-eqb (stateAfter f n k .taken) (stateAfter f n k .announced) (λ z. omega (arith, taken-is f n k, announced-is f n k)))
+      (and-false (plausible (stateAfter f n k))))
 
   -- for every file of 2 to 128 whole blocks
   pub one-block-load : OneBlock f
@@ -193,7 +197,8 @@ module _ (f : List ℕ) (whole : length f ≡ 512 * blockCount f) (low : 2 ≤ b
         taken = take-right;
         result =
             same-answer (ask 1 (allTaken last) ∷ ask (last .lowest) (eqb (last .lowest) 0) ∷ []) (loadAsks f)
-            (record { years = 0; records = 0 }) (record { years = last .years; records = last .records }) (record { years = yearCount f; records = recordCount f })
+            (record { years = 0; records = 0 }) (record { years = last .years; records = last .records })
+            (record { years = yearCount f; records = recordCount f })
             asks-right counts-right;
         not-a-block = length-refused;
         too-many = too-many-refused;

@@ -87,7 +87,8 @@ fits s e =
     }
 
 -- what a block that may be taken needs
-pub takeable : (s : Intake) (b : List ℕ) → mayTake s b ≡ true → (s .taken < 128) × (s .years ≤ s .taken) × (s .idle ≤ 7) × (s .records ≤ 15 * s .taken) × (length b ≡ 512)
+pub takeable : (s : Intake) (b : List ℕ) → mayTake s b ≡ true
+    → (s .taken < 128) × (s .years ≤ s .taken) × (s .idle ≤ 7) × (s .records ≤ 15 * s .taken) × (length b ≡ 512)
 takeable s b e =
     let (p, q) = both (plausible s) (ltb (s .taken) (s .announced) && eqb (length b) 512) e in
     let (t, l) = both (ltb (s .taken) (s .announced)) (eqb (length b) 512) q in

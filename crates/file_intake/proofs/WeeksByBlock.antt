@@ -31,7 +31,8 @@ unfolding every
 every-suc g n = refl
 
 -- the days of a block go on from the days before it
-through : (test : ℕ → Bool) (s m : ℕ) (b : List ℕ) (n : ℕ) → ((j : ℕ) → j < n → test (s + (m + j)) ≡ dayTrades b j) → idleThrough b (idleOf test s m) n ≡ idleOf test s (m + n)
+through : (test : ℕ → Bool) (s m : ℕ) (b : List ℕ) (n : ℕ) → ((j : ℕ) → j < n → test (s + (m + j)) ≡ dayTrades b j)
+    → idleThrough b (idleOf test s m) n ≡ idleOf test s (m + n)
 unfolding idleThrough
 through test s m b zero h = ap (idleOf test s) (sym (add-zero m))
 through test s m b (suc n) h =
@@ -132,7 +133,8 @@ module _ (f : List ℕ) (o : Ordered f) (low : 2000 ≤ yearOfBlock (blockOf f 0
   block-weeks k h =
       rw (calendar-block f o k h, idle-state k (omega arith))
       (every-same (λ n. ltb (idleThrough (blockOf f k) (idleOf trades start (base k)) (suc n)) 7) (λ n. quiet (base k + n)) (daysOf (blockOf f k))
-      (λ n l. ap (λ (i : ℕ). ltb i 7) (through trades start (base k) (blockOf f k) (suc n) (λ j g. block-day k j h (omega arith)) ∙ ap (idleOf trades start) (add-suc (base k) n))))
+      (λ n l. ap (λ (i : ℕ). ltb i 7) (through trades start (base k) (blockOf f k) (suc n) (λ j g. block-day k j h (omega arith)) ∙
+      ap (idleOf trades start) (add-suc (base k) n))))
 
   weeks-blocks : (k : ℕ) → k ≤ yearCount f → every k goesOn ≡ every (base k) quiet
   weeks-blocks zero h =

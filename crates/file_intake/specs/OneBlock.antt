@@ -12,7 +12,8 @@ use Rattle.file_intake.specs.Intake.{announceCall, takeCall, finishCall,
 -- the state after k of its blocks is `stateAfter f (blockCount f) k`
 pub record OneBlock (f : List ℕ) : Type 0 where
   pub announced : announceCall (blockCount f) ≡ record { refusal = 0; state = stateAfter f (blockCount f) 0 }
-  pub taken : (k : ℕ) → k < blockCount f → takeCall (stateAfter f (blockCount f) k) (blockOf f k) ≡ record { refusal = 0; state = stateAfter f (blockCount f) (suc k) }
+  pub taken : (k : ℕ) → k < blockCount f → takeCall (stateAfter f (blockCount f) k) (blockOf f k)
+      ≡ record { refusal = 0; state = stateAfter f (blockCount f) (suc k) }
   -- 'it is the result of the whole-file load, the lowest refusal included'
   pub result : finishCall (stateAfter f (blockCount f) (blockCount f)) ≡ loadCall f
   -- 'So does a block that isn't 512 bytes ..; the state is then as before'

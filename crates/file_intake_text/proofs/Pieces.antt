@@ -21,7 +21,8 @@ use Rattle.file_text_print.specs.WholeText.{NextOf}
 use Rattle.streams.specs.declared.reads.Input.{Input}
 use Rattle.streams.specs.Inputs.{ForInput}
 use Rattle.file_intake_text.specs.declared.Ended.{Ended}
-use Rattle.file_intake_text.specs.GatewayTexts.{pieceOf, handedOver, countsText, resultText, takenText, gatewayText, GatewaySays, GatewayRan, refusedEnd, endedAnswer, endedText, IntakeReached}
+use Rattle.file_intake_text.specs.GatewayTexts.{pieceOf, handedOver, countsText, resultText, takenText, gatewayText, GatewaySays, GatewayRan, refusedEnd}
+use Rattle.file_intake_text.specs.GatewayTexts.{endedAnswer, endedText, IntakeReached}
 
 -- ---- pieces
 
@@ -161,9 +162,12 @@ module _ (n : ℕ) (s : Intake) (g : IntakeReached n s) where
     unfolding gatewayText
     refused-whole h w rest =
         let k : length (g .input ++ b) ≡ 512 * suc (s .taken) = omega (arith, length-append (g .input) b, g .blocks, w) in
-        let e : handedOver n ((g .input ++ b) ++ rest) (suc (s .taken)) ≡ t = stays (g .input ++ b) rest (suc (s .taken)) k n (suc (s .taken)) (omega arith) ∙ handed in
-        let c : (length ((g .input ++ b) ++ rest) + 511) / 512 ≡ (length rest + 511) / 512 + suc (s .taken) = omega (arith, length-append (g .input ++ b) rest, k) in
-        text-refused t h ∙ ap takenText (sym (refused-on n ((g .input ++ b) ++ rest) (suc (s .taken)) t e h ((length rest + 511) / 512) ((length ((g .input ++ b) ++ rest) + 511) / 512) c))
+        let e : handedOver n ((g .input ++ b) ++ rest) (suc (s .taken)) ≡ t =
+        stays (g .input ++ b) rest (suc (s .taken)) k n (suc (s .taken)) (omega arith) ∙ handed in
+        let c : (length ((g .input ++ b) ++ rest) + 511) / 512 ≡ (length rest + 511) / 512 + suc (s .taken) =
+        omega (arith, length-append (g .input ++ b) rest, k) in
+        text-refused t h ∙ ap takenText (sym (refused-on n ((g .input ++ b) ++ rest) (suc (s .taken)) t e h ((length rest + 511) / 512)
+        ((length ((g .input ++ b) ++ rest) + 511) / 512) c))
 
     -- or it is taken, as it is a whole one
     pub goes-on : t .refusal ≡ 0 → (r : Intake) → r ≡ t .state → (IntakeReached n r) × (r .taken ≡ s .taken + 1) × (length b ≡ 512)
@@ -233,7 +237,8 @@ module _ (n : ℕ) (s : Intake) (g : IntakeReached n s) (i : Input) (f : i .fail
         is = λ rest w. refused-text r (t .refusal) e h ∙ text rest w (lt-or-ge (length b) 512);
       }
     where
-      text : (rest : List ℕ) → (i .left ≡ 0 → rest ≡ []) → (length b < 512) ⊎ (512 ≤ length b) → refusalText (t .refusal) ≡ gatewayText n ((g .input ++ b) ++ rest)
+      text : (rest : List ℕ) → (i .left ≡ 0 → rest ≡ []) → (length b < 512) ⊎ (512 ≤ length b)
+          → refusalText (t .refusal) ≡ gatewayText n ((g .input ++ b) ++ rest)
       text rest w (inl x) = rw (w (short x)) (refused-last n s g b some most t q h ∙ ap (gatewayText n) (sym (append-nil (g .input ++ b))))
       text rest w (inr x) = refused-whole n s g b some most t q h (omega arith) rest
 

@@ -1,4 +1,6 @@
--- In a file that load accepts the search by halves ends where the walk over all places does. A block that begins by an id has no record with it before its first place: in a calendar block, since only calendar blocks come before it, and in a product block, since the ids rise. So each step by halves leaves none behind.
+-- In a file that load accepts the search by halves ends where the walk over all places does. A block that begins by an id has no record with it
+-- before its first place: in a calendar block, since only calendar blocks come before it, and in a product block, since the ids rise. So each step by
+-- halves leaves none behind.
 -- Assumes nothing.
 use mathlib.Core.Path.{_≡_, refl, _∙_, sym, ap}
 use mathlib.Core.Bool.{Bool, true, false, not, _&&_, _||_, cond}
@@ -69,7 +71,8 @@ NoneBefore f id p = (q : ℕ) → q < p → hasId f id q ≡ false
 begins-there : (f id : List ℕ) (p : ℕ) → p ≤ placeCount f → NoneBefore f id p → placeFrom f id p ≡ placeFrom f id 0
 begins-there f id zero h none = refl
 begins-there f id (suc p) h none =
-    ap (placeFrom f id) (sym (add-one p)) ∙ seek-next f id p (omega arith) (none p (omega arith)) ∙ begins-there f id p (omega arith) (λ q l. none q (omega arith))
+    ap (placeFrom f id) (sym (add-one p)) ∙ seek-next f id p (omega arith) (none p (omega arith)) ∙
+    begins-there f id p (omega arith) (λ q l. none q (omega arith))
 
 -- of a file that load accepts, a block that begins by an id
 module _ (f id : List ℕ) (y : AllYes f) (k : ℕ) where
@@ -129,7 +132,8 @@ module _ (f id : List ℕ) (e : firstNo (loadAsks f) ≡ 0) where
   pub halves-place : placeByHalves f id ≡ placeFrom f id 0
   unfolding placeByHalves blockByHalves
   halves-place =
-      let (inside, none) = halved-keeps (beginsBy f id) (λ k. (k ≤ blockCount f) × NoneBefore f id (15 * k)) (none-behind f id (all-yes f e)) 7 64 0 (omega arith, λ q h. absurd (omega arith)) in
+      let (inside, none) = halved-keeps (beginsBy f id) (λ k. (k ≤ blockCount f) × NoneBefore f id (15 * k)) (none-behind f id (all-yes f e)) 7 64 0
+      (omega arith, λ q h. absurd (omega arith)) in
       begins-there f id (15 * halved (beginsBy f id) 7 64 0) (omega (arith, inside)) none
 
   -- in a file that load accepts the search by halves answers question 9 as the walk over all places does

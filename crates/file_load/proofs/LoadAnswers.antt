@@ -64,7 +64,8 @@ unfolding lengthRight
 length-most f e = leb-true (length f) 65536 (and-snd (eqb (length f % 512) 0 && leb 1024 (length f)) (leb (length f) 65536) e)
 
 -- the zero bytes after the maps, of as many blocks as there are years
-pub tails-are : (f : List ℕ) (r : Bool) (n : ℕ) → r ≡ every n (λ k. zeros (blockOf f k) 108 402) → n ≡ yearCount f → r ≡ every (yearCount f) (λ k. zeros (blockOf f k) 108 402)
+pub tails-are : (f : List ℕ) (r : Bool) (n : ℕ) → r ≡ every n (λ k. zeros (blockOf f k) 108 402) → n ≡ yearCount f
+    → r ≡ every (yearCount f) (λ k. zeros (blockOf f k) 108 402)
 tails-are f r n e y = e ∙ ap (λ (m : ℕ). every m (λ k. zeros (blockOf f k) 108 402)) y
 
 -- what question 4 says of the calendar given with its answer
@@ -125,7 +126,8 @@ abbrev pub countsOf : List ℕ → Counts
 countsOf f = record { years = yearCount f; records = recordCount f }
 
 -- a file that load refuses is answered with the number of the refusal and counts of 0
-pub load-refused : (f : List ℕ) (r : ℕ) → r ≡ firstNo (loadAsks f) → (r ≡ 0 → ⊥) → _≡_ {A = Answer Counts} (record { refusal = r; value = noCounts }) (loadCall f)
+pub load-refused : (f : List ℕ) (r : ℕ) → r ≡ firstNo (loadAsks f) → (r ≡ 0 → ⊥)
+    → _≡_ {A = Answer Counts} (record { refusal = r; value = noCounts }) (loadCall f)
 unfolding loadCall
 load-refused f zero e h = absurd (h refl)
 load-refused f (suc r) e h = sym (refused (loadAsks f) noCounts (countsOf f) r (sym e))

@@ -44,7 +44,8 @@ unfolding firstFrom
 ends test none zero d = inl refl
 ends test none (suc n) d = go (test d) refl (ends test none n (suc d))
   where
-    go : (b : Bool) → test d ≡ b → (firstFrom test none n (suc d) ≡ none) ⊎ (test (firstFrom test none n (suc d)) ≡ true) → (cond b d (firstFrom test none n (suc d)) ≡ none) ⊎ (test (cond b d (firstFrom test none n (suc d))) ≡ true)
+    go : (b : Bool) → test d ≡ b → (firstFrom test none n (suc d) ≡ none) ⊎ (test (firstFrom test none n (suc d)) ≡ true)
+        → (cond b d (firstFrom test none n (suc d)) ≡ none) ⊎ (test (cond b d (firstFrom test none n (suc d))) ≡ true)
     go true e later = inr e
     go false e later = later
 

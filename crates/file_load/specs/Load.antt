@@ -97,9 +97,11 @@ pub record Accepted (f : List ℕ) : Type 0 where
   pub weeks : everyWeek (calendarOf f) ≡ true
   -- 'day n of the year (from 0) is the bit .. in byte 16 + n div 8; 1 means closed',
   -- of each day of the cover, in the block of its year
-  pub days : (d : ℕ) → inCover (calendarOf f .cover) d ≡ true → closedOn (calendarOf f) d ≡ mapBit 16 (blockOf f (yearOf d - yearOfBlock (blockOf f 0))) (dayInYear d)
+  pub days : (d : ℕ) → inCover (calendarOf f .cover) d ≡ true
+      → closedOn (calendarOf f) d ≡ mapBit 16 (blockOf f (yearOf d - yearOfBlock (blockOf f 0))) (dayInYear d)
   -- 'a second map in bytes 62–107, same bit order' (02, note 4)
-  pub second-days : (d : ℕ) → inCover (calendarOf f .cover) d ≡ true → inSecondMap (calendarOf f) d ≡ mapBit 62 (blockOf f (yearOf d - yearOfBlock (blockOf f 0))) (dayInYear d)
+  pub second-days : (d : ℕ) → inCover (calendarOf f .cover) d ≡ true
+      → inSecondMap (calendarOf f) d ≡ mapBit 62 (blockOf f (yearOf d - yearOfBlock (blockOf f 0))) (dayInYear d)
   -- 46 bytes for each of 16 years, in both maps
   pub maps : length (calendarOf f .closed) ≡ 736
   pub exchange-maps : length (calendarOf f .exchange) ≡ 736

@@ -21,7 +21,8 @@ use Rattle.days.proofs.Years.{year-from, year-until, year-start-most}
 use Rattle.calendar.specs.Bits.{byteBit, bitAt, setBit}
 use Rattle.calendar.specs.declared.Cover.{Cover}
 use Rattle.calendar.specs.declared.Calendar.{Calendar}
-use Rattle.calendar.specs.Trading.{calendarOfMaps, calendarWith, validCover, coverStart, inCover, slotOf, closedOn, inSecondMap, openCalendar, mayClose, mayBeClosed, bitsClean, cleanSlot, clean, closeDay}
+use Rattle.calendar.specs.Trading.{calendarOfMaps, calendarWith, validCover, coverStart, inCover, slotOf, closedOn, inSecondMap, openCalendar, mayClose}
+use Rattle.calendar.specs.Trading.{mayBeClosed, bitsClean, cleanSlot, clean, closeDay}
 use Rattle.calendar.proofs.Bits.{set-other}
 use Rattle.calendar.proofs.Covered.{covers-is}
 use Rattle.calendar.proofs.Closing.{close-cover, close-exchange}

@@ -13,7 +13,8 @@ use Rattle.questions.proofs.Bools.{both, and-fst, lt-or-ge}
 use Rattle.questions.proofs.Search.{every-at}
 use Rattle.calendar.specs.Bits.{bitAt, setBit}
 use Rattle.calendar.specs.declared.Calendar.{Calendar}
-use Rattle.calendar.specs.Trading.{calendarWith, validCover, coverStart, coverEnd, inCover, slotOf, closedOn, inSecondMap, openCalendar, mayBeClosed, bitsClean, cleanSlot, clean, closeDay}
+use Rattle.calendar.specs.Trading.{calendarWith, validCover, coverStart, coverEnd, inCover, slotOf, closedOn, inSecondMap, openCalendar, mayBeClosed, bitsClean}
+use Rattle.calendar.specs.Trading.{cleanSlot, clean, closeDay}
 use Rattle.calendar.proofs.Covered.{cover-facts, start-end, covered, slot-below}
 use Rattle.calendar.proofs.Closing.{closed-other, closed-here}
 use Rattle.file_text_print.specs.Contents.{coverDays}

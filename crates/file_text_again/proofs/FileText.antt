@@ -34,7 +34,8 @@ use Rattle.file_text_print.proofs.TextLengths.{line-short}
 use Rattle.file_text_read.specs.Lists.{Content, noContent, closeExchangeDay, lineTaken, contentOf}
 use Rattle.file_text_again.proofs.LinesAgain.{coverRead, dayReadAs}
 use Rattle.file_text_again.proofs.ProductLines.{productRead}
-use Rattle.file_text_again.proofs.LinesSaid.{Printed, Reads, reads-none, reads-line, reads-then, reads-whole, Says, says-cover, says-closed, says-exchange, says-product}
+use Rattle.file_text_again.proofs.LinesSaid.{Printed, Reads, reads-none, reads-line, reads-then, reads-whole, Says, says-cover, says-closed}
+use Rattle.file_text_again.proofs.LinesSaid.{says-exchange, says-product}
 use Rattle.file_text_again.proofs.Text.{cover-printed, day-printed, product-printed}
 
 -- ---- bytes of a part of a file
@@ -255,7 +256,8 @@ module _ (f : List ℕ) (bytes : areBytes f ≡ true) (e : firstNo (loadAsks f) 
         go (lt-or-ge 0 1) q
       where
         go : (0 < 1) ⊎ (1 ≤ 0) → suc (days + p) - 1 - days ≡ p
-            → cond (eqb (suc (days + p)) 0) (coverText (cal .cover)) (cond (leb (suc (days + p)) days) (dayLine cal (start + (suc (days + p) - 1))) (placeLine f (suc (days + p) - 1 - days))) ≡ placeLine f p
+            → cond (eqb (suc (days + p)) 0) (coverText (cal .cover))
+            (cond (leb (suc (days + p)) days) (dayLine cal (start + (suc (days + p) - 1))) (placeLine f (suc (days + p) - 1 - days))) ≡ placeLine f p
         go z q = rw (ne-eqb (suc (days + p)) 0 (λ k. omega arith), lt-leb (suc (days + p)) days (omega arith), q) refl
 
     place-short : (p : ℕ) → length (placeLine f p) < 64

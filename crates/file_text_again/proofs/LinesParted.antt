@@ -1,4 +1,5 @@
--- The lines of a printed text are the lines that were printed, and the words of a line its words: no word has a space, and no line a line feed or a blank at its end.
+-- The lines of a printed text are the lines that were printed, and the words of a line its words: no word has a space, and no line a line feed or a
+-- blank at its end.
 -- Assumes nothing.
 use mathlib.Core.Path.{_≡_, refl, sym, ap, _∙_}
 use mathlib.Core.List.{List, [], _∷_, _++_, append-nil}

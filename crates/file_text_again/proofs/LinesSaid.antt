@@ -13,7 +13,8 @@ use Rattle.calendar.specs.Trading.{inCover, openCalendar, closeDay}
 use Rattle.session_lines.specs.CommandLines.{linesFrom}
 use Rattle.file_text_lines.specs.declared.Entry.{Entry}
 use Rattle.file_text_stripped.specs.Said.{lineSaid}
-use Rattle.file_text_read.specs.Lists.{Content, noContent, closeExchangeDay, entryFits, calendarAfterEntry, withRecord, recordsAfter, nextLine, entryTaken, lineTaken, linesTaken, numberedFrom, numberedLines, contentOf}
+use Rattle.file_text_read.specs.Lists.{Content, noContent, closeExchangeDay, entryFits, calendarAfterEntry, withRecord, recordsAfter, nextLine, entryTaken}
+use Rattle.file_text_read.specs.Lists.{lineTaken, linesTaken, numberedFrom, numberedLines, contentOf}
 use Rattle.delivery_own.proofs.RowBytes.{allOf}
 use Rattle.file_text_again.proofs.LinesParted.{inLine, one-line}
 use Rattle.file_text_again.proofs.LinesAgain.{coverRead, dayReadAs}

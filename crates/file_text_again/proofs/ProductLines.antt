@@ -12,7 +12,8 @@ use lib.Seq.{ext-getD, length-take-le, getD-take, getD-drop, take-length}
 use borrow.Author.Tests.{leb-true, lt-ltb, eqb-true}
 use Rattle.questions.proofs.Bools.{both, or-either}
 use Rattle.questions.proofs.Search.{every-at}
-use Rattle.product.specs.Fields.{letter, digit, idRight, firstDigit, groupRight, marketRight, kindRight, sizeRight, tickRight, isCode, oneOfCodes, currencyRight, fieldsRight, EUR, CHF, USD, GBP, GBX}
+use Rattle.product.specs.Fields.{letter, digit, idRight, firstDigit, groupRight, marketRight, kindRight, sizeRight, tickRight, isCode, oneOfCodes}
+use Rattle.product.specs.Fields.{currencyRight, fieldsRight, EUR, CHF, USD, GBP, GBX}
 use Rattle.file_blocks.specs.Blocks.{numberAt}
 use Rattle.file_records.specs.Records.{threeBytes, fourBytes, sizeAt, recordRight}
 use Rattle.file_records.proofs.RecordParts.{RecordParts, record-parts}

@@ -32,11 +32,13 @@ use Rattle.file_write.proofs.ZeroBytes.{byte-below}
 use Rattle.session_lines.specs.CommandLines.{linesFrom, dateAt}
 use Rattle.file_text_lines.specs.declared.Entry.{Entry}
 use Rattle.file_text_lines.specs.declared.NumberRead.{NumberRead}
-use Rattle.file_text_lines.specs.Entries.{wordsFrom, wordAt, wordNumber, pointed, sharesRead, partRead, otherEntry, letterForm, coverAt, coverEntry, seedEntry, dayForm, dayEntry, productForm, idBytes, lineRecord, productEntry, entryAt, entryOf}
+use Rattle.file_text_lines.specs.Entries.{wordsFrom, wordAt, wordNumber, pointed, sharesRead, partRead, otherEntry, letterForm, coverAt, coverEntry, seedEntry}
+use Rattle.file_text_lines.specs.Entries.{dayForm, dayEntry, productForm, idBytes, lineRecord, productEntry, entryAt, entryOf}
 use Rattle.file_text_lines.proofs.NumberWords.{at-most}
 use Rattle.delivery_lines.specs.NoticeLines.{blank, trimmed, markLength, unmarked, saysNothing}
 use Rattle.file_text_stripped.specs.Said.{nothingEntry, textSaid, bareText, lineSaid}
-use Rattle.file_text_read.specs.Lists.{Content, noContent, closeExchangeDay, entryFits, calendarAfterEntry, withRecord, recordsAfter, nextLine, lineCounted, entryTaken, lineTaken, linesTaken, numberedFrom, numberedLines, contentOf}
+use Rattle.file_text_read.specs.Lists.{Content, noContent, closeExchangeDay, entryFits, calendarAfterEntry, withRecord, recordsAfter, nextLine, lineCounted}
+use Rattle.file_text_read.specs.Lists.{entryTaken, lineTaken, linesTaken, numberedFrom, numberedLines, contentOf}
 use Rattle.file_text_again.proofs.FileText.{are-bytes}
 
 -- ---- lists of bytes
@@ -190,7 +192,8 @@ module _ (l : List ℕ) where
   seed-fit : Fit (seedEntry l)
   unfolding seedEntry
   seed-fit =
-      either-fit (letterForm l 4 && (wordNumber (wordAt l 1) 4294967295 .there && coverAt l 2 3 .there)) _ otherEntry (record { bytes = zero-bytes 32 }) other-fit
+      either-fit (letterForm l 4 && (wordNumber (wordAt l 1) 4294967295 .there && coverAt l 2 3 .there)) _ otherEntry
+      (record { bytes = zero-bytes 32 }) other-fit
 
   module _ (p : OfBytes l) where
     abbrev kind : NumberRead

@@ -24,5 +24,6 @@ pub record SaysAgain (room : ℕ) (text : List ℕ) (cal : Calendar) (records : 
 -- each line is one of a list's, nothing is refused,
 -- and in a buffer with room for the file stands the file, byte by byte, and after it what stood there
 pub record FileAgain (room : ℕ) (f : List ℕ) : Type 0 where
-  pub answer : (space : ℕ) → length f ≤ space → composed (contentOf room (decomposeText f)) space ≡ record { bad = 0; refusal = 0; fault = noFault; day = 0; length = length f }
+  pub answer : (space : ℕ) → length f ≤ space
+      → composed (contentOf room (decomposeText f)) space ≡ record { bad = 0; refusal = 0; fault = noFault; day = 0; length = length f }
   pub file : (before : List ℕ) → length f ≤ length before → composedFile (contentOf room (decomposeText f)) before ≡ f ++ drop (length f) before

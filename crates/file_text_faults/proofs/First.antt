@@ -10,7 +10,8 @@ use Rattle.file_records.specs.Records.{fourBytes}
 use Rattle.file_text_lines.specs.declared.Entry.{Entry}
 use Rattle.file_text_faults.specs.declared.Fault.{Fault}
 use Rattle.file_text_faults.specs.declared.Faults.{Faults}
-use Rattle.file_text_faults.specs.Faults.{namesWeekend, namesWrong, namesEarlier, atFault, idAfter, noFault, Numbered, faultFrom, firstFault, faultAfter, noFaults, faultsAfter, faultsOver, faultKept}
+use Rattle.file_text_faults.specs.Faults.{namesWeekend, namesWrong, namesEarlier, atFault, idAfter, noFault, Numbered, faultFrom, firstFault, faultAfter}
+use Rattle.file_text_faults.specs.Faults.{noFaults, faultsAfter, faultsOver, faultKept}
 
 -- a line that names neither a closed day nor a product is not at fault, and keeps the id
 module _ (e : Entry) (comment : e .letter ≡ 35) where

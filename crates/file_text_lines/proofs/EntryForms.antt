@@ -18,7 +18,8 @@ use Rattle.file_text_lines.specs.declared.NumberRead.{NumberRead}
 use Rattle.file_text_lines.specs.declared.CoverRead.{CoverRead}
 use Rattle.file_records.specs.Records.{threeBytes, fourBytes}
 use Rattle.file_write.specs.Writing.{fieldBytes}
-use Rattle.file_text_lines.specs.Entries.{wordAt, wordNumber, sharesRead, partRead, otherEntry, idBytes, letterForm, coverAt, coverEntry, seedEntry, dayForm, dayEntry, productForm, lineRecord, productEntry, entryAt, entryOf, lineEntry}
+use Rattle.file_text_lines.specs.Entries.{wordAt, wordNumber, sharesRead, partRead, otherEntry, idBytes, letterForm, coverAt, coverEntry, seedEntry}
+use Rattle.file_text_lines.specs.Entries.{dayForm, dayEntry, productForm, lineRecord, productEntry, entryAt, entryOf, lineEntry}
 
 -- a cover
 module _ (line : List ℕ) where
@@ -82,7 +83,8 @@ module _ (f : ℕ → ℕ) (n : ℕ) where
       day-dateless u = rw (eq-eqb n 12 e, t, ← q, u) refl
 
       -- a line of C or X, a space and a date is the entry with its letter and its day
-      pub day-is : r .there ≡ true → record { letter = f 0; cover = record { «first_year» = 0; years = 0 }; seed = 0; day = r .day; «record» = replicate 32 0 } ≡ dayEntry f n
+      pub day-is : r .there ≡ true → record { letter = f 0; cover = record { «first_year» = 0; years = 0 }; seed = 0; day = r .day; «record» = replicate 32 0 }
+          ≡ dayEntry f n
       unfolding dayEntry dayForm
       day-is u = rw (eq-eqb n 12 e, t, ← q, u) refl
 
@@ -161,7 +163,8 @@ module _ (l : Line) where
         -- a line that begins with another byte than Y, S and P is read as the line of a day
         pub begins-else : (getD (l .bytes) 0 0 ≡ 80 → ⊥) → dayEntry (λ i. getD (l .bytes) i 0) (l .length) ≡ lineEntry l
         unfolding lineEntry entryAt
-        begins-else e = rw (lt-ltb (l .length) 64 h, ne-eqb (getD (l .bytes) 0 0) 89 y, ne-eqb (getD (l .bytes) 0 0) 83 s, ne-eqb (getD (l .bytes) 0 0) 80 e) refl
+        begins-else e = rw (lt-ltb (l .length) 64 h, ne-eqb (getD (l .bytes) 0 0) 89 y, ne-eqb (getD (l .bytes) 0 0) 83 s, ne-eqb (getD (l .bytes) 0 0) 80 e)
+            refl
 
 -- a line of 64 bytes or more is no entry
 long-entry : (bytes : List ℕ) (n : ℕ) → 64 ≤ n → entryAt bytes n ≡ otherEntry
@@ -183,6 +186,7 @@ any-length bytes = go (fed-holds bytes .holds)
 
     go : Fed l bytes ⊎ ((64 ≤ length bytes) × (l .length ≡ 64)) → entryAt (l .bytes) (l .length) ≡ entryAt bytes (length bytes)
     go (inl f) =
-        let e : take (length bytes) (l .bytes) ≡ take (length bytes) bytes = ap (λ (n : ℕ). take n (l .bytes)) (sym (f .count)) ∙ held l bytes (fed-holds bytes .room) f ∙ sym (take-length bytes) in
+        let e : take (length bytes) (l .bytes) ≡ take (length bytes) bytes =
+        ap (λ (n : ℕ). take n (l .bytes)) (sym (f .count)) ∙ held l bytes (fed-holds bytes .room) f ∙ sym (take-length bytes) in
         ap (entryAt (l .bytes)) (f .count) ∙ same-entry (l .bytes) bytes (length bytes) (f .same) e
     go (inr f) = long-entry (l .bytes) (l .length) (omega (arith, f .1)) ∙ sym (long-entry bytes (length bytes) (f .0))

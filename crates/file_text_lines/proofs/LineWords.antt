@@ -92,7 +92,8 @@ module _ (line : List ℕ) (i from r : ℕ) (e : drop i (wordsOf line) ≡ words
   word-beyond h k l =
       let j : ℕ = k - i - 1 in
       let q : i + suc j ≡ k = omega arith in
-      sym (ap (λ (ws : List (List ℕ)). getD ws (suc j) []) (e ∙ word-last line from r s h)) ∙ getD-drop i (wordsOf line) (suc j) [] ∙ ap (λ (n : ℕ). getD (wordsOf line) n []) q
+      sym (ap (λ (ws : List (List ℕ)). getD ws (suc j) []) (e ∙ word-last line from r s h)) ∙ getD-drop i (wordsOf line) (suc j) [] ∙
+      ap (λ (n : ℕ). getD (wordsOf line) n []) q
 
 -- within a list the default plays no part
 pub same-default : (l : List ℕ) (i d e : ℕ) → i < length l → getD l i d ≡ getD l i e

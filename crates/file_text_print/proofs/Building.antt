@@ -92,7 +92,8 @@ module _ (cal : Calendar) (d : ℕ) (r : Line) where
 
 module _ (f : List ℕ) (p : ℕ) (r : Line) where
   -- a place that holds a record has the line of its product
-  pub place-held : isRecord f p ≡ true → (b : List ℕ) → b ≡ recordOf (blockOf f (p / 15)) (p % 15) → LineWith emptyLine (productText b) r → LineWith emptyLine (placeLine f p) r
+  pub place-held : isRecord f p ≡ true → (b : List ℕ) → b ≡ recordOf (blockOf f (p / 15)) (p % 15) → LineWith emptyLine (productText b) r
+      → LineWith emptyLine (placeLine f p) r
   unfolding placeLine
   place-held e b q g = rw (e, ← q) g
 
@@ -121,5 +122,6 @@ module _ (cal : Calendar) (f : List ℕ) (n : ℕ) (r : Line) where
 -- ---- bytes copied into a buffer
 
 -- setting the next byte of a text in a buffer pastes one byte more of it
-pub byte-pasted : (b : List ℕ) (at : ℕ) (s : List ℕ) (i : ℕ) → at + i < length b → i < length s → set (paste b at s i) (at + i) (getD s i 0) ≡ paste b at s (i + 1)
+pub byte-pasted : (b : List ℕ) (at : ℕ) (s : List ℕ) (i : ℕ) → at + i < length b → i < length s
+    → set (paste b at s i) (at + i) (getD s i 0) ≡ paste b at s (i + 1)
 byte-pasted b at s i h l = rw (add-one i) (paste-suc b at s i 0 h l)

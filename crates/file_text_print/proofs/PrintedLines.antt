@@ -108,9 +108,19 @@ pub record Printing (cal : Calendar) (f : List ℕ) (from : ℕ) (before : List 
 module _ (cal : Calendar) (f : List ℕ) (from : ℕ) (before : List ℕ) where
   -- before the first line nothing is written and the buffer is as before
   pub begins : Printing cal f from before from 0 before
-  begins = record { is = sym (append-nil (linesText cal f from)); fits = omega arith; unchanged = refl; long = refl; on = inl (refl, refl); within = λ h. h; far = refl }
+  begins = record {
+    is = sym (append-nil (linesText cal f from));
+    fits = omega arith;
+    unchanged = refl;
+    long = refl;
+    on = inl (refl, refl);
+    within =
+        λ h. h;
+    far = refl;
+  }
 
-  module _ (next n : ℕ) (out : List ℕ) (g : Printing cal f from before next n out) (count : ℕ) (q : count ≡ lineCount cal f) {b : Bool} (s : b ≡ anotherLine next count out n) where
+  module _ (next n : ℕ) (out : List ℕ) (g : Printing cal f from before next n out) (count : ℕ) (q : count ≡ lineCount cal f) {b : Bool}
+      (s : b ≡ anotherLine next count out n) where
     -- with another line to come and room for it, the line is written after those before it
     pub goes : b ≡ true → (l : Line) → LineWith emptyLine (lineText cal f next) l → (r : ℕ) (after : List ℕ)
         → r ≡ n + l .length → after ≡ paste out n (l .bytes) (l .length) → Printing cal f from before (next + 1) r after
@@ -119,7 +129,9 @@ module _ (cal : Calendar) (f : List ℕ) (from : ℕ) (before : List ℕ) where
         let m : (next < count) × (n + 64 ≤ length out) = has-more next count out n s t in
         let k : length (l .bytes) ≡ 64 = line-room cal f next l e in
         let w : l .length ≤ 64 = line-fits cal f next l e in
-        let written : take r after ≡ take n out ++ lineText cal f next = rw (p, a) (take-paste out n (l .bytes) (l .length) (g .fits) (omega (arith, k, w)) ∙ ap (λ (t : List ℕ). take n out ++ t) (line-is cal f next l e)) in
+        let written : take r after ≡ take n out ++ lineText cal f next =
+        rw (p, a) (take-paste out n (l .bytes) (l .length) (g .fits) (omega (arith, k, w)) ∙
+        ap (λ (t : List ℕ). take n out ++ t) (line-is cal f next l e)) in
         let len : length after ≡ length out = rw a (length-paste out n (l .bytes) (l .length) (omega (arith, w, m .1)) (omega (arith, k, w))) in
         record {
           is = rw (add-one next, written, g .is) (append-assoc (linesText cal f from) (take n out) (lineText cal f next));

@@ -132,7 +132,8 @@ pub line-short : (cal : Calendar) (f : List ℕ) (n : ℕ) → length (lineText 
 unfolding lineText
 line-short cal f n = go (eqb n 0) (leb n (coverDays (cal .cover)))
   where
-    go : (a b : Bool) → length (cond a (coverText (cal .cover)) (cond b (dayLine cal (coverStart (cal .cover) + (n - 1))) (placeLine f (n - 1 - coverDays (cal .cover))))) < 64
+    go : (a b : Bool) → length (cond a (coverText (cal .cover))
+        (cond b (dayLine cal (coverStart (cal .cover) + (n - 1))) (placeLine f (n - 1 - coverDays (cal .cover))))) < 64
     go true b = cover-short (cal .cover)
     go false true = dayline-short cal (coverStart (cal .cover) + (n - 1))
     go false false = place-short f (n - 1 - coverDays (cal .cover))

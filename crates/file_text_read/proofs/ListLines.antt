@@ -30,22 +30,35 @@ use Rattle.file_text_faults.specs.declared.Faults.{Faults}
 use Rattle.file_text_faults.specs.Faults.{noFault, faultsAfter, faultKept}
 use Rattle.file_text_read.specs.declared.ListTaken.{ListTaken}
 use Rattle.file_text_read.specs.declared.Composed.{Composed}
-use Rattle.file_text_read.specs.Lists.{Content, noContent, nothingTaken, entryFits, calendarAfterEntry, recordsAfter, nextLine, lineCounted, entryTaken, lineTaken, linesTaken, numberedFrom, numberedLines, contentOf, restTaken, partTaken, lineAfter, contentIn, Grown, lineTold, RecordsIn, EntryIn, ListLineIn, PartIn, EndIn, idleDay, composed, composedFile}
+use Rattle.file_text_read.specs.Lists.{Content, noContent, nothingTaken, entryFits, calendarAfterEntry, recordsAfter, nextLine, lineCounted, entryTaken}
+use Rattle.file_text_read.specs.Lists.{lineTaken, linesTaken, numberedFrom, numberedLines, contentOf, restTaken, partTaken, lineAfter, contentIn, Grown}
+use Rattle.file_text_read.specs.Lists.{lineTold, RecordsIn, EntryIn, ListLineIn, PartIn, EndIn, idleDay, composed, composedFile}
 use Rattle.file_text_read.proofs.RecordsStored.{stays, grows-on}
 
 -- ---- one line more
 
 -- a line that says something
-module _ (t : ListTaken) (before : List ℕ) (e : Entry) (n : ℕ) (p : n ≡ nextLine (t .lines)) (b : Bool) (s : b ≡ entryFits (t .begun) (t .calendar .cover) (t .seeded) e) where
+module _ (t : ListTaken) (before : List ℕ) (e : Entry) (n : ℕ) (p : n ≡ nextLine (t .lines)) (b : Bool)
+    (s : b ≡ entryFits (t .begun) (t .calendar .cover) (t .seeded) e) where
   -- a line that says something and stands where it may not is counted as the bad line, and the buffer stays as it is
   pub taken-bad : b ≡ false → (r : ListTaken) → r ≡ lineTold t n → EntryIn t e before before r
   unfolding entryTaken lineTold
   taken-bad f r q = rw q (record { is = rw (← s, f, p) refl; buffer = stays before (t .size) })
 
   -- a line that says something and stands where it may changes the calendar, the records and the faults as stated
-  pub taken-good : b ≡ true → (faults : Faults) → faults ≡ faultsAfter (t .faults) n e → (cal : Calendar) → cal ≡ calendarAfterEntry (t .calendar) e → (after : List ℕ) (size : ℕ)
+  pub taken-good : b ≡ true → (faults : Faults) → faults ≡ faultsAfter (t .faults) n e → (cal : Calendar) → cal ≡ calendarAfterEntry (t .calendar) e
+      → (after : List ℕ) (size : ℕ)
       → RecordsIn before after (t .size) size (recordsAfter (length before) (take (t .size) before) e)
-      → EntryIn t e before after (record { begun = true; calendar = cal; seeded = t .seeded || eqb (e .letter) 83; size = size; faults = faults; lines = n; bad = 0 })
+      → EntryIn t e before after (record {
+        begun = true;
+        calendar = cal;
+        seeded = t .seeded || eqb (e .letter) 83;
+        size = size;
+        faults = faults;
+        lines =
+            n;
+        bad = 0;
+      })
   unfolding entryTaken
   taken-good f faults k cal g after size r = record { is = rw (← s, f, k, p, g, r .is) refl; buffer = r .buffer }
 
@@ -78,11 +91,13 @@ module _ (room : ℕ) (c : Content) (l : LongLine) where
   unfolding partTaken
   part-byte byte rest n = rw (ne-eqb byte 10 n) refl
 
-  part-line : (byte : ℕ) (rest : List ℕ) → byte ≡ 10 → partTaken room c l (byte ∷ rest) ≡ partTaken room (lineTaken room c (heldSaid (eqb (c .lines) 0) l)) emptyLong rest
+  part-line : (byte : ℕ) (rest : List ℕ) → byte ≡ 10
+      → partTaken room c l (byte ∷ rest) ≡ partTaken room (lineTaken room c (heldSaid (eqb (c .lines) 0) l)) emptyLong rest
   unfolding partTaken
   part-line byte rest e = rw (eq-eqb byte 10 e) refl
 
-  rest-line : (byte : ℕ) (rest : List ℕ) → byte ≡ 10 → restTaken room c l (byte ∷ rest) ≡ restTaken room (lineTaken room c (heldSaid (eqb (c .lines) 0) l)) emptyLong rest
+  rest-line : (byte : ℕ) (rest : List ℕ) → byte ≡ 10
+      → restTaken room c l (byte ∷ rest) ≡ restTaken room (lineTaken room c (heldSaid (eqb (c .lines) 0) l)) emptyLong rest
   unfolding restTaken restOver
   rest-line byte rest e = rw (eq-eqb byte 10 e) refl
 
@@ -106,13 +121,15 @@ pub record Going (t : ListTaken) (l : LongLine) (part before : List ℕ) (now : 
   -- the line begun after the part is the one begun after the bytes left of it
   pub begun : lineAfter l part ≡ lineAfter line (drop i part)
   -- with any rest of the list, the whole says what the bytes left and the rest say after those read
-  pub is : (rest : List ℕ) → restTaken (length before) (contentIn t before) l (part ++ rest) ≡ restTaken (length before) (contentIn now buffer) line (drop i part ++ rest)
+  pub is : (rest : List ℕ) → restTaken (length before) (contentIn t before) l (part ++ rest)
+      ≡ restTaken (length before) (contentIn now buffer) line (drop i part ++ rest)
 
 -- before the first byte of a part the state, the line begun and the buffer are as they were
 pub begins : (t : ListTaken) (l : LongLine) (part before : List ℕ) → Going t l part before t l before 0
 begins t l part before = record { within = omega arith; grown = stays before (t .size); said = refl; begun = refl; is = λ rest. refl }
 
-module _ (t : ListTaken) (l : LongLine) (part before : List ℕ) (now : ListTaken) (line : LongLine) (buffer : List ℕ) (i : ℕ) (g : Going t l part before now line buffer i) where
+module _ (t : ListTaken) (l : LongLine) (part before : List ℕ) (now : ListTaken) (line : LongLine) (buffer : List ℕ) (i : ℕ)
+    (g : Going t l part before now line buffer i) where
   module _ (h : i < length part) where
     part-next : (rest : List ℕ) → drop i part ++ rest ≡ getD part i 0 ∷ (drop (i + 1) part ++ rest)
     part-next rest = rw (drop-cons part i 0 h, add-one i) refl
@@ -128,11 +145,13 @@ module _ (t : ListTaken) (l : LongLine) (part before : List ℕ) (now : ListTake
           grown = g .grown;
           said = g .said ∙ rw (one-more, e) (part-byte (length before) (contentIn now buffer) line (getD part i 0) (drop (i + 1) part) n);
           begun = g .begun ∙ rw (one-more, e) (begun-byte line (getD part i 0) (drop (i + 1) part) n);
-          is = λ rest. g .is rest ∙ rw (part-next rest, e) (rest-byte (length before) (contentIn now buffer) line (getD part i 0) (drop (i + 1) part ++ rest) n);
+          is = λ rest. g .is rest ∙ rw (part-next rest, e)
+              (rest-byte (length before) (contentIn now buffer) line (getD part i 0) (drop (i + 1) part ++ rest) n);
         }
 
     -- a line feed ends the line begun, which is taken, and an empty line is begun
-    pub goes-line : getD part i 0 ≡ 10 → (after : List ℕ) (r : ListTaken) → ListLineIn now line buffer after r → (next : LongLine) → next ≡ emptyLong → Going t l part before r next after (i + 1)
+    pub goes-line : getD part i 0 ≡ 10 → (after : List ℕ) (r : ListTaken) → ListLineIn now line buffer after r → (next : LongLine) → next ≡ emptyLong
+        → Going t l part before r next after (i + 1)
     goes-line e after r s next q =
         let room : length buffer ≡ length before = g .grown .long in
         record {
@@ -140,7 +159,8 @@ module _ (t : ListTaken) (l : LongLine) (part before : List ℕ) (now : ListTake
           grown = grows-on (g .grown) (s .buffer);
           said = g .said ∙ rw (one-more, q, s .is, room) (part-line (length before) (contentIn now buffer) line (getD part i 0) (drop (i + 1) part) e);
           begun = g .begun ∙ rw (one-more, q) (begun-line line (getD part i 0) (drop (i + 1) part) e);
-          is = λ rest. g .is rest ∙ rw (part-next rest, q, s .is, room) (rest-line (length before) (contentIn now buffer) line (getD part i 0) (drop (i + 1) part ++ rest) e);
+          is = λ rest. g .is rest ∙ rw (part-next rest, q, s .is, room)
+              (rest-line (length before) (contentIn now buffer) line (getD part i 0) (drop (i + 1) part ++ rest) e);
         }
 
   -- once all bytes are read, the state, the line begun and the buffer are those after the part
@@ -199,7 +219,8 @@ counted-next room c e h = go (eqb (c .bad) 0) refl (eqb (e .letter) 35) (entryFi
           bad = 0;
         }
 
-    go : (a : Bool) → eqb (c .bad) 0 ≡ a → (b d : Bool) → eqb (cond a (cond b (lineCounted c 0) (cond d good (lineCounted c (nextLine (c .lines))))) c .lines) 0 ≡ false
+    go : (a : Bool) → eqb (c .bad) 0 ≡ a → (b d : Bool)
+        → eqb (cond a (cond b (lineCounted c 0) (cond d good (lineCounted c (nextLine (c .lines))))) c .lines) 0 ≡ false
     go false q b d = h (eqb-false (c .bad) 0 q)
     go true q true d = next-some (c .lines)
     go true q false true = next-some (c .lines)
@@ -248,7 +269,8 @@ no-idle refusal cal n = rw (ne-eqb refusal 6 n) refl
 
 module _ (t : ListTaken) (buffer file : List ℕ) where
   -- a list with a bad line is answered with the number of that line, and the buffer for the file stays as it is
-  pub composed-bad : (t .bad ≡ 0 → ⊥) → (r : Composed) → r ≡ record { bad = t .bad; refusal = 0; fault = noFault; day = 0; length = 0 } → (r ≡ composed (contentIn t buffer) (length file)) × (file ≡ composedFile (contentIn t buffer) file)
+  pub composed-bad : (t .bad ≡ 0 → ⊥) → (r : Composed) → r ≡ record { bad = t .bad; refusal = 0; fault = noFault; day = 0; length = 0 }
+      → (r ≡ composed (contentIn t buffer) (length file)) × (file ≡ composedFile (contentIn t buffer) file)
   unfolding composed composedFile
   composed-bad n r e = (rw (ne-eqb (t .bad) 0 n) e, rw (ne-eqb (t .bad) 0 n) refl)
 
@@ -256,7 +278,8 @@ module _ (t : ListTaken) (buffer file : List ℕ) where
   pub composed-is : t .bad ≡ 0 → (n : ℕ) → take n buffer ≡ take (t .size) buffer → (w : WrittenFile) (after : List ℕ)
       → writeAnswer w ≡ writeCall (t .calendar) (take n buffer) (length file) → after ≡ bufferAfter (t .calendar) (take n buffer) file
       → (fault : Fault) → fault ≡ faultKept (t .faults) (w .refusal) → (day : ℕ) → day ≡ idleDay (w .refusal) (t .calendar)
-      → (record { bad = 0; refusal = w .refusal; fault = fault; day = day; length = w .length } ≡ composed (contentIn t buffer) (length file)) × (after ≡ composedFile (contentIn t buffer) file)
+      → (record { bad = 0; refusal = w .refusal; fault = fault; day = day; length = w .length } ≡ composed (contentIn t buffer) (length file))
+      × (after ≡ composedFile (contentIn t buffer) file)
   unfolding composed composedFile
   composed-is z n e w after p q fault k day d = (rw (eq-eqb (t .bad) 0 z, ← e, ← p, k, d) refl, rw (eq-eqb (t .bad) 0 z, ← e) q)
 

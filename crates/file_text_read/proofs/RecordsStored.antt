@@ -89,6 +89,7 @@ module _ (b : List ℕ) (size : ℕ) (e : Entry) where
   no-product n = record { is = rw (ne-eqb (e .letter) 80 n) refl; buffer = stays b size }
 
   -- a line of a product adds its record where there is room for it
-  pub one-product : (after : List ℕ) (r : ℕ) → e .letter ≡ 80 → RecordsIn b after size r (withRecord (length b) (take size b) (e .«record»)) → RecordsIn b after size r (recordsAfter (length b) (take size b) e)
+  pub one-product : (after : List ℕ) (r : ℕ) → e .letter ≡ 80 → RecordsIn b after size r (withRecord (length b) (take size b) (e .«record»))
+      → RecordsIn b after size r (recordsAfter (length b) (take size b) e)
   unfolding recordsAfter
   one-product after r p s = rw (eq-eqb (e .letter) 80 p) s

@@ -30,7 +30,8 @@ use Rattle.file_text_lines.specs.declared.Entry.{Entry}
 use Rattle.file_text_faults.specs.declared.Faults.{Faults}
 use Rattle.file_text_faults.specs.Faults.{noFault, faultsAfter, faultKept, Numbered}
 use Rattle.file_text_read.specs.declared.Composed.{Composed}
-use Rattle.file_text_read.specs.Lists.{Content, noContent, entryFits, calendarAfterEntry, recordsAfter, nextLine, lineCounted, entryTaken, lineTaken, linesTaken, numberedLines, contentOf, idleDay, composed, CalendarPasses, saySeed, OfSeed}
+use Rattle.file_text_read.specs.Lists.{Content, noContent, entryFits, calendarAfterEntry, recordsAfter, nextLine, lineCounted, entryTaken, lineTaken}
+use Rattle.file_text_read.specs.Lists.{linesTaken, numberedLines, contentOf, idleDay, composed, CalendarPasses, saySeed, OfSeed}
 
 -- after a seed only a product fits
 product-only : (cover : Cover) (e : Entry) → entryFits true cover true e ≡ true → e .letter ≡ 80
@@ -116,11 +117,13 @@ module _ (room : ℕ) (e : Entry) (p : e .letter ≡ 83) where
   seed-first c h = rw (eq-eqb (c .bad) 0 (h .good), ne-eqb (e .letter) 35 (λ z. omega (arith, p))) (seed-entry c (h .begun))
 
 -- the lines before it say nothing
-seed-lines : (room : ℕ) (c : Content) (ls : List Numbered) (first : Entry) → Quiet c → saySeed ls first → Seeded (madeCall (first .seed) (first .cover) .value) (linesTaken room c ls)
+seed-lines : (room : ℕ) (c : Content) (ls : List Numbered) (first : Entry) → Quiet c → saySeed ls first
+    → Seeded (madeCall (first .seed) (first .cover) .value) (linesTaken room c ls)
 unfolding linesTaken saySeed
 seed-lines room c [] first h s = absurd s
 seed-lines room c (l ∷ ls) first h (inl s) = seed-lines room (lineTaken room c (l .entry)) ls first (quiet-line room c (l .entry) h (s .0)) (s .1)
-seed-lines room c (l ∷ ls) first h (inr s) = rw (s .0) (seeded-lines room (madeCall (first .seed) (first .cover) .value) (lineTaken room c first) ls (seed-first room first (s .1) c h))
+seed-lines room c (l ∷ ls) first h (inr s) =
+    rw (s .0) (seeded-lines room (madeCall (first .seed) (first .cover) .value) (lineTaken room c first) ls (seed-first room first (s .1) c h))
 
 -- a calendar of zeros has no year that could be wrong, and no calendar block
 no-year : yearsRight (zeroCalendar .cover) ≡ true
@@ -139,7 +142,8 @@ module _ (seed : ℕ) (cover : Cover) (wrong : validCover cover ≡ false) where
 
   gets-4 : (records : List ℕ) (space : ℕ) → writeCall (madeCall seed cover .value) records space ≡ record { refusal = 4; value = 0 }
   unfolding writeCall
-  gets-4 records space = rw zeros (refused (writeAsks zeroCalendar records space) 0 (length (fileOf zeroCalendar records)) 3 (sym (no-4 zeroCalendar records space no-year (no-block records))))
+  gets-4 records space = rw zeros (refused (writeAsks zeroCalendar records space) 0 (length (fileOf zeroCalendar records)) 3
+      (sym (no-4 zeroCalendar records space no-year (no-block records))))
 
 -- a cover that is right
 module _ (seed : ℕ) (cover : Cover) (right : validCover cover ≡ true) (records : List ℕ) (some : 1 ≤ length records) where
@@ -175,7 +179,8 @@ module _ (seed : ℕ) (cover : Cover) (right : validCover cover ≡ true) (recor
       }
 
 -- with 4 no place is said
-no-place : (s : Faults) (of : Calendar) → _≡_ {A = Composed} (record { bad = 0; refusal = 4; fault = faultKept s 4; day = idleDay 4 of; length = 0 }) (record { bad = 0; refusal = 4; fault = noFault; day = 0; length = 0 })
+no-place : (s : Faults) (of : Calendar) → _≡_ {A = Composed} (record { bad = 0; refusal = 4; fault = faultKept s 4; day = idleDay 4 of; length = 0 })
+    (record { bad = 0; refusal = 4; fault = noFault; day = 0; length = 0 })
 unfolding faultKept idleDay
 no-place s of = refl
 
@@ -190,7 +195,8 @@ of-seed room input first q =
     record {
       calendar = s .calendar;
       right-cover = λ right some. rw (s .calendar) (calendar-passes (first .seed) (first .cover) right (contentOf room input .records) some);
-      wrong-cover = λ wrong good space. rw (good, s .calendar, gets-4 (first .seed) (first .cover) wrong (contentOf room input .records) space) (no-place (contentOf room input .faults) (madeCall (first .seed) (first .cover) .value));
+      wrong-cover = λ wrong good space. rw (good, s .calendar, gets-4 (first .seed) (first .cover) wrong (contentOf room input .records) space)
+          (no-place (contentOf room input .faults) (madeCall (first .seed) (first .cover) .value));
     }
   where
     s : Seeded (madeCall (first .seed) (first .cover) .value) (contentOf room input)

@@ -13,7 +13,8 @@ use Rattle.file_text_stripped.specs.Said.{lineSaid}
 use Rattle.file_text_faults.specs.declared.Faults.{Faults}
 use Rattle.file_text_faults.specs.Faults.{noFaults, faultsAfter, faultsOver, faultKept, Numbered}
 use Rattle.file_text_faults.proofs.First.{comment-stays, allNumbered, first-5, first-7, first-8}
-use Rattle.file_text_read.specs.Lists.{Content, noContent, entryFits, calendarAfterEntry, recordsAfter, nextLine, lineCounted, entryTaken, lineTaken, linesTaken, numberedFrom, numberedLines, contentOf, SaysWhere}
+use Rattle.file_text_read.specs.Lists.{Content, noContent, entryFits, calendarAfterEntry, recordsAfter, nextLine, lineCounted, entryTaken, lineTaken}
+use Rattle.file_text_read.specs.Lists.{linesTaken, numberedFrom, numberedLines, contentOf, SaysWhere}
 use Rattle.file_text_read.proofs.ListLines.{next-some}
 
 -- each line of a text has a number
@@ -57,7 +58,8 @@ line-more : (room : ℕ) (c : Content) (e : Entry) → c .bad ≡ 0 → lineTake
 unfolding lineTaken
 line-more room c e z = rw (eq-eqb (c .bad) 0 z) (go (eqb (e .letter) 35) refl)
   where
-    go : (b : Bool) → eqb (e .letter) 35 ≡ b → cond b (lineCounted c 0) (entryTaken room c e) .bad ≡ 0 → OneMore c (cond b (lineCounted c 0) (entryTaken room c e)) e
+    go : (b : Bool) → eqb (e .letter) 35 ≡ b → cond b (lineCounted c 0) (entryTaken room c e) .bad ≡ 0
+        → OneMore c (cond b (lineCounted c 0) (entryTaken room c e)) e
     go true q h = record { lines = refl; faults = sym (comment-stays e (eqb-true (e .letter) 35 q) (c .faults) (nextLine (c .lines))) }
     go false q h = entry-more room c e h
 
@@ -82,7 +84,8 @@ over room c (line ∷ lines) n q z h = go (eqb (next .bad) 0) refl (λ k m. over
         → linesTaken room next rest .faults ≡ faultsOver (faultsAfter (c .faults) (nextLine n) e) rest
     go true m ih =
         let o : OneMore c next e = line-more room c e z (eqb-true (next .bad) 0 m) in
-        ih (o .lines ∙ ap nextLine q) (eqb-true (next .bad) 0 m) ∙ ap (λ (s : Faults). faultsOver s rest) (o .faults ∙ ap (λ (k : ℕ). faultsAfter (c .faults) (nextLine k) e) q)
+        ih (o .lines ∙ ap nextLine q) (eqb-true (next .bad) 0 m) ∙
+        ap (λ (s : Faults). faultsOver s rest) (o .faults ∙ ap (λ (k : ℕ). faultsAfter (c .faults) (nextLine k) e) q)
     go false m ih = absurd (eqb-false (next .bad) 0 m (sym (ap (λ (x : Content). x .bad) (bad-stays room next rest (eqb-false (next .bad) 0 m))) ∙ h))
 
 kept-is : (room : ℕ) (input : List ℕ) → contentOf room input .bad ≡ 0 → contentOf room input .faults ≡ faultsOver noFaults (numberedLines input)

@@ -266,7 +266,9 @@ pub record OfSeed (room : ℕ) (input : List ℕ) (first : Entry) : Type 0 where
   pub calendar : contentOf room input .calendar ≡ madeCall (first .seed) (first .cover) .value
   -- 'every calendar made this way passes questions 5 and 6, for every seed and every cover of 1 to 16 years from 2000 to 2099' (02, note 14),
   -- and so does its file, with some product
-  pub right-cover : validCover (first .cover) ≡ true → 1 ≤ length (contentOf room input .records) → CalendarPasses (fileOf (contentOf room input .calendar) (contentOf room input .records))
+  pub right-cover : validCover (first .cover) ≡ true → 1 ≤ length (contentOf room input .records)
+      → CalendarPasses (fileOf (contentOf room input .calendar) (contentOf room input .records))
   -- 'An `S` whose cover is not 1 to 16 years from 2000 to 2099 says no year, so that the file gets 4',
   -- where each line is one of a list's
-  pub wrong-cover : validCover (first .cover) ≡ false → contentOf room input .bad ≡ 0 → (space : ℕ) → composed (contentOf room input) space ≡ record { bad = 0; refusal = 4; fault = noFault; day = 0; length = 0 }
+  pub wrong-cover : validCover (first .cover) ≡ false → contentOf room input .bad ≡ 0 → (space : ℕ)
+      → composed (contentOf room input) space ≡ record { bad = 0; refusal = 4; fault = noFault; day = 0; length = 0 }

@@ -13,7 +13,8 @@ use Rattle.file_records.specs.Records.{fourBytes}
 use Rattle.file_text_lines.specs.declared.Entry.{Entry}
 use Rattle.file_text_stripped.specs.Said.{lineSaid}
 use Rattle.file_text_faults.specs.Faults.{atFault, idAfter, Numbered, faultFrom, faultsAfter}
-use Rattle.file_text_read.specs.Lists.{Content, entryFits, calendarAfterEntry, recordsAfter, nextLine, lineCounted, entryTaken, lineTaken, linesTaken, numberedFrom}
+use Rattle.file_text_read.specs.Lists.{Content, entryFits, calendarAfterEntry, recordsAfter, nextLine, lineCounted, entryTaken, lineTaken, linesTaken}
+use Rattle.file_text_read.specs.Lists.{numberedFrom}
 use Rattle.file_text_read.proofs.ListLines.{next-some}
 use Rattle.file_text_told.proofs.RecordBytes.{said-long}
 

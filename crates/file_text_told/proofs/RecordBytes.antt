@@ -12,7 +12,8 @@ use Rattle.delivery_lines.specs.NoticeLines.{saysNothing, trimmed}
 use Rattle.file_text_lines.specs.declared.Entry.{Entry}
 use Rattle.session_lines.specs.CommandLines.{dateAt}
 use Rattle.file_text_lines.specs.declared.NumberRead.{NumberRead}
-use Rattle.file_text_lines.specs.Entries.{wordAt, wordNumber, sharesRead, partRead, otherEntry, letterForm, coverAt, coverEntry, seedEntry, dayForm, dayEntry, productForm, lineRecord, productEntry, entryAt, entryOf}
+use Rattle.file_text_lines.specs.Entries.{wordAt, wordNumber, sharesRead, partRead, otherEntry, letterForm, coverAt, coverEntry, seedEntry, dayForm, dayEntry}
+use Rattle.file_text_lines.specs.Entries.{productForm, lineRecord, productEntry, entryAt, entryOf}
 use Rattle.file_text_stripped.specs.Said.{nothingEntry, textSaid, bareText, lineSaid}
 
 zeros : length (replicate {A = ℕ} 32 0) ≡ 32

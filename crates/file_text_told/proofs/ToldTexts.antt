@@ -43,7 +43,8 @@ module _ (l : Line) (refusal : ℕ) (fault : Fault) (day : ℕ) where
     where-none e = rw (ne-eqb refusal 6 n, e) (unchanged l)
 
     -- with refusal 5, 7 or 8 the place that is told is the line at fault, with its product for 7 and 8
-    pub where-line : (eqb refusal 5 || (eqb refusal 7 || eqb refusal 8)) ≡ true → (r : Line) → LineWith l (atLineText (fault .line) ++ atProductText refusal (fault .id)) r → LineWith l (whereText refusal fault day) r
+    pub where-line : (eqb refusal 5 || (eqb refusal 7 || eqb refusal 8)) ≡ true → (r : Line)
+        → LineWith l (atLineText (fault .line) ++ atProductText refusal (fault .id)) r → LineWith l (whereText refusal fault day) r
     unfolding whereText
     where-line e r g = rw (ne-eqb refusal 6 n, e) g
 

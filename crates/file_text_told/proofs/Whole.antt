@@ -34,12 +34,14 @@ use Rattle.file_text_told.proofs.Lengths.{told-short}
 -- ---- part by part
 
 -- before the first byte
-pub nothing-read : (buffer : List ℕ) (t : ListTaken) (l : LongLine) (n : ℕ) → length buffer ≡ 65536 → t ≡ nothingTaken → l ≡ emptyLong → n ≡ 0 → ReadTo t l buffer n
+pub nothing-read : (buffer : List ℕ) (t : ListTaken) (l : LongLine) (n : ℕ) → length buffer ≡ 65536 → t ≡ nothingTaken → l ≡ emptyLong → n ≡ 0
+    → ReadTo t l buffer n
 nothing-read buffer t l n room p q z =
     record { input = []; count = omega (arith, z); room = room; is = λ rest. rw (p, q) (rw room at (whole-list buffer rest)) }
 
 -- the first k bytes of a buffer more
-pub read-on : (t : ListTaken) (l : LongLine) (k : ℕ) (part before after : List ℕ) (r : ListTaken) (next : LongLine) (n m : ℕ) → ReadTo t l before n → k ≤ length part
+pub read-on : (t : ListTaken) (l : LongLine) (k : ℕ) (part before after : List ℕ) (r : ListTaken) (next : LongLine) (n m : ℕ) → ReadTo t l before n
+    → k ≤ length part
     → PartIn t l (take k part) before after r next → m ≡ (n + k) % 2 ^ 64 → ReadTo r next after m
 read-on t l k part before after r next n m s h p e =
     record {
@@ -129,7 +131,8 @@ module _ (input : List ℕ) where
   unfolding composed composeTold
   told-is = go (eqb (textContent input .bad) 0) refl
     where
-      go : (b : Bool) → eqb (textContent input .bad) 0 ≡ b → saidText (cond b good bad) ≡ cond b (toldOf (textRefusal input)) (badEntryText (textContent input .bad))
+      go : (b : Bool) → eqb (textContent input .bad) 0 ≡ b
+          → saidText (cond b good bad) ≡ cond b (toldOf (textRefusal input)) (badEntryText (textContent input .bad))
       go true q = told-good (eqb-true (textContent input .bad) 0 q)
       go false q = told-bad q
 
@@ -181,7 +184,8 @@ module _ (t : ListTaken) (l : LongLine) (before after : List ℕ) (r : ListTaken
     line-short = omega (arith, told .0, told-short (s .input))
 
 -- what was handed out
-pub handed : (n : ℕ) (text told : List ℕ) → OfInput n text told → (taken : Bool) (bytes k : ℕ) → (taken ≡ true → bytes ≡ length text) → k % 2 ^ 64 ≡ length told % 2 ^ 64
+pub handed : (n : ℕ) (text told : List ℕ) → OfInput n text told → (taken : Bool) (bytes k : ℕ) → (taken ≡ true → bytes ≡ length text)
+    → k % 2 ^ 64 ≡ length told % 2 ^ 64
     → Ran n taken bytes k
 handed n text told o taken bytes k p q =
     record { input = o .input; count = o .count; file = λ e. p e ∙ ap length (o .file); said = q ∙ ap (λ t. length t % 2 ^ 64) (o .said) }

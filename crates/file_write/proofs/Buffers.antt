@@ -46,7 +46,8 @@ module _ (before : List ℕ) (at : ℕ) (block : List ℕ) where
   copied-none = record { is = paste-zero before at block }
 
   -- setting the next byte of the block in the buffer copies one byte more
-  pub copied-more : (j : ℕ) (buffer : List ℕ) → at + j < length before → j < length block → Copied before at block j buffer → Copied before at block (j + 1) (set buffer (at + j) (getD block j 0))
+  pub copied-more : (j : ℕ) (buffer : List ℕ) → at + j < length before → j < length block → Copied before at block j buffer
+      → Copied before at block (j + 1) (set buffer (at + j) (getD block j 0))
   copied-more j buffer h l e =
       record {
         is = ap (λ (b : List ℕ). set b (at + j) (getD block j 0)) (e .is) ∙ paste-suc before at block j 0 h l ∙ ap (paste before at block) (sym (add-one j));
@@ -75,13 +76,15 @@ module _ (cal : Calendar) (records before : List ℕ) where
       ∙ omega arith
 
   -- pasting block k after the first k blocks gives a buffer with one block more
-  pub put-more : (k : ℕ) (buffer block after : List ℕ) → 512 * (k + 1) ≤ length before → Put k buffer → block ≡ blockFor cal records k → after ≡ paste buffer (512 * k) block 512 → Put (k + 1) after
+  pub put-more : (k : ℕ) (buffer block after : List ℕ) → 512 * (k + 1) ≤ length before → Put k buffer → block ≡ blockFor cal records k
+      → after ≡ paste buffer (512 * k) block 512 → Put (k + 1) after
   put-more k buffer block after h e q p =
       record {
         is =
             p
             ∙ ap₂ (λ (b x : List ℕ). paste b (512 * k) x 512) (e .is) q
-            ∙ ap₂ _++_ (ap₂ _++_ (take-at there rest (512 * k) (blocks-length cal records k)) (take-all 512 here (omega (arith, block-length cal records k)))) past
+            ∙ ap₂ _++_ (ap₂ _++_ (take-at there rest (512 * k) (blocks-length cal records k)) (take-all 512 here (omega (arith, block-length cal records k))))
+            past
             ∙ ap (λ (b : List ℕ). b ++ drop (512 * (k + 1)) before) (sym (ap (blocksFor cal records) (add-one k) ∙ blocks-more cal records k));
       }
     where

@@ -17,7 +17,8 @@ use Rattle.questions.specs.Search.{every, some}
 use Rattle.questions.proofs.Search.{every-at, every-all}
 use Rattle.days.proofs.Years.{in-year-below}
 use Rattle.calendar.specs.Bits.{byteBit, bitAt}
-use Rattle.calendar.specs.Trading.{coverStart, coverEnd, inCover, slotOf, closedOn, tradingDay, inSecondMap, mayBeClosed, bitsClean, cleanSlot, clean, everyWeek}
+use Rattle.calendar.specs.Trading.{coverStart, coverEnd, inCover, slotOf, closedOn, tradingDay, inSecondMap, mayBeClosed, bitsClean, cleanSlot, clean}
+use Rattle.calendar.specs.Trading.{everyWeek}
 use Rattle.calendar.specs.declared.Calendar.{Calendar}
 use Rattle.calendar.proofs.Clean.{bits-zero}
 use Rattle.calendar.proofs.Covered.{Covered, covered}
@@ -102,7 +103,8 @@ module _ (cal : Calendar) (tidy : clean cal ≡ true) (most : cal .cover .years 
       bits-barred (bitAt (cal .closed) s) (bitAt (cal .exchange) s)
       (rw (le-ltb (s / 368) (cal .cover .years) l) at (every-at (cleanSlot cal) 5888 s tidy h))
 
-  nothing : (map : List ℕ) → areBytes map ≡ true → ((s : ℕ) → s < 5888 → cal .cover .years ≤ s / 368 → bitAt map s ≡ false) → (i : ℕ) → 46 * cal .cover .years ≤ i → i < 736 → getD map i 0 ≡ 0
+  nothing : (map : List ℕ) → areBytes map ≡ true → ((s : ℕ) → s < 5888 → cal .cover .years ≤ s / 368 → bitAt map s ≡ false) → (i : ℕ)
+      → 46 * cal .cover .years ≤ i → i < 736 → getD map i 0 ≡ 0
   unfolding bitAt
   nothing map bytes none i l h =
       no-bits (getD map i 0) (byte-below map bytes i)
@@ -131,10 +133,12 @@ module _ (cal : Calendar) (most : cal .cover .years ≤ 16) where
       omega (arith, v .year-low, v .year-high, in-year-below d (v .day))
 
   -- a day is marked in a map of the file where it is in the map handed in
-  marked : (map : List ℕ) (d : ℕ) → (inCover (cal .cover) d && bitAt (yearsOfMap (cal .cover .years) map) (slotOf (cal .cover) d)) ≡ (inCover (cal .cover) d && bitAt map (slotOf (cal .cover) d))
+  marked : (map : List ℕ) (d : ℕ) → (inCover (cal .cover) d && bitAt (yearsOfMap (cal .cover .years) map) (slotOf (cal .cover) d))
+      ≡ (inCover (cal .cover) d && bitAt map (slotOf (cal .cover) d))
   marked map d = go (inCover (cal .cover) d) refl
     where
-      go : (b : Bool) → inCover (cal .cover) d ≡ b → (b && bitAt (yearsOfMap (cal .cover .years) map) (slotOf (cal .cover) d)) ≡ (b && bitAt map (slotOf (cal .cover) d))
+      go : (b : Bool) → inCover (cal .cover) d ≡ b
+          → (b && bitAt (yearsOfMap (cal .cover .years) map) (slotOf (cal .cover) d)) ≡ (b && bitAt map (slotOf (cal .cover) d))
       go true e = kept-bit (cal .cover .years) most map (slotOf (cal .cover) d) (day-slot d e)
       go false e = refl
 
@@ -160,7 +164,8 @@ module _ (cal : Calendar) (most : cal .cover .years ≤ 16) where
   pub within-weeks : everyWeek (withinCover cal) ≡ everyWeek cal
   unfolding everyWeek withinCover
   within-weeks =
-      ap (λ (trades : ℕ → Bool). every (coverEnd (cal .cover) - coverStart (cal .cover) - 6) (λ k. some 7 (λ i. trades (coverStart (cal .cover) + k + i)))) (fun-ext trades-same)
+      ap (λ (trades : ℕ → Bool). every (coverEnd (cal .cover) - coverStart (cal .cover) - 6) (λ k. some 7 (λ i. trades (coverStart (cal .cover) + k + i))))
+      (fun-ext trades-same)
 
 -- what is accepted
 module _ (cal : Calendar) (records : List ℕ) (room : ℕ) (w : Writable cal records room) where
@@ -182,7 +187,8 @@ module _ (cal : Calendar) (records : List ℕ) (room : ℕ) (w : Writable cal re
   right-1 =
       rw (file-length cal records)
       (and-both
-      (and-both (eq-eqb (512 * blocksIn cal records % 512) 0 (omega arith)) (le-leb 1024 (512 * blocksIn cal records) (omega (arith, k .years-some, k .records-some))))
+      (and-both (eq-eqb (512 * blocksIn cal records % 512) 0 (omega arith))
+      (le-leb 1024 (512 * blocksIn cal records) (omega (arith, k .years-some, k .records-some))))
       (le-leb (512 * blocksIn cal records) 65536 (omega (arith, k .blocks-most))))
 
   none-asked : firstNo (loadAsks f) ≡ 0

@@ -71,7 +71,8 @@ file-size size h =
         rw (le-leb 1 (size / 10000) some, le-leb 10000 size l)
 
 -- fields with a larger size are not right
-fields-out : (id group market : List ℕ) (kind size tick : ℕ) (currency : List ℕ) → 655359999 < size → fieldsRight id group market kind size tick currency ≡ false
+fields-out : (id group market : List ℕ) (kind size tick : ℕ) (currency : List ℕ) → 655359999 < size
+    → fieldsRight id group market kind size tick currency ≡ false
 unfolding fieldsRight
 fields-out id group market kind size tick currency h = simp (lt-leb size 655359999 h, and-false)
 
@@ -154,7 +155,8 @@ module _ (p : Product) where
         go : (655359999 < p .size) ⊎ (p .size ≤ 655359999) → recordRight (recordBytes p) ≡ (productRight p && leb 10000 (p .size))
         go (inl h) =
             rw (shares-is, shares-out (p .size) h, fields-out (p .id) (p .group) (p .market) (kindNumber (p .kind)) (p .size) (p .tick) (p .currency) h)
-            (false-twice (fieldsRight (fourBytes (recordBytes p) 0) (fourBytes (recordBytes p) 4) (fourBytes (recordBytes p) 8) (getD (recordBytes p) 12 0) (sizeAt (recordBytes p)) (numberAt (recordBytes p) 15) (threeBytes (recordBytes p) 17)) (zeros (recordBytes p) 22 10))
+            (false-twice (fieldsRight (fourBytes (recordBytes p) 0) (fourBytes (recordBytes p) 4) (fourBytes (recordBytes p) 8) (getD (recordBytes p) 12 0)
+            (sizeAt (recordBytes p)) (numberAt (recordBytes p) 15) (threeBytes (recordBytes p) 17)) (zeros (recordBytes p) 22 10))
         go (inr h) =
             rw (
               id-is ∙ four-is (p .id) id,
@@ -218,4 +220,5 @@ module _ (r : List ℕ) (long : length r ≡ 32) (bytes : areBytes r ≡ true) (
   pub record-again : recordBytes (productFrom r) ≡ r
   unfolding recordBytes fieldBytes productFrom fourBytes threeBytes listed
   record-again =
-      rw (number-back (getD r 12 0) kind-right, shares-again, part-again, high-again 13, low-again 13, high-again 15, low-again 15, high-again 20, low-again 20) (ap₂ _++_ (sym front) (sym back) ∙ take-append-drop 22 r)
+      rw (number-back (getD r 12 0) kind-right, shares-again, part-again, high-again 13, low-again 13, high-again 15, low-again 15, high-again 20, low-again 20)
+      (ap₂ _++_ (sym front) (sym back) ∙ take-append-drop 22 r)

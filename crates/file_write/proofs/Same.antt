@@ -17,7 +17,8 @@ use Rattle.questions.proofs.Bools.{both, and-fst, and-both, lt-or-ge}
 use Rattle.questions.proofs.Asks.{accepted}
 use Rattle.questions.proofs.Search.{every-at}
 use Rattle.calendar.specs.declared.Calendar.{Calendar}
-use Rattle.file_blocks.specs.Blocks.{blockCount, blockOf, numberAt, zeros, weightedSum, checkRight, checksRight, isProducts, yearOfBlock, recordsOfBlock, blockKindRight, headerRight, headersRight, lengthRight}
+use Rattle.file_blocks.specs.Blocks.{blockCount, blockOf, numberAt, zeros, weightedSum, checkRight, checksRight, isProducts, yearOfBlock, recordsOfBlock}
+use Rattle.file_blocks.specs.Blocks.{blockKindRight, headerRight, headersRight, lengthRight}
 use Rattle.file_blocks.proofs.Files.{block-in, block-byte}
 use Rattle.file_records.specs.Records.{recordOf, recordPlaceRight, recordsRight, productsRight}
 use Rattle.file_calendar.specs.Calendars.{listed, dayClean, blockClean, calendarBlocks, calendarOf, yearCount}
@@ -26,7 +27,8 @@ use Rattle.file_calendar.proofs.CalendarBlocks.{Ordered, ordered, calendar-is, 
 use Rattle.file_load.specs.Load.{loadAsks}
 use Rattle.file_load.proofs.LoadAnswers.{AllYes, all-yes, length-most}
 use Rattle.file_load.proofs.Accepting.{count-right}
-use Rattle.file_draft.specs.Drafts.{highByte, lowByte, headerByte, calendarByte, recordsIn, productBlocks, recordsWithin, productByte, blockByte, checked, blockFor, blocksFor, fileOf, recordsWritten, fits, writeAsks}
+use Rattle.file_draft.specs.Drafts.{highByte, lowByte, headerByte, calendarByte, recordsIn, productBlocks, recordsWithin, productByte, blockByte, checked}
+use Rattle.file_draft.specs.Drafts.{blockFor, blocksFor, fileOf, recordsWritten, fits, writeAsks}
 use Rattle.file_draft.proofs.DraftBlocks.{sum-same, blocks-none, blocks-more}
 use Rattle.file_draft.proofs.Headers.{Header}
 use Rattle.file_draft.proofs.DraftQuestions.{asks-none}
@@ -73,7 +75,8 @@ module _ (b : List ℕ) (long : length b ≡ 512) (bytes : (j : ℕ) → getD b 
       at j g = side j g (lt-or-ge j 510)
 
 -- the bytes of a block's header are the ones that are written
-header-again : (b : List ℕ) (kind number index : ℕ) → ((j : ℕ) → getD b j 0 < 256) → Header b kind number index → (j : ℕ) → j < 16 → headerByte kind number index j ≡ getD b j 0
+header-again : (b : List ℕ) (kind number index : ℕ) → ((j : ℕ) → getD b j 0 < 256) → Header b kind number index → (j : ℕ) → j < 16
+    → headerByte kind number index j ≡ getD b j 0
 unfolding headerByte numberAt
 header-again b kind number index bytes h zero l = sym (h .kind-is)
 header-again b kind number index bytes h (suc zero) l = sym (h .version)
@@ -227,7 +230,8 @@ module _ (f : List ℕ) (bytes : areBytes f ≡ true) (a : AllYes f) (full : all
   unused x h l =
       let e : 16 + 32 * (x / 32) + x % 32 ≡ 16 + x = omega arith in
       ap (λ (i : ℕ). getD (blockOf f (y + m)) i 0) (sym e)
-      ∙ unused-record (blockOf f (y + m)) (x / 32) (omega arith) (omega arith) (every-at (recordPlaceRight (blockOf f (y + m))) 15 (x / 32) (places-at (y + m) (omega arith) last-in .0) (omega arith)) (x % 32) (omega arith)
+      ∙ unused-record (blockOf f (y + m)) (x / 32) (omega arith) (omega arith)
+      (every-at (recordPlaceRight (blockOf f (y + m))) 15 (x / 32) (places-at (y + m) (omega arith) last-in .0) (omega arith)) (x % 32) (omega arith)
 
   records-are : recordsIn (recordsOf f) ≡ 15 * m + c
   records-are = omega (arith, records-long f y m c shape)
@@ -283,7 +287,8 @@ module _ (f : List ℕ) (bytes : areBytes f ≡ true) (a : AllYes f) (full : all
 
   block-again : (k : ℕ) → k < n → blockFor cal (recordsOf f) k ≡ blockOf f k
   block-again k h =
-      checked-again (blockOf f k) (long-at k h) (byte-in k h) (check-at k h) (listed 0 510 (blockByte cal (recordsOf f) k)) (listed-length 0 510 (blockByte cal (recordsOf f) k))
+      checked-again (blockOf f k) (long-at k h) (byte-in k h) (check-at k h) (listed 0 510 (blockByte cal (recordsOf f) k))
+      (listed-length 0 510 (blockByte cal (recordsOf f) k))
       (λ j l. listed-at 510 (blockByte cal (recordsOf f) k) j l ∙ byte-again k j h l)
 
   blocks-again : (k : ℕ) → k ≤ n → blocksFor cal (recordsOf f) k ≡ take (512 * k) f

@@ -91,7 +91,8 @@ module _ (f : List ℕ) (y m c : ℕ) (s : Shape f y m c) where
       here : List ℕ
       here = blockRecords (block i)
 
-      go : (j ≡ i) ⊎ (j < i) → (j < i → getD (upto i) (480 * j + x) 0 ≡ getD (block j) (16 + x) 0) → getD (upto i ++ here) (480 * j + x) 0 ≡ getD (block j) (16 + x) 0
+      go : (j ≡ i) ⊎ (j < i) → (j < i → getD (upto i) (480 * j + x) 0 ≡ getD (block j) (16 + x) 0)
+          → getD (upto i ++ here) (480 * j + x) 0 ≡ getD (block j) (16 + x) 0
       go (inl q) ih =
           let p : 480 * j + x ≡ length (upto i) + x = omega (arith, upto-long i (omega arith)) in
           ap (λ (n : ℕ). getD (upto i ++ here) n 0) p
@@ -113,7 +114,8 @@ module _ (f : List ℕ) (y m c : ℕ) (s : Shape f y m c) where
       ap length all-records ∙ length-append (upto m) (blockRecords (block m)) ∙ ap₂ _+_ (upto-long m (le-refl m)) last-long
 
   -- byte 16 + x of product block j, where what the last block does not use is zero
-  pub records-at : ((x : ℕ) → 32 * c ≤ x → x < 480 → getD (block m) (16 + x) 0 ≡ 0) → (j x : ℕ) → j ≤ m → x < 480 → getD (recordsOf f) (480 * j + x) 0 ≡ getD (block j) (16 + x) 0
+  pub records-at : ((x : ℕ) → 32 * c ≤ x → x < 480 → getD (block m) (16 + x) 0 ≡ 0) → (j x : ℕ) → j ≤ m → x < 480
+      → getD (recordsOf f) (480 * j + x) 0 ≡ getD (block j) (16 + x) 0
   records-at unused j x h g = ap (λ (r : List ℕ). getD r (480 * j + x) 0) all-records ∙ go (eq-or-lt-of-le h)
     where
       last : List ℕ

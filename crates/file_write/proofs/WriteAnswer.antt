@@ -19,7 +19,8 @@ module _ (cal : Calendar) (records before : List ℕ) where
   refusal = firstNo (writeAsks cal records (length before))
 
   abbrev Answered : ℕ → ℕ → List ℕ → Type 0
-  Answered r length′ after = (_≡_ {A = Answer ℕ} (record { refusal = r; value = length′ }) (writeCall cal records (length before))) × (after ≡ bufferAfter cal records before)
+  Answered r length′ after = (_≡_ {A = Answer ℕ} (record { refusal = r; value = length′ }) (writeCall cal records (length before)))
+      × (after ≡ bufferAfter cal records before)
 
   -- a refused writing answers the number of the refusal and length 0, and the buffer stays as before
   pub write-refused : (r : ℕ) → r ≡ refusal → (r ≡ 0 → ⊥) → Answered r 0 before
@@ -29,11 +30,15 @@ module _ (cal : Calendar) (records before : List ℕ) where
       (sym (refused (writeAsks cal records (length before)) 0 (length (fileOf cal records)) r (sym e)), rw (sym e, eqb·suc-zero r))
 
   -- an accepted writing answers the length of all blocks, and the buffer has them, then what stood there before
-  pub write-accepted : (blocks : ℕ) (after : List ℕ) → refusal ≡ 0 → blocks ≡ blocksIn cal records → after ≡ blocksFor cal records blocks ++ drop (512 * blocks) before → Answered 0 (512 * blocks) after
+  pub write-accepted : (blocks : ℕ) (after : List ℕ) → refusal ≡ 0 → blocks ≡ blocksIn cal records
+      → after ≡ blocksFor cal records blocks ++ drop (512 * blocks) before → Answered 0 (512 * blocks) after
   unfolding writeCall bufferAfter fileOf
   write-accepted blocks after e b p =
-      let l : 512 * blocks ≡ length (fileOf cal records) = ap (λ (n : ℕ). 512 * n) b ∙ sym (file-length cal records) in
-      (sym (accepted (writeAsks cal records (length before)) 0 (length (fileOf cal records)) e ∙ ap (λ (n : ℕ). record { refusal = 0; value = n }) (sym l)), p ∙ rw (e, ← l, b))
+      let l : 512 * blocks ≡ length (fileOf cal records) = ap (λ (n : ℕ). 512 * n) b ∙ sym (file-length cal records) in (
+        sym (accepted (writeAsks cal records (length before)) 0 (length (fileOf cal records)) e ∙ ap (λ (n : ℕ). record { refusal = 0; value = n }) (sym l)),
+        p ∙
+            rw (e, ← l, b),
+      )
 
   -- what writing the blocks asks
   pub room-there : (blocks : ℕ) → refusal ≡ 0 → blocks ≡ blocksIn cal records

@@ -98,7 +98,16 @@ pub after-opened : (p : Product) (b : Book) → Opened p (b .calendar) (b .date)
     → Opened p (calendarAfter (b .calendar) c) (dateAfter (b .date) c)
 after-opened p b o (roll date) e =
     let y = rolled (p .kind) (p .group) b date e in
-    record { product = o .product; valid = o .valid; cleaned = o .cleaned; weeks = o .weeks; covered = y .covered; week = week-later (p .kind) (b .calendar .cover) (b .date) date (y .later) (o .week); full = y .full }
+    record {
+      product = o .product;
+      valid = o .valid;
+      cleaned = o .cleaned;
+      weeks = o .weeks;
+      covered = y .covered;
+      week =
+          week-later (p .kind) (b .calendar .cover) (b .date) date (y .later) (o .week);
+      full = y .full;
+    }
 after-opened p b o (close day) e =
     let y = closed (p .kind) (p .group) b day e in
     record {
@@ -119,12 +128,14 @@ after-opened p b o (reopen day) e =
       covered = rw (reopen-cover (b .calendar) day) (o .covered);
       week = rw (reopen-cover (b .calendar) day) (o .week);
       full = ap (λ (r : Rule). complete r (reopenDay (b .calendar) day) (b .date)) (rule-stays (b .calendar) (p .kind) (p .group) (reopen day))
-          ∙ still-complete (ruleOf (b .calendar) (p .kind) (p .group)) (b .calendar) (reopenDay (b .calendar) day) (b .date) (stays (p .kind) (p .group) b day e) (o .full);
+          ∙ still-complete (ruleOf (b .calendar) (p .kind) (p .group)) (b .calendar) (reopenDay (b .calendar) day) (b .date)
+          (stays (p .kind) (p .group) b day e) (o .full);
     }
 after-opened p b o (measure u v price) e = o
 
 -- so would the product with the size that an accepted measure gives
-pub size-opened : (p : Product) (b : Book) (cal : Calendar) (date : ℕ) → Opened p cal date → (u v price : ℕ) → Accepted (p .kind) (p .group) b (measure u v price)
+pub size-opened : (p : Product) (b : Book) (cal : Calendar) (date : ℕ) → Opened p cal date → (u v price : ℕ)
+    → Accepted (p .kind) (p .group) b (measure u v price)
     → Opened (withSize p (newSize (b .size) u v)) cal date
 size-opened p b cal date o u v price e =
     record {
@@ -139,7 +150,8 @@ size-opened p b cal date o u v price e =
 
 -- an accepted roll or close brings back no key whose day has passed, 27 keeps a reopening from it, and a measure moves no day: the front does not go back
 pub forward : (kind : Kind) (group : List ℕ) (b : Book) → Lawful (ruleOf (b .calendar) kind group) → (c : Call) → Accepted kind group b c
-    → front (ruleOf (b .calendar) kind group) (b .calendar) (b .date) ≤ front (ruleOf (b .calendar) kind group) (calendarAfter (b .calendar) c) (dateAfter (b .date) c)
+    → front (ruleOf (b .calendar) kind group) (b .calendar) (b .date) ≤ front (ruleOf (b .calendar) kind group) (calendarAfter (b .calendar) c)
+    (dateAfter (b .date) c)
 forward kind group b w (roll date) e =
     let r = ruleOf (b .calendar) kind group in
     front-later r w (b .calendar) (b .calendar) (b .date) date

@@ -22,7 +22,8 @@ use Rattle.listing.proofs.OfKinds.{rule-lawful, rule-begins}
 use Rattle.table_numbering.specs.Numbering.{isListed, missing}
 use Rattle.amounts.specs.Prices.{newSize}
 use Rattle.table_measures.specs.Measures.{withSize}
-use Rattle.history.specs.Book.{Call, roll, close, reopen, measure, Book, calendarAfter, dateAfter, bookOpened, bookAsks, bookMoved, bookResized, bookAccepted, bookAfter, bookRun}
+use Rattle.history.specs.Book.{Call, roll, close, reopen, measure, Book, calendarAfter, dateAfter, bookOpened, bookAsks, bookMoved, bookResized}
+use Rattle.history.specs.Book.{bookAccepted, bookAfter, bookRun}
 use Rattle.history.proofs.ListingNumbers.{one-append, listed-one}
 use Rattle.history.proofs.Gone.{once, once-append, once-months}
 use Rattle.history.proofs.Moves.{fresh, Numbered, numbersNext, numbersFirst, Moved, moves, first-length, first-numbered}
@@ -78,18 +79,27 @@ module _ (p : Product) where
   lawful b = rule-lawful (b .calendar .cover) (p .kind) (p .group)
 
   -- the opened book
-  pub starts : (cal : Calendar) (date : ℕ) → Opened p cal date → Inv p (bookOpened (p .kind) (p .group) (p .size) cal date) (numbersFirst (ruleOf cal (p .kind) (p .group)) cal date)
+  pub starts : (cal : Calendar) (date : ℕ) → Opened p cal date
+      → Inv p (bookOpened (p .kind) (p .group) (p .size) cal date) (numbersFirst (ruleOf cal (p .kind) (p .group)) cal date)
   unfolding bookOpened oneOf
   starts cal date o =
       let r = ruleOf cal (p .kind) (p .group) in
       let w = rule-lawful (cal .cover) (p .kind) (p .group) in
       let b = rule-begins (cal .cover) (p .kind) (p .group) cal date (o .covered) in
       let s : r .first ≤ front r cal date = omega (arith, b) in
-      record { opened = o; numbered = first-numbered r w cal date s; total = omega (arith, first-length r w cal date s); past = λ k e. clash e refl; apart = refl }
+      record {
+        opened = o;
+        numbered = first-numbered r w cal date s;
+        total = omega (arith, first-length r w cal date s);
+        past = λ k e. clash e refl;
+        apart =
+            refl;
+      }
 
   module _ (b : Book) (nu : ℕ → ℕ) (I : Inv p b nu) where
     -- a listing of a later front replaces the book's
-    module _ (cal : Calendar) (date : ℕ) (o : Opened (productIn p b) cal date) (same : ruleOf cal (p .kind) (p .group) ≡ ruleIn p b) (later : frontIn p b ≤ front (ruleIn p b) cal date) where
+    module _ (cal : Calendar) (date : ℕ) (o : Opened (productIn p b) cal date) (same : ruleOf cal (p .kind) (p .group) ≡ ruleIn p b)
+        (later : frontIn p b ≤ front (ruleIn p b) cal date) where
       abbrev moved-book : Book
       moved-book = bookMoved (p .kind) (p .group) b cal date
 
@@ -139,7 +149,8 @@ module _ (p : Product) where
       moved-apart : once (moved-book .gone) ≡ true
       unfolding bookMoved
       moved-apart =
-          rw same (once-append (b .gone) (map (λ m. m .key) left) (I .apart) (once-months left (moved-on .left .rising)) (λ k e t. omega (arith, I .past k e, left-one k t .0)))
+          rw same (once-append (b .gone) (map (λ m. m .key) left) (I .apart) (once-months left (moved-on .left .rising))
+          (λ k e t. omega (arith, I .past k e, left-one k t .0)))
 
       book-moved : Later p b nu moved-book
       unfolding bookMoved
@@ -157,7 +168,8 @@ module _ (p : Product) where
     still = record { nu′ = nu; inv = I; rule = refl; grows = λ k h. refl; on = omega arith; stays = λ k h. h }
 
     -- a call's calendar and date, where the fresh listing replaces the old
-    call-moved : (c : Call) → Accepted (p .kind) (p .group) b c → Later p b nu (bookMoved (p .kind) (p .group) b (calendarAfter (b .calendar) c) (dateAfter (b .date) c))
+    call-moved : (c : Call) → Accepted (p .kind) (p .group) b c
+        → Later p b nu (bookMoved (p .kind) (p .group) b (calendarAfter (b .calendar) c) (dateAfter (b .date) c))
     call-moved c y =
         book-moved (calendarAfter (b .calendar) c) (dateAfter (b .date) c) (after-opened (productIn p b) b (I .opened) c y)
         (rule-stays (b .calendar) (p .kind) (p .group) c) (forward (p .kind) (p .group) b (lawful b) c y)
@@ -216,7 +228,8 @@ module _ (p : Product) where
       (run-later cs (bookAfter (p .kind) (p .group) b c) (s .nu′) (s .inv))
 
   -- two lists of calls, one after the other, leave what the second leaves after the first
-  pub run-append : (cs ds : List Call) (b : Book) → bookRun (p .kind) (p .group) b (cs ++ ds) ≡ bookRun (p .kind) (p .group) (bookRun (p .kind) (p .group) b cs) ds
+  pub run-append : (cs ds : List Call) (b : Book)
+      → bookRun (p .kind) (p .group) b (cs ++ ds) ≡ bookRun (p .kind) (p .group) (bookRun (p .kind) (p .group) b cs) ds
   unfolding bookRun
   run-append [] ds b = refl
   run-append (c ∷ cs) ds b = run-append cs ds (bookAfter (p .kind) (p .group) b c)

@@ -101,8 +101,10 @@ module _ (day : ℕ) where
   call-zero : (t : Table) (c : Call) → Zero (t .calendar) → Zero (tableCall t c .table .calendar)
   unfolding rollCall closeCall reopenCall moved
   call-zero t (roll date) z = answered-zero t (rollAsks t date) (moved t (t .calendar) date) z z
-  call-zero t (close d) z = answered-zero t (closeAsks t d) (moved t (closeDay (t .calendar) d) (t .date)) (after-zero (t .calendar) (close d) (close-cover (t .calendar) d) z) z
-  call-zero t (reopen d) z = answered-zero t (reopenAsks t d) (moved t (reopenDay (t .calendar) d) (t .date)) (after-zero (t .calendar) (reopen d) (reopen-cover (t .calendar) d) z) z
+  call-zero t (close d) z = answered-zero t (closeAsks t d) (moved t (closeDay (t .calendar) d) (t .date))
+      (after-zero (t .calendar) (close d) (close-cover (t .calendar) d) z) z
+  call-zero t (reopen d) z = answered-zero t (reopenAsks t d) (moved t (reopenDay (t .calendar) d) (t .date))
+      (after-zero (t .calendar) (reopen d) (reopen-cover (t .calendar) d) z) z
   call-zero t (measure p q price) z = measured-zero t p q price z
 
   run-zero : (cs : List Call) (t : Table) → Zero (t .calendar) → Zero (tableRun t cs .calendar)

@@ -42,7 +42,12 @@ record Ever (p : Product) (b : Book) (nu : ℕ → ℕ) (m : ℕ) : Type 0 where
 
 -- it is one later
 ever-after : (p : Product) (b : Book) (nu : ℕ → ℕ) (b′ : Book) (z : Later p b nu b′) (m : ℕ) → Ever p b nu m → Ever p b′ (z .nu′) m
-ever-after p b nu b′ z m v = record { number = omega (arith, v .number, z .grows m (v .number)); below = rw (z .rule) (v .below); wide = rw (z .rule) (v .wide) }
+ever-after p b nu b′ z m v = record {
+  number = omega (arith, v .number, z .grows m (v .number));
+  below = rw (z .rule) (v .below);
+  wide =
+      rw (z .rule) (v .wide);
+}
 
 module _ (p : Product) (b : Book) (nu : ℕ → ℕ) (I : Inv p b nu) where
   abbrev w : Lawful (ruleIn p b)
@@ -141,7 +146,8 @@ module _ (p : Product) (cal : Calendar) (date : ℕ) (o : Opened p cal date) whe
   date-at cs = ap (λ (t : Table). t .date) (table-is cs) ∙ date-run p cs start ∙ ap (dateOfCalls date cs) (sym (replies-are cs))
 
   fresh-at : (cs : List Call) → unnumbered (listedIn (table cs))
-      ≡ freshOf (calendarOfCalls cal cs (tableReplies (openedTable p cal date) cs)) (p .kind) (p .group) (dateOfCalls date cs (tableReplies (openedTable p cal date) cs))
+      ≡ freshOf (calendarOfCalls cal cs (tableReplies (openedTable p cal date) cs)) (p .kind) (p .group)
+      (dateOfCalls date cs (tableReplies (openedTable p cal date) cs))
   fresh-at cs =
       rw (listed-are cs, ← calendar-at cs, ← date-at cs, table-is cs, at cs .inv .numbered .listing)
       (unnumbered-is (ruleIn p (book cs)) (book cs .calendar) (at cs .nu′) (freshKeys (ruleIn p (book cs)) (book cs .calendar) (book cs .date)))
@@ -161,7 +167,8 @@ module _ (p : Product) (cal : Calendar) (date : ℕ) (o : Opened p cal date) whe
       (before-front p (book (cs ++ ds)) (after cs ds .nu′) (after cs ds .inv) m (omega (arith, at cs .inv .past m e, after cs ds .on)))
 
   -- a month that was listed and is not any more has left
-  has-left : (cs ds : List Call) (m : ℕ) → isListed (listedIn (table cs)) m ≡ true → isListed (listedIn (table (cs ++ ds))) m ≡ false → oneOf (book (cs ++ ds) .gone) m ≡ true
+  has-left : (cs ds : List Call) (m : ℕ) → isListed (listedIn (table cs)) m ≡ true → isListed (listedIn (table (cs ++ ds))) m ≡ false
+      → oneOf (book (cs ++ ds) .gone) m ≡ true
   has-left cs ds m e off =
       let h : known (book cs) m ≡ true = or-left (oneOf (book cs .gone) m) (rw (listed-are cs) at e) in
       let l : isListed (book (cs ++ ds) .maturities) m ≡ false = rw (listed-are (cs ++ ds)) at off in
@@ -178,7 +185,8 @@ module _ (p : Product) (cal : Calendar) (date : ℕ) (o : Opened p cal date) whe
   next-table cs c = rw (table-is cs) (ap (λ (o : Called). o .table) (turn p (book cs) (at cs .nu′) (at cs .inv) c))
 
   taken-off : (cs : List Call) (c : Call) (m : ℕ) → isListed (listedIn (table cs)) m ≡ true
-      → (isListed (listedIn (tableCall (table cs) c .table)) m ≡ false) ↔ (lastTradingDay (tableCall (table cs) c .table .calendar) (p .kind) (p .group) m < tableCall (table cs) c .table .date)
+      → (isListed (listedIn (tableCall (table cs) c .table)) m ≡ false) ↔
+      (lastTradingDay (tableCall (table cs) c .table .calendar) (p .kind) (p .group) m < tableCall (table cs) c .table .date)
   taken-off cs c m e =
       let b′ : Book = bookAfter (p .kind) (p .group) (book cs) c in
       let z : Later p (book cs) (at cs .nu′) b′ = turn-later p (book cs) (at cs .nu′) (at cs .inv) c in
@@ -214,7 +222,8 @@ module _ (p : Product) (cal : Calendar) (date : ℕ) (o : Opened p cal date) whe
     calendar-is = calendar-at cs;
     date-is = date-at cs;
     fresh = fresh-at cs;
-    one-month = λ m m′ n e d. after cs ds .inv .numbered .numbers .inj m m′ (still-had cs ds m n e ∙ sym (later-had cs ds m′ n d)) (omega (arith, still-had cs ds m n e));
+    one-month = λ m m′ n e d. after cs ds .inv .numbered .numbers .inj m m′ (still-had cs ds m n e ∙ sym (later-had cs ds m′ n d))
+        (omega (arith, still-had cs ds m n e));
     one-number = λ m n n′ e d. omega (arith, still-had cs ds m n e, later-had cs ds m n′ d);
     numbered = λ m e. rw (listed-are cs) (has-number p (book cs) (at cs .nu′) (at cs .inv) m (rw (listed-are cs) at e));
     for-good = for-good cs ds;

@@ -47,7 +47,8 @@ pub once-append : (xs ys : List ℕ) → once xs ≡ true → once ys ≡ true �
 unfolding oneOf
 once-append [] ys o q h = q
 once-append (x ∷ xs) ys o q h =
-    and-both {a = not (oneOf (xs ++ ys) x)} (rw (one-append xs ys x, not-true (oneOf xs x) (s .0), is-false (oneOf ys x) (h x (or-left (oneOf xs x) (eq-eqb x x refl)))))
+    and-both {a = not (oneOf (xs ++ ys) x)}
+    (rw (one-append xs ys x, not-true (oneOf xs x) (s .0), is-false (oneOf ys x) (h x (or-left (oneOf xs x) (eq-eqb x x refl)))))
     (once-append xs ys (s .1) q (λ k t. h k (or-right (eqb k x) t)))
   where
     s : (not (oneOf xs x) ≡ true) × (once xs ≡ true)
@@ -56,4 +57,5 @@ once-append (x ∷ xs) ys o q h =
 -- the months of a rising list
 pub once-months : (ms : List Maturity) → Rising ms → once (map (λ m. m .key) ms) ≡ true
 once-months [] rises = refl
-once-months (m ∷ ms) rises = and-both {a = not (oneOf (map (λ m. m .key) ms) (m .key))} (rw (← listed-one ms (m .key), rising-once m ms rises)) (once-months ms (rising-tail m ms rises))
+once-months (m ∷ ms) rises = and-both {a = not (oneOf (map (λ m. m .key) ms) (m .key))} (rw (← listed-one ms (m .key), rising-once m ms rises))
+    (once-months ms (rising-tail m ms rises))

@@ -26,7 +26,8 @@ unfolding missing isListed
 missing-listed [] others k e = clash e refl
 missing-listed (m ∷ ms) others k e = go (isListed others (m .key)) (λ t. or-right (eqb (m .key) k) (missing-listed ms others k t)) e
   where
-    go : (b : Bool) → (isListed (missing ms others) k ≡ true → isListed (m ∷ ms) k ≡ true) → isListed (cond b (missing ms others) (m ∷ missing ms others)) k ≡ true → isListed (m ∷ ms) k ≡ true
+    go : (b : Bool) → (isListed (missing ms others) k ≡ true → isListed (m ∷ ms) k ≡ true)
+        → isListed (cond b (missing ms others) (m ∷ missing ms others)) k ≡ true → isListed (m ∷ ms) k ≡ true
     go true ih t = ih t
     go false ih t = side (or-either (eqb (m .key) k) (isListed (missing ms others) k) t)
       where
@@ -38,7 +39,8 @@ module _ (kind : Kind) (group : List ℕ) where
   -- a month that has left after a call was listed before it, or had left
   moved-left : (b : Book) (cal : Calendar) (date k : ℕ) → oneOf (bookMoved kind group b cal date .gone) k ≡ true → known b k ≡ true
   unfolding bookMoved
-  moved-left b cal date k e = side (or-either (oneOf (b .gone) k) (oneOf (map (λ m. m .key) left) k) (rw (one-append (b .gone) (map (λ m. m .key) left) k) at e))
+  moved-left b cal date k e = side (or-either (oneOf (b .gone) k) (oneOf (map (λ m. m .key) left) k)
+      (rw (one-append (b .gone) (map (λ m. m .key) left) k) at e))
     where
       left : List Maturity
       left = missing (b .maturities) (freshOf cal kind group date)
@@ -88,10 +90,12 @@ module _ (kind : Kind) (group : List ℕ) where
       go (inr s) = inr (record { beginning = c ∷ s .beginning; rest = s .rest; whole = ap (_∷_ c) (s .whole); listed = s .listed })
 
   -- none has left at the opening, so it was listed in the list
-  pub left-listed : (size : ℕ) (cal : Calendar) (date : ℕ) (cs : List Call) (k : ℕ) → oneOf (bookRun kind group (bookOpened kind group size cal date) cs .gone) k ≡ true
+  pub left-listed : (size : ℕ) (cal : Calendar) (date : ℕ) (cs : List Call) (k : ℕ)
+      → oneOf (bookRun kind group (bookOpened kind group size cal date) cs .gone) k ≡ true
       → BookListed (bookOpened kind group size cal date) cs k
   left-listed size cal date cs k e = side (run-left cs (bookOpened kind group size cal date) k e)
     where
-      side : (oneOf (bookOpened kind group size cal date .gone) k ≡ true) ⊎ BookListed (bookOpened kind group size cal date) cs k → BookListed (bookOpened kind group size cal date) cs k
+      side : (oneOf (bookOpened kind group size cal date .gone) k ≡ true) ⊎ BookListed (bookOpened kind group size cal date) cs k
+          → BookListed (bookOpened kind group size cal date) cs k
       side (inl t) = clash t (none-left kind group size cal date k)
       side (inr s) = s

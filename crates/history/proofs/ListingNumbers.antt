@@ -107,7 +107,8 @@ module _ (p p′ : ℕ → Bool) (nu : ℕ → ℕ) (dy : ℕ → LastDay) (blan
       each : (k : ℕ) → only (map (mat dy blank) ks) old k ≡ but p′ p k
       each k = rw (fresh k, listed k)
 
-      go : (b : Bool) → p k ≡ b → cond b (numberOf old k) (given + countFrom (but p′ p) (suc k) 0) ≡ cond (not b) (suc (given + countFrom (but p′ p) k 0)) (nu k)
+      go : (b : Bool) → p k ≡ b → cond b (numberOf old k) (given + countFrom (but p′ p) (suc k) 0)
+          ≡ cond (not b) (suc (given + countFrom (but p′ p) k 0)) (nu k)
       go true e = kept k e
       go false e =
           let n : but p′ p k ≡ true = rw (t, e) in
@@ -155,7 +156,12 @@ module _ (p p′ : ℕ → Bool) (n given : ℕ) (nu : ℕ → ℕ) (I : Numbers
 
   -- the numbers after a new listing are distinct, and none passes the count given then
   pub next-numbers : Numbers p′ (given + countFrom new n 0) (next new given nu)
-  next-numbers = record { pos = λ k e. positive k e (next-is k); small = λ k. within-given k (next-is k); inj = λ x y e l. apart x y e l (next-is x) (next-is y) }
+  next-numbers = record {
+    pos = λ k e. positive k e (next-is k);
+    small = λ k. within-given k (next-is k);
+    inj =
+        λ x y e l. apart x y e l (next-is x) (next-is y);
+  }
     where
       positive : (k : ℕ) → p′ k ≡ true → Next k → 1 ≤ next new given nu k
       positive k e (fresh a z q) = omega arith

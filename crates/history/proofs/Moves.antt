@@ -39,7 +39,8 @@ numbersNext r cal date given nu cal′ date′ = next (but (now r cal′ date′
 abbrev pub numbersFirst : Rule → Calendar → ℕ → ℕ → ℕ
 numbersFirst r cal date = next (but (now r cal date) (λ k. false)) 0 (λ k. 0)
 
--- the maturities are the fresh listing with the numbers of nu; a key that ever had a number and is not before the front is listed; given − listed is at least 0 and at most the keys before the front
+-- the maturities are the fresh listing with the numbers of nu; a key that ever had a number and is not before the front is listed; given − listed is
+-- at least 0 and at most the keys before the front
 pub record Numbered (r : Rule) (cal : Calendar) (date : ℕ) (ms : List Maturity) (given : ℕ) (nu : ℕ → ℕ) : Type 0 where
   -- the maturities are the fresh listing with these numbers
   pub listing : ms ≡ map (maturity r cal nu) (freshKeys r cal date)
@@ -54,14 +55,17 @@ pub record Numbered (r : Rule) (cal : Calendar) (date : ℕ) (ms : List Maturity
   -- the count given is at most the number of maturities and of keys before the front
   pub few : given ≤ length ms + keysBefore r cal date
 
--- what holds once the listing of another calendar and date replaces it: it is numbered again, numbers once given stay, entered + old = left + new, its months are the fresh ones, and those that left lie from the old front on, before the new
+-- what holds once the listing of another calendar and date replaces it: it is numbered again, numbers once given stay, entered + old = left + new,
+-- its months are the fresh ones, and those that left lie from the old front on, before the new
 pub record Moved (r : Rule) (cal : Calendar) (date : ℕ) (ms : List Maturity) (given : ℕ) (nu : ℕ → ℕ) (cal′ : Calendar) (date′ : ℕ) : Type 0 where
   -- the listing that replaces the old one is numbered
-  pub numbered : Numbered r cal′ date′ (renumbered ms given (fresh r cal′ date′)) (given + length (missing (fresh r cal′ date′) ms)) (numbersNext r cal date given nu cal′ date′)
+  pub numbered : Numbered r cal′ date′ (renumbered ms given (fresh r cal′ date′)) (given + length (missing (fresh r cal′ date′) ms))
+      (numbersNext r cal date given nu cal′ date′)
   -- a number once given stays the same after the move
   pub grows : (k : ℕ) → 1 ≤ nu k → numbersNext r cal date given nu cal′ date′ k ≡ nu k
   -- the months that entered and the old listing are as many as those that left and the new listing
-  pub balance : length (missing (fresh r cal′ date′) ms) + length ms ≡ length (missing ms (fresh r cal′ date′)) + length (renumbered ms given (fresh r cal′ date′))
+  pub balance : length (missing (fresh r cal′ date′) ms) + length ms
+      ≡ length (missing ms (fresh r cal′ date′)) + length (renumbered ms given (fresh r cal′ date′))
   -- the months of the new listing are those of the fresh one
   pub listed : (k : ℕ) → isListed (renumbered ms given (fresh r cal′ date′)) k ≡ isListed (fresh r cal′ date′) k
   -- the months that left are those of the old listing that the fresh one has not, by rising month
@@ -109,7 +113,8 @@ module _ (r : Rule) (w : Lawful r) where
           I .few,
           count-is,
           count-window (now r cal date) (front r cal date) (r .beyond) (r .beyond) m (omega arith)
-              (λ k l. before-none (r .beyond) (r .places) (front r cal date) k l) (λ k l. is-false (now r cal date k) (λ t. absurd (omega (arith, below cal date k t)))),
+              (λ k l. before-none (r .beyond) (r .places) (front r cal date) k l)
+              (λ k l. is-false (now r cal date k) (λ t. absurd (omega (arith, below cal date k t)))),
           count-less (now r cal date) (r .counted) (λ k e. w .counts k (key-of r w cal date k e .wide)) (r .beyond - front r cal date) (front r cal date),
           ap (λ (x : ℕ). countFrom (r .counted) x (r .first)) i,
           count-add (r .counted) (front r cal date - r .first) (r .beyond - front r cal date) (r .first),
@@ -183,7 +188,8 @@ module _ (r : Rule) (w : Lawful r) where
           let t : but p p′ k ≡ true = sym (left-is k) ∙ sym (left-law .holds k) ∙ e in
           (key-of r w cal date k (both (p k) (not (p′ k)) t .0) .from, leaves k t)
 
-      balance : length (missing (fresh r cal′ date′) ms) + length ms ≡ length (missing ms (fresh r cal′ date′)) + length (renumbered ms given (fresh r cal′ date′))
+      balance : length (missing (fresh r cal′ date′) ms) + length ms
+          ≡ length (missing ms (fresh r cal′ date′)) + length (renumbered ms given (fresh r cal′ date′))
       balance =
           omega (
             arith,
@@ -275,7 +281,8 @@ module _ (r : Rule) (w : Lawful r) where
     -- the first listing has as many maturities as the fresh one
     pub first-length : length (renumbered [] 0 (fresh r cal date)) ≡ length (fresh r cal date)
     first-length =
-        ap length first-listing ∙ length-map (freshKeys r cal date) (maturity r cal first-numbers) ∙ sym (length-map (freshKeys r cal date) (maturity r cal (λ k. 0)))
+        ap length first-listing ∙ length-map (freshKeys r cal date) (maturity r cal first-numbers) ∙
+        sym (length-map (freshKeys r cal date) (maturity r cal (λ k. 0)))
 
     -- the first listing is numbered, with as many numbers given as it has maturities
     pub first-numbered : Numbered r cal date (renumbered [] 0 (fresh r cal date)) (length (fresh r cal date)) first-numbers

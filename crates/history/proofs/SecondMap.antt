@@ -32,7 +32,8 @@ exchange-after cal (close day) s t = rw (close-exchange cal day) at t
 exchange-after cal (reopen day) s t = exchange-bits cal day s t
 exchange-after cal (measure p q price) s t = t
 
-exchange-of-calls : (cal : Calendar) (cs : List Call) (rs : List Reply) (s : ℕ) → bitAt (calendarOfCalls cal cs rs .exchange) s ≡ true → bitAt (cal .exchange) s ≡ true
+exchange-of-calls : (cal : Calendar) (cs : List Call) (rs : List Reply) (s : ℕ) → bitAt (calendarOfCalls cal cs rs .exchange) s ≡ true
+    → bitAt (cal .exchange) s ≡ true
 unfolding calendarOfCalls
 exchange-of-calls cal [] rs s t = t
 exchange-of-calls cal (c ∷ cs) [] s t = t
@@ -45,7 +46,8 @@ exchange-of-calls cal (c ∷ cs) (r ∷ rs) s t = go (eqb (r .refusal) 0) (excha
 module _ (p : Product) (cal : Calendar) (date : ℕ) (cs ds : List Call) (h : Demand3 p cal date cs ds) where
   -- no day comes into the table's second map
   pub exchange-stays : (s : ℕ) → bitAt (tableRun (openedTable p cal date) cs .calendar .exchange) s ≡ true → bitAt (cal .exchange) s ≡ true
-  exchange-stays s t = exchange-of-calls cal cs (tableReplies (openedTable p cal date) cs) s (ap (λ (c : Calendar). bitAt (c .exchange) s) (sym (h .calendar-is)) ∙ t)
+  exchange-stays s t = exchange-of-calls cal cs (tableReplies (openedTable p cal date) cs) s
+      (ap (λ (c : Calendar). bitAt (c .exchange) s) (sym (h .calendar-is)) ∙ t)
 
 -- an old file: every table opened from it, after any list of calls
 module _ (f id : List ℕ) (date : ℕ) where

@@ -123,12 +123,14 @@ module _ (t : Table) (s : Sound t) where
   same-in i h =
       let l : i < 15 = omega (arith, places-most (t .product .kind)) in
       let e : sameMaturity (in-place i) (getD (places15 (fresh r (t .calendar) (t .date))) i unused) ≡ true = both _ _ (every-at _ 15 i (s .lists) l) .0 in
-      let (a, f) = both (eqb (in-place i .key) (key i)) (eqb (in-place i .day) (last i .day) && eqb (in-place i .back) (last i .back)) (rw (fresh-in i h) at e) in
+      let (a, f) = both (eqb (in-place i .key) (key i)) (eqb (in-place i .day) (last i .day) && eqb (in-place i .back) (last i .back))
+      (rw (fresh-in i h) at e) in
       let (b, c) = both (eqb (in-place i .day) (last i .day)) (eqb (in-place i .back) (last i .back)) f in
       (eqb-true (in-place i .key) (key i) a, eqb-true (in-place i .day) (last i .day) b, eqb-true (in-place i .back) (last i .back) c)
 
   -- so they are those that are worked out for the month
-  last-in : (i : ℕ) → i < n → _≡_ {A = LastDay} (record { day = in-place i .day; back = in-place i .back }) (workedOut (t .calendar) (t .product .kind) (t .product .group) (in-place i .key))
+  last-in : (i : ℕ) → i < n → _≡_ {A = LastDay} (record { day = in-place i .day; back = in-place i .back })
+      (workedOut (t .calendar) (t .product .kind) (t .product .group) (in-place i .key))
   unfolding coverRule workedOut lastTradingDay
   last-in i h = rw (same-in i h .0, same-in i h .1, same-in i h .2)
 
@@ -137,7 +139,8 @@ module _ (t : Table) (s : Sound t) where
   back-in i h =
       let k = key-at r w (t .calendar) (t .date) i (omega (arith, as-many)) in
       let b = rule-begins (t .calendar .cover) (t .product .kind) (t .product .group) (t .calendar) (t .date) (s .opened .covered) in
-      let d = rule-deep (t .calendar .cover) (t .product .kind) (t .product .group) (s .opened .valid) (t .date) (s .opened .covered) (s .opened .week) (key i) (omega (arith, k .from, b)) (k .below) in
+      let d = rule-deep (t .calendar .cover) (t .product .kind) (t .product .group) (s .opened .valid) (t .date) (s .opened .covered) (s .opened .week) (key i)
+      (omega (arith, k .from, b)) (k .below) in
       omega (arith, same-in i h .2, six-back (t .calendar) (t .product .kind) (t .product .group) (s .opened .weeks) (key i) (d .0) (d .1))
 
   -- numbers from 1 to the count given, distinct
@@ -196,10 +199,12 @@ module _ (t : Table) (s : Sound t) where
       (listed-long ∙ sym (length-map (freshKeys r (t .calendar) (t .date)) (maturity r (t .calendar) (numberOf (listedIn t))) ∙ as-many))
       (λ i h. each i (omega (arith, listed-long)))
     where
-      each : (i : ℕ) → i < n → getD (listedIn t) i unused ≡ getD (map (maturity r (t .calendar) (numberOf (listedIn t))) (freshKeys r (t .calendar) (t .date))) i unused
+      each : (i : ℕ) → i < n → getD (listedIn t) i unused
+          ≡ getD (map (maturity r (t .calendar) (numberOf (listedIn t))) (freshKeys r (t .calendar) (t .date))) i unused
       each i h =
           listed-at i h
-          ∙ same-maturity (in-place i) (maturity r (t .calendar) (numberOf (listedIn t)) (key i)) (same-in i h .0) (same-in i h .1) (same-in i h .2) (sym (number-key i h))
+          ∙ same-maturity (in-place i) (maturity r (t .calendar) (numberOf (listedIn t)) (key i)) (same-in i h .0) (same-in i h .1) (same-in i h .2)
+          (sym (number-key i h))
           ∙ sym (at-map (maturity r (t .calendar) (numberOf (listedIn t))) unused (freshKeys r (t .calendar) (t .date)) i (omega (arith, as-many)))
 
   -- the place of a listed month has its number
@@ -267,9 +272,11 @@ module _ (t : Table) (s : Sound t) where
   moved-sound c e =
       let cal = calendarAfter (t .calendar) c in
       let date = dateAfter (t .date) c in
-      is-sound (t .product) cal date _ _ (numbersNext r (t .calendar) (t .date) (t .given) (numberOf (listedIn t)) cal date) (after-opened (t .product) beside (s .opened) c e)
+      is-sound (t .product) cal date _ _ (numbersNext r (t .calendar) (t .date) (t .given) (numberOf (listedIn t)) cal date)
+      (after-opened (t .product) beside (s .opened) c e)
       (rw (rule-stays (t .calendar) (t .product .kind) (t .product .group) c)
-      (moves r w (t .calendar) (t .date) (listedIn t) (t .given) (numberOf (listedIn t)) numbered cal date (forward (t .product .kind) (t .product .group) beside w c e) .numbered))
+      (moves r w (t .calendar) (t .date) (listedIn t) (t .given) (numberOf (listedIn t)) numbered cal date
+      (forward (t .product .kind) (t .product .group) beside w c e) .numbered))
 
   -- an accepted call gives a sound table
   accepted-sound : sound t ≡ true → (c : Call) → refusal c ≡ 0 → sound (acceptedCall t c .table) ≡ true
@@ -305,11 +312,17 @@ module _ (t : Table) (e : sound t ≡ true) where
 
   -- 'So the listing number of a month never passes 192'
   pub number-bound : isWeekly (t .product .kind) ≡ false → (m : ℕ) → numberOf (listedIn t) m ≤ 192
-  number-bound q m = omega (arith, sound-numbered .numbers .small m, given-bound, months-most (t .calendar .cover) (t .product .kind) (sounds t e .opened .valid) q)
+  number-bound q m = omega (
+    arith,
+    sound-numbered .numbers .small m,
+    given-bound,
+    months-most (t .calendar .cover) (t .product .kind) (sounds t e .opened .valid) q,
+  )
 
   -- 'a sound table has it right': the day and the days stepped back of each maturity are those that are worked out (02, note 2)
   pub last-right : (i : ℕ) → i < placesOfKind (t .product .kind)
-      → _≡_ {A = LastDay} (record { day = getD (t .maturities) i unused .day; back = getD (t .maturities) i unused .back }) (workedOut (t .calendar) (t .product .kind) (t .product .group) (getD (t .maturities) i unused .key))
+      → _≡_ {A = LastDay} (record { day = getD (t .maturities) i unused .day; back = getD (t .maturities) i unused .back })
+      (workedOut (t .calendar) (t .product .kind) (t .product .group) (getD (t .maturities) i unused .key))
   last-right = last-in t (sounds t e)
 
   -- 'the number of days it stepped back from the anchor, 0 to 6' (02, note 2)
@@ -326,7 +339,8 @@ module _ (t : Table) (e : sound t ≡ true) where
   key-right i h = same-in t (sounds t e) i h .0
 
   -- the number of the key in a used place of a sound table is the number in that place
-  pub number-right : (i : ℕ) → i < placesOfKind (t .product .kind) → numberOf (listedIn t) (getD (t .maturities) i unused .key) ≡ getD (t .maturities) i unused .number
+  pub number-right : (i : ℕ) → i < placesOfKind (t .product .kind)
+      → numberOf (listedIn t) (getD (t .maturities) i unused .key) ≡ getD (t .maturities) i unused .number
   number-right i h = ap (numberOf (listedIn t)) (key-right i h) ∙ number-key t (sounds t e) i h
 
   -- the key in a used place of a sound table is listed

@@ -81,7 +81,8 @@ at-used ms i h = List·getD-append ms (replicate (15 - length ms) unused) unused
 
 -- the same months, days and days stepped back, whatever the numbers
 module _ (dy : ℕ → LastDay) (nu mu : ℕ → ℕ) where
-  same-at : (n : ℕ) (ks : List ℕ) (i : ℕ) → sameMaturity (getD (map (mat dy nu) ks ++ replicate n unused) i unused) (getD (map (mat dy mu) ks ++ replicate n unused) i unused) ≡ true
+  same-at : (n : ℕ) (ks : List ℕ) (i : ℕ)
+      → sameMaturity (getD (map (mat dy nu) ks ++ replicate n unused) i unused) (getD (map (mat dy mu) ks ++ replicate n unused) i unused) ≡ true
   same-at n [] i = rw (at-same unused n i)
   same-at n (k ∷ ks) zero = and-both (eq-eqb k k refl) (and-both (eq-eqb (dy k .day) (dy k .day) refl) (eq-eqb (dy k .back) (dy k .back) refl))
   same-at n (k ∷ ks) (suc i) = same-at n ks i
@@ -124,7 +125,8 @@ module _ (p : Product) (cal : Calendar) (date : ℕ) (ms : List Maturity) (given
         same i = rw (I .listing) (same-places (lastOf r cal) nu (λ k. 0) (freshKeys r cal date) i)
 
         each : (i : ℕ) → (i < n) ⊎ (n ≤ i)
-            → (sameMaturity (getD (places15 ms) i unused) (getD (places15 (fresh r cal date)) i unused) && (ltb i (n) || eqb (getD (places15 ms) i unused .number) 0)) ≡ true
+            → (sameMaturity (getD (places15 ms) i unused) (getD (places15 (fresh r cal date)) i unused)
+            && (ltb i (n) || eqb (getD (places15 ms) i unused .number) 0)) ≡ true
         each i (inl l) = and-both (same i) (or-left (eqb (getD (places15 ms) i unused .number) 0) (lt-ltb i (n) l))
         each i (inr l) = and-both (same i) (or-right (ltb i (n)) (rw (at-unused ms i (omega (arith, as-long)))))
 
@@ -138,7 +140,8 @@ module _ (p : Product) (cal : Calendar) (date : ℕ) (ms : List Maturity) (given
     number-at : (i : ℕ) → i < n → getD (places15 ms) i unused .number ≡ nu (key i)
     number-at i h =
         ap (λ (m : Maturity). m .number)
-        (at-used ms i (omega (arith, as-long)) ∙ ap (λ (l : List Maturity). getD l i unused) (I .listing) ∙ at-map (maturity r cal nu) unused (freshKeys r cal date) i (used i h))
+        (at-used ms i (omega (arith, as-long)) ∙ ap (λ (l : List Maturity). getD l i unused) (I .listing) ∙
+        at-map (maturity r cal nu) unused (freshKeys r cal date) i (used i h))
 
     key-listed : (i : ℕ) → i < n → now r cal date (key i) ≡ true
     key-listed i h = rw (fresh-is r w cal date) (sift-at (now r cal date) (r .beyond) 0 i (rw (fresh-is r w cal date) at (used i h)) .passes)
@@ -153,14 +156,20 @@ module _ (p : Product) (cal : Calendar) (date : ℕ) (ms : List Maturity) (given
               number-at i h,
               number-at j (omega arith),
               ne-eqb (nu (key j)) (nu (key i))
-                  (λ q. absurd (omega (arith, I .numbers .inj (key j) (key i) q (I .numbers .pos (key j) (key-listed j (omega arith))), keys-rise r w cal date j i l (used i h)))),
+                  (λ q. absurd (omega (
+                    arith,
+                    I .numbers .inj (key j) (key i) q (I .numbers .pos (key j) (key-listed j (omega arith))),
+                    keys-rise r w cal date j i l (used i h),
+                  ))),
             )
 
         each : (i : ℕ) → i < n → (leb 1 (getD (places15 ms) i unused .number)
-            && (leb (getD (places15 ms) i unused .number) given && every i (λ j. not (eqb (getD (places15 ms) j unused .number) (getD (places15 ms) i unused .number))))) ≡ true
+            && (leb (getD (places15 ms) i unused .number) given
+            && every i (λ j. not (eqb (getD (places15 ms) j unused .number) (getD (places15 ms) i unused .number))))) ≡ true
         each i h =
             and-both (le-leb 1 (getD (places15 ms) i unused .number) (rw (number-at i h) (I .numbers .pos (key i) (key-listed i h))))
-            (and-both (le-leb (getD (places15 ms) i unused .number) given (rw (number-at i h) (I .numbers .small (key i)))) (every-all _ i (λ j l. apart i j h l)))
+            (and-both (le-leb (getD (places15 ms) i unused .number) given (rw (number-at i h) (I .numbers .small (key i))))
+            (every-all _ i (λ j l. apart i j h l)))
 
     -- a table that holds a numbered listing and passes the questions of open is sound
     pub is-sound : sound (tableOf p cal date ms given) ≡ true

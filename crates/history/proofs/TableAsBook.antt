@@ -16,7 +16,8 @@ use Rattle.table.specs.Table.{listedIn, sound, moved, refusedWith, answered, ro
 use Rattle.table_measures.specs.declared.Measured.{Measured}
 use Rattle.table_measures.specs.Measures.{measuredBy, unmeasured, measureAsks, measureCall}
 use Rattle.history.specs.declared.Called.{Called}
-use Rattle.history.specs.Book.{Call, roll, close, reopen, measure, Reply, Book, calendarAfter, dateAfter, bookOpened, bookAsks, bookMoved, bookResized, bookCounts, bookAccepted, acceptedReply, bookAfter, bookReply, bookRun, bookReplies}
+use Rattle.history.specs.Book.{Call, roll, close, reopen, measure, Reply, Book, calendarAfter, dateAfter, bookOpened, bookAsks, bookMoved, bookResized}
+use Rattle.history.specs.Book.{bookCounts, bookAccepted, acceptedReply, bookAfter, bookReply, bookRun, bookReplies}
 use Rattle.history.specs.History.{unpriced, uncounted, tableCall, tableRun, replyOf, tableReplies, calendarOfCalls, dateOfCalls}
 use Rattle.history.proofs.Soundness.{tableOf, holds, is-sound}
 use Rattle.history.proofs.BookMoments.{productIn, Inv, turn-later}
@@ -36,7 +37,8 @@ refusedCall t number = record { refusal = number; table = t; entered = 0; left =
 abbrev pub eitherCall : Bool → Table → Call → ℕ → Called
 eitherCall accepted t c number = cond accepted (acceptedCall t c) (refusedCall t number)
 
-answered-either : (t : Table) (asks : List Ask) (o : Outcome) → unpriced (answered t asks o) ≡ cond (eqb (firstNo asks) 0) (unpriced o) (refusedCall t (firstNo asks))
+answered-either : (t : Table) (asks : List Ask) (o : Outcome)
+    → unpriced (answered t asks o) ≡ cond (eqb (firstNo asks) 0) (unpriced o) (refusedCall t (firstNo asks))
 unfolding answered
 answered-either t asks o = go (eqb (firstNo asks) 0)
   where
@@ -49,7 +51,8 @@ measured-either true t m number = refl
 measured-either false t m number = refl
 
 -- a sound table's call: the questions are those of a book with its calendar, date and size
-module _ (t : Table) (b : Book) (same-calendar : b .calendar ≡ t .calendar) (same-date : b .date ≡ t .date) (same-size : b .size ≡ t .product .size) (s : sound t ≡ true) where
+module _ (t : Table) (b : Book) (same-calendar : b .calendar ≡ t .calendar) (same-date : b .date ≡ t .date) (same-size : b .size ≡ t .product .size)
+    (s : sound t ≡ true) where
   abbrev asks : Call → List Ask
   asks c = bookAsks (t .product .kind) (t .product .group) b c
 
@@ -65,7 +68,8 @@ module _ (t : Table) (b : Book) (same-calendar : b .calendar ≡ t .calendar) (s
   unfolding reopenCall answered
   reopened day = rw (same-calendar, same-date, first-yes 10 _ s)
 
-  measured : (u v price : ℕ) → measureCall t u v price ≡ cond (eqb (firstNo (asks (measure u v price))) 0) (measuredBy t u v price) (unmeasured t (firstNo (asks (measure u v price))))
+  measured : (u v price : ℕ) → measureCall t u v price
+      ≡ cond (eqb (firstNo (asks (measure u v price))) 0) (measuredBy t u v price) (unmeasured t (firstNo (asks (measure u v price))))
   unfolding measureCall measureAsks
   measured u v price = rw (same-size, first-yes 10 _ s)
 
@@ -117,7 +121,8 @@ module _ (p : Product) where
   accepted-in b nu I (measure u v price) = refl
 
   -- any call
-  pub turn : (b : Book) (nu : ℕ → ℕ) → Inv p b nu → (c : Call) → tableCall (tableIn p b) c ≡ called (bookReply (p .kind) (p .group) b c) (tableIn p (bookAfter (p .kind) (p .group) b c))
+  pub turn : (b : Book) (nu : ℕ → ℕ) → Inv p b nu → (c : Call)
+      → tableCall (tableIn p b) c ≡ called (bookReply (p .kind) (p .group) b c) (tableIn p (bookAfter (p .kind) (p .group) b c))
   unfolding bookAfter bookReply
   turn b nu I c = table-answer (tableIn p b) b refl refl refl (sound-in b nu I) c ∙ go (eqb (refusal b c) 0)
     where
@@ -148,7 +153,9 @@ module _ (p : Product) where
       (b′ .calendar ≡ cond (eqb (r .refusal) 0) (calendarAfter (b .calendar) c) (b .calendar))
       × (b′ .date ≡ cond (eqb (r .refusal) 0) (dateAfter (b .date) c) (b .date))
 
-  accepted-settles : (b : Book) (c : Call) → (bookAccepted (p .kind) (p .group) b c .calendar ≡ calendarAfter (b .calendar) c) × (bookAccepted (p .kind) (p .group) b c .date ≡ dateAfter (b .date) c) × (acceptedReply (p .kind) (p .group) b c .refusal ≡ 0)
+  accepted-settles : (b : Book) (c : Call)
+      → (bookAccepted (p .kind) (p .group) b c .calendar ≡ calendarAfter (b .calendar) c)
+      × (bookAccepted (p .kind) (p .group) b c .date ≡ dateAfter (b .date) c) × (acceptedReply (p .kind) (p .group) b c .refusal ≡ 0)
   unfolding bookMoved bookResized bookCounts
   accepted-settles b (roll date) = (refl, refl, refl)
   accepted-settles b (close day) = (refl, refl, refl)
@@ -164,7 +171,8 @@ module _ (p : Product) where
       go false e = (rw e, rw e)
 
   -- the book's calendar after a list of calls is the first one with the accepted closures and reopenings
-  pub calendar-run : (cs : List Call) (b : Book) → bookRun (p .kind) (p .group) b cs .calendar ≡ calendarOfCalls (b .calendar) cs (bookReplies (p .kind) (p .group) b cs)
+  pub calendar-run : (cs : List Call) (b : Book)
+      → bookRun (p .kind) (p .group) b cs .calendar ≡ calendarOfCalls (b .calendar) cs (bookReplies (p .kind) (p .group) b cs)
   unfolding bookRun bookReplies calendarOfCalls
   calendar-run [] b = refl
   calendar-run (c ∷ cs) b =

@@ -14,4 +14,5 @@ use Rattle.history.specs.History.{tableRun}
 -- every table of an accepted open from it, after any list of calls
 pub record OldFileDues (f id : List ℕ) (date : ℕ) : Type 0 where
   pub zero : oldFile f ≡ true → openCall f id date .refusal ≡ 0 → (cs : List Call) → ZeroSecond (tableRun (openCall f id date .table) cs)
-  pub days : oldFile f ≡ true → openCall f id date .refusal ≡ 0 → (cs : List Call) (day : ℕ) → dueDay (tableRun (openCall f id date .table) cs) day ≡ oldDueDay (tableRun (openCall f id date .table) cs) day
+  pub days : oldFile f ≡ true → openCall f id date .refusal ≡ 0 → (cs : List Call) (day : ℕ)
+      → dueDay (tableRun (openCall f id date .table) cs) day ≡ oldDueDay (tableRun (openCall f id date .table) cs) day

@@ -104,7 +104,8 @@ day-right : (t : Table) → sound t ≡ true → (i : ℕ) → UsedPlace t i →
 unfolding workedOut
 day-right t e i h = ap (λ (l : LastDay). l .day) (last-right t e i h)
 
-back-right : (t : Table) → sound t ≡ true → (i : ℕ) → UsedPlace t i → maturityAt t i .back ≡ anchorIn t (maturityAt t i .key) - lastDayIn t (maturityAt t i .key)
+back-right : (t : Table) → sound t ≡ true → (i : ℕ) → UsedPlace t i
+    → maturityAt t i .back ≡ anchorIn t (maturityAt t i .key) - lastDayIn t (maturityAt t i .key)
 unfolding workedOut
 back-right t e i h = ap (λ (l : LastDay). l .back) (last-right t e i h)
 
@@ -262,12 +263,14 @@ module _ (t : Table) (e : sound t ≡ true) where
         sym (number-right t′ e′ j b) ∙ ap (numberOf (listedIn t′)) q
         ∙ number-stays (maturityAt t i .key) (key-listed t e i a) (ap (isListed (listedIn t′)) (sym q) ∙ key-listed t′ e′ j b) ∙ number-right t e i a
 
-    same-in : (i j : ℕ) → UsedPlace t i → UsedPlace t′ j → maturityAt t′ j .key ≡ maturityAt t i .key → lastDayIn t′ (maturityAt t i .key) ≡ lastDayIn t (maturityAt t i .key)
+    same-in : (i j : ℕ) → UsedPlace t i → UsedPlace t′ j → maturityAt t′ j .key ≡ maturityAt t i .key
+        → lastDayIn t′ (maturityAt t i .key) ≡ lastDayIn t (maturityAt t i .key)
         → maturityAt t′ j ≡ maturityAt t i
     same-in i j a b q m =
         same-maturity (maturityAt t′ j) (maturityAt t i) q
         (day-right t′ e′ j b ∙ ap (lastDayIn t′) q ∙ m ∙ sym (day-right t e i a))
-        (back-right t′ e′ j b ∙ ap (λ (x : ℕ). anchorIn t x - lastDayIn t′ x) q ∙ ap (λ (x : ℕ). anchorIn t (maturityAt t i .key) - x) m ∙ sym (back-right t e i a))
+        (back-right t′ e′ j b ∙ ap (λ (x : ℕ). anchorIn t x - lastDayIn t′ x) q ∙ ap (λ (x : ℕ). anchorIn t (maturityAt t i .key) - x) m ∙
+        sym (back-right t e i a))
         (number-in i j a b q)
 
     -- a listed key whose day is not past then is still listed
@@ -277,10 +280,12 @@ module _ (t : Table) (e : sound t ≡ true) where
         let f = front-least r w cal′ date x (q .below) (q .wide)
         (le-leb date (lastDayOf r cal′ x) (omega (arith, h, as-day (t .calendar .cover) cal′ (p .kind) (p .group) x))) in
         rw holds-then
-        (present-is r w cal′ date (ms′ cal′ c′) (given′ cal′ c′) (numbersNext r cal date (t .given) (numberOf (listedIn t)) cal′ date) (replaced cal′ c′ on .numbered) x
+        (present-is r w cal′ date (ms′ cal′ c′) (given′ cal′ c′) (numbersNext r cal date (t .given) (numberOf (listedIn t)) cal′ date)
+        (replaced cal′ c′ on .numbered) x
         ∙ keys-stay r w (front r cal date) (front r cal′ date) on x (listed-now x l) f)
 
-    still : (i : ℕ) → UsedPlace t i → lastDayIn t′ (maturityAt t i .key) ≡ lastDayIn t (maturityAt t i .key) → isListed (listedIn t′) (maturityAt t i .key) ≡ true
+    still : (i : ℕ) → UsedPlace t i → lastDayIn t′ (maturityAt t i .key) ≡ lastDayIn t (maturityAt t i .key)
+        → isListed (listedIn t′) (maturityAt t i .key) ≡ true
     still i h m =
         let x = maturityAt t i .key in
         let l = key-listed t e i h in
@@ -307,7 +312,8 @@ module _ (t : Table) (e : sound t ≡ true) where
     }
 
   -- 16 is answered yes with more trading days too
-  full-more : (cal₁ cal₂ : Calendar) → cal₁ .cover ≡ t .calendar .cover → cal₂ .cover ≡ t .calendar .cover → ((x : ℕ) → tradingDay cal₂ x ≡ true → tradingDay cal₁ x ≡ true)
+  full-more : (cal₁ cal₂ : Calendar) → cal₁ .cover ≡ t .calendar .cover → cal₂ .cover ≡ t .calendar .cover
+      → ((x : ℕ) → tradingDay cal₂ x ≡ true → tradingDay cal₁ x ≡ true)
       → allInCover cal₂ (p .kind) (p .group) date ≡ true → allInCover cal₁ (p .kind) (p .group) date ≡ true
   full-more cal₁ cal₂ c₁ c₂ more f = rw (same-rule cal₁ c₁) (complete-more r w cal₁ cal₂ more date (rw (same-rule cal₂ c₂) at f))
 
@@ -361,7 +367,16 @@ module _ (t : Table) (e : sound t ≡ true) (x y : ℕ) (unlike : x ≡ y → �
       let a = trading-before (t .calendar) x y (k .trading) in
       let b = weeks-more (closeDay (t .calendar) y) calxy (cxy ∙ sym (close-cover (t .calendar) y)) fewer (k .weeks) in
       let c = full-more t e (closeDay (t .calendar) y) calxy (close-cover (t .calendar) y) cxy fewer (k .full) in
-      record { sound-before = e; covered = k .covered; later = k .later; trading = a; weeks = b; full = c; leaves = accepts t y e (k .covered) (k .later) a b c }
+      record {
+        sound-before = e;
+        covered = k .covered;
+        later = k .later;
+        trading = a;
+        weeks = b;
+        full = c;
+        leaves =
+            accepts t y e (k .covered) (k .later) a b c;
+      }
 
   -- the first closure, on the table that the second leaves
   last : closeCall (moved t (closeDay (t .calendar) y) (t .date) .table) x
@@ -378,8 +393,10 @@ module _ (t : Table) (e : sound t ≡ true) (x y : ℕ) (unlike : x ≡ y → �
       ≡ moved (moved t (closeDay (t .calendar) x) (t .date) .table) (closeDay (closeDay (t .calendar) x) y) (t .date) .table
   both-leave =
       ap (λ (c : Calendar). moved (moved t (closeDay (t .calendar) y) (t .date) .table) c (t .date) .table) (sym turn)
-      ∙ twice t e caly calxy (close-cover (t .calendar) y) cxy (on t e y ky) (front-fewer (r t e) (w t e) caly calxy fewer (t .date)) (asked .weeks) (after-sound t e y ky)
-      ∙ sym (twice t e calx calxy (close-cover (t .calendar) x) cxy (on t e x kx) (front-fewer (r t e) (w t e) calx calxy (trading-before calx y) (t .date)) (asked .weeks) (after-sound t e x kx))
+      ∙ twice t e caly calxy (close-cover (t .calendar) y) cxy (on t e y ky) (front-fewer (r t e) (w t e) caly calxy fewer (t .date)) (asked .weeks)
+      (after-sound t e y ky)
+      ∙ sym (twice t e calx calxy (close-cover (t .calendar) x) cxy (on t e x kx) (front-fewer (r t e) (w t e) calx calxy (trading-before calx y) (t .date))
+      (asked .weeks) (after-sound t e x kx))
 
   turned-as : Turned t x y
   unfolding moved

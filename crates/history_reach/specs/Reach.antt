@@ -52,7 +52,8 @@ pub record Reached (t : Table) (d : ℕ) (t′ : Table) : Type 0 where
       → (lastDayIn t′ (maturityAt t i .key) ≤ anchorIn t (maturityAt t i .key)) × (anchorIn t (maturityAt t i .key) ≤ lastDayIn t′ (maturityAt t i .key) + 6)
   -- 'every other maturity still listed has its old number and day',
   -- and as many days stepped back as before: all that its place holds
-  pub others : (i j : ℕ) → UsedPlace t i → UsedPlace t′ j → maturityAt t′ j .key ≡ maturityAt t i .key → (DayMoved t t′ (maturityAt t i .key) → ⊥) → maturityAt t′ j ≡ maturityAt t i
+  pub others : (i j : ℕ) → UsedPlace t i → UsedPlace t′ j → maturityAt t′ j .key ≡ maturityAt t i .key → (DayMoved t t′ (maturityAt t i .key) → ⊥)
+      → maturityAt t′ j ≡ maturityAt t i
   -- the one that moved, where it is still listed, has its old number too
   pub number : (i j : ℕ) → UsedPlace t i → UsedPlace t′ j → maturityAt t′ j .key ≡ maturityAt t i .key → maturityAt t′ j .number ≡ maturityAt t i .number
   -- every maturity that did not move is still listed; one that left has its new day before the date

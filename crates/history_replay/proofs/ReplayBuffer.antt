@@ -77,7 +77,9 @@ numbers-snoc [] r = refl
 numbers-snoc (x ∷ rs) r = ap (λ (l : List ℕ). x .refusal ∷ x .entered ∷ x .left ∷ x .price ∷ l) (numbers-snoc rs r)
 
 -- four stores after a full front
-put-four : (p q : List ℕ) (x y z w a b c d : ℕ) → set (set (set (set (p ++ x ∷ y ∷ z ∷ w ∷ q) (length p) a) (suc (length p)) b) (suc (suc (length p))) c) (suc (suc (suc (length p)))) d ≡ p ++ a ∷ b ∷ c ∷ d ∷ q
+put-four : (p q : List ℕ) (x y z w a b c d : ℕ)
+    → set (set (set (set (p ++ x ∷ y ∷ z ∷ w ∷ q) (length p) a) (suc (length p)) b) (suc (suc (length p))) c) (suc (suc (suc (length p)))) d
+    ≡ p ++ a ∷ b ∷ c ∷ d ∷ q
 put-four [] q x y z w a b c d = refl
 put-four (v ∷ p) q x y z w a b c d = ap (λ (l : List ℕ). v ∷ l) (put-four p q x y z w a b c d)
 
@@ -127,10 +129,13 @@ store done r i before e h =
     let w : 4 * (i + 1) ≡ suc (suc (suc (suc (4 * i)))) = omega arith in
     rw (u, v, x, w, four-next before (4 * i) h, numbers-snoc done r) (rw (← l) (placed (length (numbersOf done))))
   where
-    placed : (n : ℕ) → set (set (set (set (numbersOf done ++ getD before n 0 ∷ getD before (suc n) 0 ∷ getD before (suc (suc n)) 0 ∷ getD before (suc (suc (suc n))) 0 ∷ drop (suc (suc (suc (suc n)))) before) (length (numbersOf done)) (r .refusal)) (suc (length (numbersOf done))) (r .entered)) (suc (suc (length (numbersOf done)))) (r .left)) (suc (suc (suc (length (numbersOf done))))) (r .price)
+    placed : (n : ℕ) → set (set (set (set (numbersOf done ++ getD before n 0 ∷ getD before (suc n) 0 ∷ getD before (suc (suc n)) 0
+        ∷ getD before (suc (suc (suc n))) 0 ∷ drop (suc (suc (suc (suc n)))) before) (length (numbersOf done)) (r .refusal)) (suc (length (numbersOf done)))
+        (r .entered)) (suc (suc (length (numbersOf done)))) (r .left)) (suc (suc (suc (length (numbersOf done))))) (r .price)
         ≡ (numbersOf done ++ (r .refusal ∷ r .entered ∷ r .left ∷ r .price ∷ [])) ++ drop (suc (suc (suc (suc n)))) before
     placed n =
-        put-four (numbersOf done) (drop (suc (suc (suc (suc n)))) before) (getD before n 0) (getD before (suc n) 0) (getD before (suc (suc n)) 0) (getD before (suc (suc (suc n))) 0) (r .refusal) (r .entered) (r .left) (r .price)
+        put-four (numbersOf done) (drop (suc (suc (suc (suc n)))) before) (getD before n 0) (getD before (suc n) 0) (getD before (suc (suc n)) 0)
+        (getD before (suc (suc (suc n))) 0) (r .refusal) (r .entered) (r .left) (r .price)
         ∙ sym (append-four (numbersOf done) (r .refusal) (r .entered) (r .left) (r .price) (drop (suc (suc (suc (suc n)))) before))
 
 -- the state of the loop before call i
@@ -197,7 +202,8 @@ replies-length t [] = refl
 replies-length t (c ∷ cs) = ap suc (replies-length (tableCall t c .table) cs)
 
 -- the buffer stays as long as it is
-pub made-long : (t : Table) (cs before after : List ℕ) (r : Table) → length cs % 4 ≡ 0 → length cs ≤ length before → CallsMade t cs before after r → length after ≡ length before
+pub made-long : (t : Table) (cs before after : List ℕ) (r : Table) → length cs % 4 ≡ 0 → length cs ≤ length before → CallsMade t cs before after r
+    → length after ≡ length before
 made-long t cs before after r whole room m =
     ap length (m .answers) ∙ length-append (numbersOf (tableReplies t (callsOf cs))) (drop (length cs) before) ∙
     (omega (arith, numbers-length (tableReplies t (callsOf cs)), replies-length t (callsOf cs), calls-length cs, length-drop (length cs) before))

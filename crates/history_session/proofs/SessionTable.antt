@@ -15,7 +15,8 @@ use Rattle.table.specs.declared.Outcome.{Outcome}
 use Rattle.table.specs.Table.{moved, answered, rollAsks, rollCall, closeAsks, closeCall, openCall}
 use Rattle.calendar.specs.Trading.{closeDay}
 use Rattle.session_lines.specs.declared.Command.{Command}
-use Rattle.session_lines.specs.CommandLines.{dateAt, moveForm, moveCommand, idInLine, openForm, openCommand, otherLine, commandAt, commandOf, emptyLine, linesFrom}
+use Rattle.session_lines.specs.CommandLines.{dateAt, moveForm, moveCommand, idInLine, openForm, openCommand, otherLine, commandAt, commandOf, emptyLine}
+use Rattle.session_lines.specs.CommandLines.{linesFrom}
 use Rattle.session_command.specs.declared.Kept.{Kept}
 use Rattle.session_command.specs.Sessions.{nothingKept, outcomeOf, keptAfter, keptRun, restKept}
 use Rattle.session_command.proofs.Session.{kept-append, whole-kept}
@@ -51,7 +52,8 @@ move-letter f n = go (moveForm f n && dateAt f 2 .there) refl
     found (inl e) = R (eqb-true (f 0) 82 e)
     found (inr e) = C (eqb-true (f 0) 67 e)
 
-    go : (b : Bool) → (moveForm f n && dateAt f 2 .there) ≡ b → Letter (cond b (record { letter = f 0; id = replicate 4 0; day = dateAt f 2 .day }) otherLine .letter)
+    go : (b : Bool) → (moveForm f n && dateAt f 2 .there) ≡ b
+        → Letter (cond b (record { letter = f 0; id = replicate 4 0; day = dateAt f 2 .day }) otherLine .letter)
     go true e =
         let form : moveForm f n ≡ true = and-fst (moveForm f n) (dateAt f 2 .there) e in
         let letters : ((eqb (f 0) 82 || eqb (f 0) 67) && eqb (f 1) 32) ≡ true = and-snd (eqb n 12) ((eqb (f 0) 82 || eqb (f 0) 67) && eqb (f 1) 32) form in
@@ -82,7 +84,8 @@ refused-keeps t asks o z = go (eqb (firstNo asks) 0)
     go false n = refl
 
 -- so a call's table is kept, accepted or refused
-call-kept : (t : Table) (o : Outcome) → ((o .refusal ≡ 0 → ⊥) → o .table ≡ t) → cond (eqb (o .refusal) 0) (withTable (o .table)) (withTable t) ≡ withTable (o .table)
+call-kept : (t : Table) (o : Outcome) → ((o .refusal ≡ 0 → ⊥) → o .table ≡ t)
+    → cond (eqb (o .refusal) 0) (withTable (o .table)) (withTable t) ≡ withTable (o .table)
 call-kept t o k = go (eqb (o .refusal) 0) refl
   where
     go : (b : Bool) → eqb (o .refusal) 0 ≡ b → cond b (withTable (o .table)) (withTable t) ≡ withTable (o .table)
@@ -120,14 +123,17 @@ module _ (file : List ℕ) (t : Table) (c : Command) where
 
 -- an accepted O, whatever was kept before
 module _ (file : List ℕ) (h : Kept) (c : Command) where
-  after-accepted : c .letter ≡ 79 → eqb (openCall file (c .id) (c .day) .refusal) 0 ≡ true → keptAfter (openCall file) h c ≡ withTable (openCall file (c .id) (c .day) .table)
+  after-accepted : c .letter ≡ 79 → eqb (openCall file (c .id) (c .day) .refusal) 0 ≡ true
+      → keptAfter (openCall file) h c ≡ withTable (openCall file (c .id) (c .day) .table)
   unfolding keptAfter outcomeOf
   after-accepted e r = rw (e, r) refl
 
-  after-opening : isOpening file c ≡ true → (openCall file (c .id) (c .day) .refusal ≡ 0) × (keptAfter (openCall file) h c ≡ withTable (openCall file (c .id) (c .day) .table))
+  after-opening : isOpening file c ≡ true
+      → (openCall file (c .id) (c .day) .refusal ≡ 0) × (keptAfter (openCall file) h c ≡ withTable (openCall file (c .id) (c .day) .table))
   unfolding isOpening
   after-opening m =
-      let b : (eqb (c .letter) 79 ≡ true) × (eqb (openCall file (c .id) (c .day) .refusal) 0 ≡ true) = both (eqb (c .letter) 79) (eqb (openCall file (c .id) (c .day) .refusal) 0) m in
+      let b : (eqb (c .letter) 79 ≡ true) × (eqb (openCall file (c .id) (c .day) .refusal) 0 ≡ true) =
+      both (eqb (c .letter) 79) (eqb (openCall file (c .id) (c .day) .refusal) 0) m in
       (eqb-true (openCall file (c .id) (c .day) .refusal) 0 (b .1), after-accepted (eqb-true (c .letter) 79 (b .0)) (b .1))
 
 -- ---- all lines
@@ -139,7 +145,8 @@ run-next t true m ms = refl
 run-next t false m ms = refl
 
 -- lines with no accepted O among them, on a table
-after-lines : (file : List ℕ) (t : Table) (lines : List (List ℕ)) → noOpening file lines ≡ true → keptRun (openCall file) (withTable t) lines ≡ withTable (tableRun t (movesOf lines))
+after-lines : (file : List ℕ) (t : Table) (lines : List (List ℕ)) → noOpening file lines ≡ true
+    → keptRun (openCall file) (withTable t) lines ≡ withTable (tableRun t (movesOf lines))
 unfolding keptRun noOpening movesOf tableRun
 after-lines file t [] m = refl
 after-lines file t (line ∷ lines) m = go (both (not (isOpening file c)) (noOpening file lines) m) (after-lines file (next t c) lines)
@@ -147,26 +154,33 @@ after-lines file t (line ∷ lines) m = go (both (not (isOpening file c)) (noOpe
     c : Command
     c = commandOf line
 
-    go : (not (isOpening file c) ≡ true) × (noOpening file lines ≡ true) → (noOpening file lines ≡ true → keptRun (openCall file) (withTable (next t c)) lines ≡ withTable (tableRun (next t c) (movesOf lines)))
-        → keptRun (openCall file) (keptAfter (openCall file) (withTable t) c) lines ≡ withTable (tableRun t (cond (isMove c) (moveOf c ∷ movesOf lines) (movesOf lines)))
+    go : (not (isOpening file c) ≡ true) × (noOpening file lines ≡ true)
+        → (noOpening file lines ≡ true → keptRun (openCall file) (withTable (next t c)) lines ≡ withTable (tableRun (next t c) (movesOf lines)))
+        → keptRun (openCall file) (keptAfter (openCall file) (withTable t) c) lines
+        ≡ withTable (tableRun t (cond (isMove c) (moveOf c ∷ movesOf lines) (movesOf lines)))
     go b more =
         ap (λ (h : Kept). keptRun (openCall file) h lines) (after-line file t c (letter-of line) (not-true (isOpening file c) (b .0)))
         ∙ more (b .1)
         ∙ ap withTable (run-next t (isMove c) (moveOf c) (movesOf lines))
 
 -- what is kept after a session, from its last accepted O on: the table of demand 3, for the R and C after it
-pub session-history : (file : List ℕ) (h : Kept) (earlier : List (List ℕ)) (line : List ℕ) (lines : List (List ℕ)) → isOpening file (commandOf line) ≡ true → noOpening file lines ≡ true
+pub session-history : (file : List ℕ) (h : Kept) (earlier : List (List ℕ)) (line : List ℕ) (lines : List (List ℕ)) → isOpening file (commandOf line) ≡ true
+    → noOpening file lines ≡ true
     → KeptHistory file (commandOf line) (movesOf lines) (keptRun (openCall file) h (earlier ++ (line ∷ lines)))
 unfolding keptRun
-session-history file h earlier line lines o m = rw (kept-append (openCall file) h earlier (line ∷ lines)) (rw is (record { opened = refl; table = ap (λ (t : Table). tableRun t (movesOf lines)) (all [] .opened); demand = all }))
+session-history file h earlier line lines o m =
+    rw (kept-append (openCall file) h earlier (line ∷ lines))
+    (rw is (record { opened = refl; table = ap (λ (t : Table). tableRun t (movesOf lines)) (all [] .opened); demand = all }))
   where
     c : Command
     c = commandOf line
 
-    a : (openCall file (c .id) (c .day) .refusal ≡ 0) × (keptAfter (openCall file) (keptRun (openCall file) h earlier) c ≡ withTable (openCall file (c .id) (c .day) .table))
+    a : (openCall file (c .id) (c .day) .refusal ≡ 0)
+        × (keptAfter (openCall file) (keptRun (openCall file) h earlier) c ≡ withTable (openCall file (c .id) (c .day) .table))
     a = after-opening file (keptRun (openCall file) h earlier) c o
 
-    is : keptRun (openCall file) (keptAfter (openCall file) (keptRun (openCall file) h earlier) c) lines ≡ withTable (tableRun (openCall file (c .id) (c .day) .table) (movesOf lines))
+    is : keptRun (openCall file) (keptAfter (openCall file) (keptRun (openCall file) h earlier) c) lines
+        ≡ withTable (tableRun (openCall file (c .id) (c .day) .table) (movesOf lines))
     is = ap (λ (k : Kept). keptRun (openCall file) k lines) (a .1) ∙ after-lines file (openCall file (c .id) (c .day) .table) lines m
 
     all : (more : List Call) → FromFile file (c .id) (c .day) (movesOf lines) more
@@ -174,5 +188,6 @@ session-history file h earlier line lines o m = rw (kept-append (openCall file) 
 
 -- the same of an input that the program is given: what it holds at the end, in the form that the contract of a part speaks of
 pub input-history : (file input : List ℕ) (earlier : List (List ℕ)) (line : List ℕ) (lines : List (List ℕ)) → linesFrom [] input ≡ earlier ++ (line ∷ lines)
-    → isOpening file (commandOf line) ≡ true → noOpening file lines ≡ true → KeptHistory file (commandOf line) (movesOf lines) (restKept (openCall file) nothingKept emptyLine input)
+    → isOpening file (commandOf line) ≡ true → noOpening file lines ≡ true
+    → KeptHistory file (commandOf line) (movesOf lines) (restKept (openCall file) nothingKept emptyLine input)
 input-history file input earlier line lines e o m = rw (whole-kept (openCall file) input, e) (session-history file nothingKept earlier line lines o m)

@@ -58,7 +58,8 @@ taken-earlier e (set ∷ rest) f g h q = go (ltb (nextOf e set g) e) refl q (tak
     a = next-earlier e set f g h
 
     go : (b : Bool) → ltb (nextOf e set g) e ≡ b → length (cond b (nextOf e set g ∷ taken e rest (suc (nextOf e set g))) []) ≡ suc (length rest)
-        → (suc (nextOf e set f) ≤ suc (nextOf e set g) → length (taken e rest (suc (nextOf e set g))) ≡ length rest → length (taken e rest (suc (nextOf e set f))) ≡ length rest)
+        → (suc (nextOf e set f) ≤ suc (nextOf e set g) → length (taken e rest (suc (nextOf e set g))) ≡ length rest
+        → length (taken e rest (suc (nextOf e set f))) ≡ length rest)
         → length (cond (ltb (nextOf e set f) e) (nextOf e set f ∷ taken e rest (suc (nextOf e set f))) []) ≡ suc (length rest)
     go true t n ih =
         let u : nextOf e set g < e = ltb-true (nextOf e set g) e t in

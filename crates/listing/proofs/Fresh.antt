@@ -47,15 +47,18 @@ module _ (cal : Calendar) (kind : Kind) (group : List ℕ) (date : ℕ) where
       → grown (matOf cal kind group) e (length (rest k 0)) 0 (replicate 15 unused) (rest k 0) from ≡ listingOf cal kind group date
   unfolding listingOf complete freshKeys coverRule rest lastTradingDay workedOut
   listing-is k e from q p s =
-      rw (q, p, s) (whole-is (matOf cal kind group) (keyOf kind (coverEnd (cal .cover))) (kindNumber kind) (front (ruleOf cal kind group) cal date) (rest-room kind))
+      rw (q, p, s) (whole-is (matOf cal kind group) (keyOf kind (coverEnd (cal .cover))) (kindNumber kind) (front (ruleOf cal kind group) cal date)
+      (rest-room kind))
 
 -- what the code's listing says: complete or not, and the fresh maturities in the places that are used
-pub complete-is : (cal : Calendar) (kind : Kind) (group : List ℕ) (date : ℕ) (l : Listing) → l ≡ listingOf cal kind group date → l .complete ≡ allInCover cal kind group date
+pub complete-is : (cal : Calendar) (kind : Kind) (group : List ℕ) (date : ℕ) (l : Listing) → l ≡ listingOf cal kind group date
+    → l .complete ≡ allInCover cal kind group date
 unfolding listingOf
 complete-is cal kind group date l e = ap (λ (x : Listing). x .complete) e
 
 -- the maturities of the code's listing are the fresh maturities, in 15 places
-pub places-is : (cal : Calendar) (kind : Kind) (group : List ℕ) (date : ℕ) (l : Listing) → l ≡ listingOf cal kind group date → l .maturities ≡ places15 (freshOf cal kind group date)
+pub places-is : (cal : Calendar) (kind : Kind) (group : List ℕ) (date : ℕ) (l : Listing) → l ≡ listingOf cal kind group date
+    → l .maturities ≡ places15 (freshOf cal kind group date)
 unfolding listingOf
 places-is cal kind group date l e = ap (λ (x : Listing). x .maturities) e
 

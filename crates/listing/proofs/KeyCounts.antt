@@ -78,7 +78,8 @@ module _ (p : ℕ → Bool) where
       let i : suc x - x ≡ 1 = omega arith in
       omega (
         arith,
-        count-window x (suc x) n (omega arith) l (λ k y. is-false (p k) (λ t. absurd (omega (arith, h k t)))) (λ k y. is-false (p k) (λ t. absurd (omega (arith, h k t)))),
+        count-window x (suc x) n (omega arith) l (λ k y. is-false (p k) (λ t. absurd (omega (arith, h k t))))
+            (λ k y. is-false (p k) (λ t. absurd (omega (arith, h k t)))),
         ap (λ (m : ℕ). countFrom p m x) i,
         count-step 0 x,
         count-none (suc x),

@@ -79,7 +79,8 @@ unfolding taken
 first-taken e [] f h q = absurd (omega arith)
 first-taken e (set ∷ rest) f h q = go (ltb (nextOf e set f) e) h
   where
-    go : (b : Bool) → 1 ≤ length (cond b (nextOf e set f ∷ taken e rest (suc (nextOf e set f))) []) → getD (cond b (nextOf e set f ∷ taken e rest (suc (nextOf e set f))) []) 0 0 ≡ f
+    go : (b : Bool) → 1 ≤ length (cond b (nextOf e set f ∷ taken e rest (suc (nextOf e set f))) [])
+        → getD (cond b (nextOf e set f ∷ taken e rest (suc (nextOf e set f))) []) 0 0 ≡ f
     go true h = q
     go false h = absurd (omega arith)
 
@@ -89,7 +90,8 @@ inListing r front k = lists (r .beyond) (r .places) front k
 
 module _ (r : Rule) (w : Lawful r) where
   -- days do not fall as keys rise, nor where a calendar has more trading days
-  pub days-rise : (cal cal′ : Calendar) → ((d : ℕ) → tradingDay cal d ≡ true → tradingDay cal′ d ≡ true) → (j k : ℕ) → j ≤ k → lastDayOf r cal j ≤ lastDayOf r cal′ k
+  pub days-rise : (cal cal′ : Calendar) → ((d : ℕ) → tradingDay cal d ≡ true → tradingDay cal′ d ≡ true) → (j k : ℕ) → j ≤ k
+      → lastDayOf r cal j ≤ lastDayOf r cal′ k
   days-rise cal cal′ more j k h =
       omega (
         arith,
@@ -214,7 +216,8 @@ module _ (r : Rule) (w : Lawful r) where
     keys-rise i j l h = rw (fresh-is) (sift-rises (inListing r (front r cal date)) (r .beyond) 0 i j l (rw (fresh-is) at h))
 
   -- where no day that was past is ahead, the front does not go back
-  pub front-later : (cal cal′ : Calendar) (date date′ : ℕ) → ((k : ℕ) → alive r cal′ date′ k ≡ true → alive r cal date k ≡ true) → front r cal date ≤ front r cal′ date′
+  pub front-later : (cal cal′ : Calendar) (date date′ : ℕ) → ((k : ℕ) → alive r cal′ date′ k ≡ true → alive r cal date k ≡ true)
+      → front r cal date ≤ front r cal′ date′
   front-later cal cal′ date date′ h = go (lt-or-ge (front r cal′ date′) (r .beyond))
     where
       go : (front r cal′ date′ < r .beyond) ⊎ (r .beyond ≤ front r cal′ date′) → front r cal date ≤ front r cal′ date′

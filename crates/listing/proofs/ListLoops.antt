@@ -108,7 +108,8 @@ module _ (mat : ℕ → Maturity) (e t : ℕ) where
     shift x = omega arith
 
     -- a key below the end is taken
-    pub grown-turn : nextOf e p f < e → grown n a (replicate (c - j) p ++ r) f ≡ grown (n + 1) (set a n (mat (nextOf e p f))) (replicate (c - (j + 1)) p ++ r) (nextOf e p f + 1)
+    pub grown-turn : nextOf e p f < e → grown n a (replicate (c - j) p ++ r) f
+        ≡ grown (n + 1) (set a n (mat (nextOf e p f))) (replicate (c - (j + 1)) p ++ r) (nextOf e p f + 1)
     unfolding grown taken
     grown-turn l = rw (one-more, lt-ltb _ _ l, add-one n, add-one (nextOf e p f), shift)
 
@@ -137,7 +138,8 @@ pub record Walking (mat : ℕ → Maturity) (e k front : ℕ) (a : List Maturity
   pub same : grown mat e (length (rest k 0)) n a ps from ≡ grown mat e (length (rest k 0)) 0 (replicate 15 unused) (rest k 0) front
 
 -- at the start of the walk no place is filled, all places of the kind's row are to fill, and the key is the front
-pub starts : (mat : ℕ → Maturity) (e : ℕ) (kind : Kind) (k front : ℕ) → k ≡ kindNumber kind → e ≤ 36525 → Walking mat e k front (replicate 15 unused) 0 front true (rest k 0)
+pub starts : (mat : ℕ → Maturity) (e : ℕ) (kind : Kind) (k front : ℕ) → k ≡ kindNumber kind → e ≤ 36525
+    → Walking mat e k front (replicate 15 unused) 0 front true (rest k 0)
 starts mat e kind k front q h =
     rw q (record { row = kind-below kind; ends = h; so-far = refl; few = omega arith; room = rest-room kind; same = refl })
 
@@ -172,7 +174,8 @@ module _ {mat : ℕ → Maturity} {e k front : ℕ} {a : List Maturity} {n from 
     has-room h = omega (arith, sizes, w .room)
 
     -- a key is taken
-    pub takes : (m : ℕ) → j < c → m ≡ nextOf e p from → m < e → Walking mat e k front (set a n (mat m)) (n + 1) (m + 1) complete (replicate (c - (j + 1)) p ++ r)
+    pub takes : (m : ℕ) → j < c → m ≡ nextOf e p from → m < e
+        → Walking mat e k front (set a n (mat m)) (n + 1) (m + 1) complete (replicate (c - (j + 1)) p ++ r)
     takes m h q l =
         record {
           row = w .row;
@@ -209,7 +212,8 @@ unfolding taken
 taken-length e [] f = omega arith
 taken-length e (p ∷ ps) f = go (ltb (nextOf e p f) e) (taken-length e ps (suc (nextOf e p f)))
   where
-    go : (b : Bool) → length (taken e ps (suc (nextOf e p f))) ≤ length ps → length (cond b (nextOf e p f ∷ taken e ps (suc (nextOf e p f))) []) ≤ suc (length ps)
+    go : (b : Bool) → length (taken e ps (suc (nextOf e p f))) ≤ length ps
+        → length (cond b (nextOf e p f ∷ taken e ps (suc (nextOf e p f))) []) ≤ suc (length ps)
     go true h = omega arith
     go false h = omega arith
 

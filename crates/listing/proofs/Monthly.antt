@@ -139,8 +139,11 @@ month-rises d e h = go (lt-or-ge e 36525)
 month-start : (y : ℕ) → 2000 ≤ y → y ≤ 2100 → (monthOf (yearStart y) ≡ 12 * (y - 2000)) × (yearStart y ≡ firstDay (12 * (y - 2000)))
 unfolding yearStart
 month-start y a b =
-    let q : firstOf (12 * (y - 2000)) ≡ firstDay (12 * (y - 2000)) = first-to (12 * (y - 2000)) (omega arith) in
-    (month-is (12 * (y - 2000)) (firstOf (12 * (y - 2000))) (omega arith) (omega arith) (omega (arith, first-suc (12 * (y - 2000)), length-bounds (12 * (y - 2000)))), q)
+    let q : firstOf (12 * (y - 2000)) ≡ firstDay (12 * (y - 2000)) = first-to (12 * (y - 2000)) (omega arith) in (
+      month-is (12 * (y - 2000)) (firstOf (12 * (y - 2000))) (omega arith) (omega arith)
+          (omega (arith, first-suc (12 * (y - 2000)), length-bounds (12 * (y - 2000)))),
+      q,
+    )
 
 module _ (c : Cover) where
   -- the months of the cover

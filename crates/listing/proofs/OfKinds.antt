@@ -105,7 +105,8 @@ module _ (c : Cover) (kind : Kind) (group : List ℕ) where
       omega (arith, rule-beyond, front-most r rule-lawful cal date, count-most (r .counted) (front r cal date - r .first) (r .first))
 
   -- all that are counted
-  pub rule-keys : countFrom (coverRule c kind group .counted) (coverRule c kind group .beyond - coverRule c kind group .first) (coverRule c kind group .first) ≡ keysOf c kind
+  pub rule-keys : countFrom (coverRule c kind group .counted) (coverRule c kind group .beyond - coverRule c kind group .first) (coverRule c kind group .first)
+      ≡ keysOf c kind
   unfolding coverRule keysOf
   rule-keys = refl
 
@@ -142,7 +143,12 @@ module _ (c : Cover) (kind : Kind) (group : List ℕ) where
   rule-apart valid j k l h a b = go kind h a b
     where
       in-months : k < monthOf (coverEnd c) → monthAnchor group j + 7 ≤ monthAnchor group k
-      in-months h = omega (arith, months c valid .last, anchor-next group j (omega (arith, months c valid .last)), risen (monthAnchor group) (anchor-rises group) (suc j) k l)
+      in-months h = omega (
+        arith,
+        months c valid .last,
+        anchor-next group j (omega (arith, months c valid .last)),
+        risen (monthAnchor group) (anchor-rises group) (suc j) k l,
+      )
 
       go : (kind : Kind) → k < cond (isWeekly kind) (coverEnd c) (monthOf (coverEnd c))
           → widest (placesOf (rowOf kind) (setsOf kind)) j ≡ true → widest (placesOf (rowOf kind) (setsOf kind)) k ≡ true
@@ -162,7 +168,8 @@ months-most c kind valid e =
     omega (arith, months c valid .most, count-most (countedFor kind) n (keyOf kind (coverStart c)))
 
 module _ (cal : Calendar) (kind : Kind) (group : List ℕ) (weeks : everyWeek cal ≡ true) where
-  near : (k : ℕ) → coverStart (cal .cover) + 6 ≤ anchorOf kind group k → anchorOf kind group k < coverEnd (cal .cover) → anchorOf kind group k ≤ lastDay cal (anchorOf kind group k) + 6
+  near : (k : ℕ) → coverStart (cal .cover) + 6 ≤ anchorOf kind group k → anchorOf kind group k < coverEnd (cal .cover)
+      → anchorOf kind group k ≤ lastDay cal (anchorOf kind group k) + 6
   near k a b = rw (last-is cal (anchorOf kind group k)) (within-six cal weeks (anchorOf kind group k) a b)
 
   -- where the anchor and the six days before it are in the cover, the last trading day lies at most six days before it
@@ -174,7 +181,8 @@ module _ (cal : Calendar) (kind : Kind) (group : List ℕ) (weeks : everyWeek ca
   -- the last trading days of a listing rise strictly
   pub days-strict : validCover (cal .cover) ≡ true → (date : ℕ) → inCover (cal .cover) date ≡ true → weekIntoCover kind (cal .cover) date ≡ true
       → (i j : ℕ) → i < j → j < length (freshKeys (ruleOf cal kind group) cal date)
-      → lastTradingDay cal kind group (getD (freshKeys (ruleOf cal kind group) cal date) i 0) < lastTradingDay cal kind group (getD (freshKeys (ruleOf cal kind group) cal date) j 0)
+      → lastTradingDay cal kind group (getD (freshKeys (ruleOf cal kind group) cal date) i 0) < lastTradingDay cal kind group
+      (getD (freshKeys (ruleOf cal kind group) cal date) j 0)
   unfolding lastTradingDay
   days-strict valid date e w i j l h =
       let r = ruleOf cal kind group in

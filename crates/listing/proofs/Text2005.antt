@@ -277,7 +277,8 @@ module _ (e front : ℕ) where
         next-length (5 ∷ []) 1 year-may e front,
         next-length (7 ∷ []) 1 year-july e front,
         next-length names2005 7 year-7 e front,
-        count-parts (λ m. inSet names2005 m && ltb m e) (λ m. inSet quarters m && ltb m e) (λ m. inSet (4 ∷ []) m && ltb m e) (λ m. inSet (5 ∷ []) m && ltb m e) (λ m. inSet (7 ∷ []) m && ltb m e)
+        count-parts (λ m. inSet names2005 m && ltb m e) (λ m. inSet quarters m && ltb m e) (λ m. inSet (4 ∷ []) m && ltb m e) (λ m. inSet (5 ∷ []) m && ltb m e)
+            (λ m. inSet (7 ∷ []) m && ltb m e)
             (λ m. and-bit (inSet names2005 m) (inSet quarters m) (inSet (4 ∷ []) m) (inSet (5 ∷ []) m) (inSet (7 ∷ []) m) (ltb m e) (seven m)) 12 front,
       )
 
@@ -315,7 +316,8 @@ module _ (cal : Calendar) (group : List ℕ) (date : ℕ) where
       e = monthOf (coverEnd (cal .cover))
 
       go : (e < monthOf date) ⊎ (monthOf date ≤ e) → firstFrom test e (e - monthOf date) (monthOf date) ≡ firstFrom test e e 0
-      go (inl l) = search-none test e e (monthOf date) (omega arith) ∙ sym (search-none test e e e (omega arith)) ∙ skip test e e e (omega arith) (λ k h. ended k (omega arith))
+      go (inl l) = search-none test e e (monthOf date) (omega arith) ∙ sym (search-none test e e e (omega arith)) ∙
+          skip test e e e (omega arith) (λ k h. ended k (omega arith))
       go (inr l) = skip test e e (monthOf date) l (λ k h. ended k h)
 
   -- the fresh listing of a future of 2005

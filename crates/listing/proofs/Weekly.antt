@@ -82,7 +82,8 @@ fridays-before (suc x) = go (lt-or-ge x 36525) (fridays-before x)
     inside s ih (inl l) = same (month-is (monthOf x) (suc x) (omega (arith, s .within)) (omega (arith, s .from)) l) ih
     inside s ih (inr l) =
         let m = monthOf x in
-        let q : monthOf (suc x) ≡ suc m = month-is (suc m) (suc x) (omega (arith, s .within)) l (omega (arith, first-suc (suc m), length-bounds (suc m), s .until)) in
+        let q : monthOf (suc x) ≡ suc m = month-is (suc m) (suc x) (omega (arith, s .within)) l
+        (omega (arith, first-suc (suc m), length-bounds (suc m), s .until)) in
         let t = third-in m (omega (arith, s .within)) in
         let u = third-in (suc m) (omega (arith, s .within)) in
         let a : passed m x ≡ 1 = rw (lt-ltb (thirdFriday m) x (omega (arith, t, first-suc m, length-bounds m))) in
@@ -103,11 +104,13 @@ fridays-from s x h =
 
 -- the code's count of the weekly Fridays before a day
 pub before-passed : (x m t : ℕ) → m ≡ monthOf x → t ≡ thirdFriday m → t < x → (m + 1 ≤ x / 7) × (x / 7 - m - 1 ≡ countFrom weeklyFriday x 0)
-before-passed x m t q r l = let a : passed (monthOf x) x ≡ 1 = rw (← q, ← r, lt-ltb t x l) in (omega (arith, q, fridays-before x), omega (arith, q, fridays-before x))
+before-passed x m t q r l = let a : passed (monthOf x) x ≡ 1 = rw (← q, ← r, lt-ltb t x l) in
+    (omega (arith, q, fridays-before x), omega (arith, q, fridays-before x))
 
 -- on or before its month's third Friday, a day has before it as many weekly Fridays as whole weeks less its month number
 pub before-ahead : (x m t : ℕ) → m ≡ monthOf x → t ≡ thirdFriday m → x ≤ t → (m ≤ x / 7) × (x / 7 - m ≡ countFrom weeklyFriday x 0)
-before-ahead x m t q r l = let a : passed (monthOf x) x ≡ 0 = rw (← q, ← r, le-ltb t x l) in (omega (arith, q, fridays-before x), omega (arith, q, fridays-before x))
+before-ahead x m t q r l = let a : passed (monthOf x) x ≡ 0 = rw (← q, ← r, le-ltb t x l) in
+    (omega (arith, q, fridays-before x), omega (arith, q, fridays-before x))
 
 counted-five : (kind : Kind) → isWeekly kind ≡ true → countedFor kind ≡ weeklyFriday
 unfolding countedFor

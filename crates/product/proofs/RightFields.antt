@@ -34,5 +34,6 @@ module _ (id group market : List ℕ) (kind size tick : ℕ) (currency : List �
     unfolding fieldsRight
     fields-with-size other s =
         and-both {a = to-kind && sizeRight other && tickRight tick}
-        (and-both {a = to-kind && sizeRight other} (and-both {a = to-kind} (and-fst to-kind (sizeRight size) to-size) s) (and-snd (to-kind && sizeRight size) (tickRight tick) to-tick))
+        (and-both {a = to-kind && sizeRight other} (and-both {a = to-kind} (and-fst to-kind (sizeRight size) to-size) s)
+        (and-snd (to-kind && sizeRight size) (tickRight tick) to-tick))
         (and-snd (to-kind && sizeRight size && tickRight tick) (currencyRight currency) right)

@@ -109,7 +109,8 @@ module _ (judged : FileCalendar) (f text calls calls′ ids ids′ : List ℕ) (
       record {
         input = o .ran .input;
         count = o .ran .long;
-        is = λ rest w. rw (w (r .0)) (query-count f text n (i .bytes) o ∙ ap (λ (x : List ℕ). counted 0 (length (queryText f text x))) (sym (append-nil (o .ran .input))));
+        is = λ rest w. rw (w (r .0)) (query-count f text n (i .bytes) o ∙
+            ap (λ (x : List ℕ). counted 0 (length (queryText f text x))) (sym (append-nil (o .ran .input))));
       }
 
   -- of notices with a bad line nothing is written, whatever the input

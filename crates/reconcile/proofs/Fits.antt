@@ -45,7 +45,8 @@ unfolding differencesHeading
 heading-short = omega arith
 
 -- the line of the counts has fewer than 64 bytes, and its first count is that of the file's products
-pub counts-line : (f : List ℕ) (n rows differ bad : ℕ) → n ≡ recordCount f → n ≤ placeCount f → length f ≤ 65537 → rows ≤ 65536 → differ < 1000000000 → bad < 1000000000
+pub counts-line : (f : List ℕ) (n rows differ bad : ℕ) → n ≡ recordCount f → n ≤ placeCount f → length f ≤ 65537 → rows ≤ 65536 → differ < 1000000000
+    → bad < 1000000000
     → (l : Line) → LineWith emptyLine (summaryText n rows differ bad) l
     → (length (summaryText (recordCount f) rows differ bad) < 64) × LineWith emptyLine (summaryText (recordCount f) rows differ bad) l
 counts-line f n rows differ bad e most size few some bads l made =
@@ -83,7 +84,8 @@ module _ (f notices : List ℕ) (verdict : Answer Calendar) (own : verdict ≡ j
       → (length (reconcileTold f notices []) < 64) × LineWith emptyLine (reconcileTold f notices []) l
   refused-line some l made = rw (← refused-is some) (master-short (verdict .refusal), made)
 
-  module _ (yes : verdict .refusal ≡ 0) (calls ids : List ℕ) (t : NoticesTaken) (held : toldIn t calls ids ≡ toldHeld (textTold notices)) (some : t .bad ≡ 0 → ⊥) where
+  module _ (yes : verdict .refusal ≡ 0) (calls ids : List ℕ) (t : NoticesTaken) (held : toldIn t calls ids ≡ toldHeld (textTold notices))
+      (some : t .bad ≡ 0 → ⊥) where
     bad-own : t .bad ≡ textTold notices .bad
     bad-own = ap (λ (x : notice.Told). x .bad) held
 
@@ -93,5 +95,6 @@ module _ (f notices : List ℕ) (verdict : Answer Calendar) (own : verdict ≡ j
         rw (eq-eqb (firstNo (loadAsks f)) 0 (sym (first-is f verdict own) ∙ yes), ne-eqb (textTold notices .bad) 0 (λ e. some (bad-own ∙ e)), bad-own) refl
 
     -- of notices with a bad line its number is all that is told
-    pub bad-line : (l : Line) → LineWith emptyLine (badNoticeText (t .bad)) l → (length (reconcileTold f notices []) < 64) × LineWith emptyLine (reconcileTold f notices []) l
+    pub bad-line : (l : Line) → LineWith emptyLine (badNoticeText (t .bad)) l
+        → (length (reconcileTold f notices []) < 64) × LineWith emptyLine (reconcileTold f notices []) l
     bad-line l made = rw (← bad-is) (bad-short (t .bad), made)

@@ -88,7 +88,8 @@ unfolding below
 below-cons zero y ys = rw (le-ltb y 0 (omega arith))
 below-cons (suc n) y ys = go (lt-or-ge y n) (eqb y n) refl (below-cons n y ys)
   where
-    go : (y < n) ⊎ (n ≤ y) → (c : Bool) → eqb y n ≡ c → below n (y ∷ ys) ≡ cond (ltb y n) 1 0 + below n ys → below n (y ∷ ys) + (cond (eqb y n) 1 0 + times ys n) ≡ cond (ltb y (suc n)) 1 0 + (below n ys + times ys n)
+    go : (y < n) ⊎ (n ≤ y) → (c : Bool) → eqb y n ≡ c → below n (y ∷ ys) ≡ cond (ltb y n) 1 0 + below n ys
+        → below n (y ∷ ys) + (cond (eqb y n) 1 0 + times ys n) ≡ cond (ltb y (suc n)) 1 0 + (below n ys + times ys n)
     go (inl l) true e ih = absurd (omega (arith, eqb-true y n e))
     go (inl l) false e ih = rw (e, lt-ltb y (suc n) (omega arith)) (omega (arith, rw (lt-ltb y n l) at ih))
     go (inr l) true e ih = rw (e, lt-ltb y (suc n) (omega (arith, eqb-true y n e))) (omega (arith, rw (le-ltb y n l) at ih))

@@ -63,9 +63,13 @@ module _ (tables : List ℕ) (n : ℕ) (fits : n ≤ length tables) where
     rest-length = length-slice few n tables fits
 
     -- the queue that a call of the round fills
-    pub handled-is : (first rest all : List ℕ) → first ≡ places200 (take few tables) → rest ≡ places200 (drop few (take n tables)) → all ≡ places200 (take (n - few) rest ++ take few tables)
+    pub handled-is : (first rest all : List ℕ) → first ≡ places200 (take few tables) → rest ≡ places200 (drop few (take n tables))
+        → all ≡ places200 (take (n - few) rest ++ take few tables)
         → record { refusal = 0; taken = record { tables = first; count = few }; queue = record { tables = all; count = n } } ≡ handled (take n tables) b
-    handled-is first rest all p r a = rw (queue-is (take b (take n tables)) first few p1 few-length, queue-is (drop b (take n tables) ++ take b (take n tables)) all n a1 a2)
+    handled-is first rest all p r a = rw (
+      queue-is (take b (take n tables)) first few p1 few-length,
+      queue-is (drop b (take n tables) ++ take b (take n tables)) all n a1 a2,
+    )
       where
         p1 : first ≡ places200 (take b (take n tables))
         p1 = p ∙ ap places200 few-take
@@ -77,18 +81,29 @@ module _ (tables : List ℕ) (n : ℕ) (fits : n ≤ length tables) where
         a1 = a ∙ ap (λ (l : List ℕ). places200 (l ++ take few tables)) r1 ∙ ap (λ (l : List ℕ). places200 (drop b (take n tables) ++ l)) few-take
 
         a2 : n ≡ length (drop b (take n tables) ++ take b (take n tables))
-        a2 = omega (arith, length-append (drop b (take n tables)) (take b (take n tables)), few-length, few-least, rest-length, ap (λ (l : List ℕ). length l) few-drop)
+        a2 = omega (
+          arith,
+          length-append (drop b (take n tables)) (take b (take n tables)),
+          few-length,
+          few-least,
+          rest-length,
+          ap (λ (l : List ℕ). length l) few-drop,
+        )
 
   -- the one that a joining fills
   pub joined-is : (table : ℕ) (all : List ℕ) → n < 200 → all ≡ places200 (take n tables)
-      → _≡_ {A = Changed} (record { refusal = 0; queue = record { tables = set all n table; count = n + 1 } }) (record { refusal = 0; queue = queueOf (take n tables ++ (table ∷ [])) })
+      → _≡_ {A = Changed} (record { refusal = 0; queue = record { tables = set all n table; count = n + 1 } })
+      (record { refusal = 0; queue = queueOf (take n tables ++ (table ∷ [])) })
   joined-is table all h e =
       let l = length-take-le n tables fits in
-      rw (queue-is (take n tables ++ (table ∷ [])) (set all n table) (n + 1) (put-place (take n tables) table all n l h e) (omega (arith, l, length-append (take n tables) (table ∷ []))))
+      rw (queue-is (take n tables ++ (table ∷ [])) (set all n table) (n + 1) (put-place (take n tables) table all n l h e)
+      (omega (arith, l, length-append (take n tables) (table ∷ []))))
 
   -- the one that a leaving fills
-  pub left-is : (index : ℕ) (before all : List ℕ) → index < n → before ≡ places200 (take index tables) → all ≡ places200 (take index before ++ drop (index + 1) (take n tables))
-      → _≡_ {A = Changed} (record { refusal = 0; queue = record { tables = all; count = n - 1 } }) (record { refusal = 0; queue = queueOf (take index (take n tables) ++ drop (index + 1) (take n tables)) })
+  pub left-is : (index : ℕ) (before all : List ℕ) → index < n → before ≡ places200 (take index tables)
+      → all ≡ places200 (take index before ++ drop (index + 1) (take n tables))
+      → _≡_ {A = Changed} (record { refusal = 0; queue = record { tables = all; count = n - 1 } })
+      (record { refusal = 0; queue = queueOf (take index (take n tables) ++ drop (index + 1) (take n tables)) })
   left-is index before all h e a =
       rw (queue-is (take index (take n tables) ++ drop (index + 1) (take n tables)) all (n - 1) a1 a2)
     where
@@ -103,7 +118,13 @@ module _ (tables : List ℕ) (n : ℕ) (fits : n ≤ length tables) where
 
       a2 : n - 1 ≡ length (take index (take n tables) ++ drop (index + 1) (take n tables))
       a2 =
-          omega (arith, length-append (take index (take n tables)) (drop (index + 1) (take n tables)), ap (λ (zs : List ℕ). length zs) t, l, length-slice (index + 1) n tables fits)
+          omega (
+            arith,
+            length-append (take index (take n tables)) (drop (index + 1) (take n tables)),
+            ap (λ (zs : List ℕ). length zs) t,
+            l,
+            length-slice (index + 1) n tables fits,
+          )
 
 -- a number stands in a list where its index is one of the list's
 pub stands : (xs : List ℕ) (x : ℕ) → indexOf xs x < length xs → oneOf xs x ≡ true
@@ -145,7 +166,8 @@ without-once x (z ∷ xs) h e = go (eqb x z) refl h e (without-once x xs)
 
     go : (c : Bool) → eqb x z ≡ c → cond (eqb z x) 1 0 + times xs x ≤ 1 → (c || oneOf xs x) ≡ true
         → (times xs x ≤ 1 → oneOf xs x ≡ true → without x xs ≡ take (indexOf xs x) xs ++ drop (suc (indexOf xs x)) xs)
-        → cond (eqb z x) (without x xs) (z ∷ without x xs) ≡ take (cond c 0 (suc (indexOf xs x))) (z ∷ xs) ++ drop (suc (cond c 0 (suc (indexOf xs x)))) (z ∷ xs)
+        → cond (eqb z x) (without x xs) (z ∷ without x xs)
+        ≡ take (cond c 0 (suc (indexOf xs x))) (z ∷ xs) ++ drop (suc (cond c 0 (suc (indexOf xs x)))) (z ∷ xs)
     go true q h e ih =
         let s : eqb z x ≡ true = eq-eqb z x (sym (eqb-true x z q)) in
         rw s (without-absent x xs (less (rw s at h)))

@@ -25,7 +25,8 @@ module _ (l : List ℕ) where
       let (a, b) = both (leb (getD l n 0) 199) (every n (λ j. not (eqb (getD l j 0) (getD l n 0)))) p in
       distinct-more l n (distinct-places n (every-all (queuePlaceRight l) n (λ k h. every-at (queuePlaceRight l) (suc n) k e (omega arith))))
       (leb-true _ _ a)
-      (λ j h q. clash (eq-eqb (getD l j 0) (getD l n 0) q) (not-true (eqb (getD l j 0) (getD l n 0)) (every-at (λ j. not (eqb (getD l j 0) (getD l n 0))) n j b h)))
+      (λ j h q. clash (eq-eqb (getD l j 0) (getD l n 0) q)
+      (not-true (eqb (getD l j 0) (getD l n 0)) (every-at (λ j. not (eqb (getD l j 0) (getD l n 0))) n j b h)))
 
 -- a right queue has every table at most once
 pub distinct-queue : (q : Queue) → queueRight q ≡ true → Distinct (queued q)

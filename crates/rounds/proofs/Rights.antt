@@ -18,7 +18,8 @@ use Rattle.questions.proofs.Search.{every-all}
 use Rattle.rounds.proofs.Distinct.{times, Distinct, times-append, no-fewer, joined-distinct, at-most-200, room-for}
 use Rattle.rounds.proofs.Queues.{distinct-queue}
 use Rattle.rounds.specs.declared.Queue.{Queue}
-use Rattle.rounds.specs.Rounds.{queued, queuePlaceRight, queueRight, places200, queueOf, tableNumberRight, handleAsks, handleCall, changed, joinAsks, joinCall, leaveAsks, without, leaveCall}
+use Rattle.rounds.specs.Rounds.{queued, queuePlaceRight, queueRight, places200, queueOf, tableNumberRight, handleAsks, handleCall, changed, joinAsks}
+use Rattle.rounds.specs.Rounds.{joinCall, leaveAsks, without, leaveCall}
 
 -- the first ones alone: no other numbers
 first-distinct : (b : ℕ) (xs : List ℕ) → Distinct xs → Distinct (take b xs)
@@ -63,7 +64,8 @@ stands-twice : (xs : List ℕ) (j i : ℕ) → j < i → i < length xs → getD 
 stands-twice [] j i g h e = absurd (omega arith)
 stands-twice (y ∷ xs) j zero g h e = absurd (omega arith)
 stands-twice (y ∷ xs) zero (suc i) g h e = rw (eq-eqb y (getD xs i 0) e) (omega (arith, stands-at xs i (omega arith)))
-stands-twice (y ∷ xs) (suc j) (suc i) g h e = omega (arith, stands-twice xs j i (omega arith) (omega arith) e, no-fewer (eqb y (getD xs i 0)) (times xs (getD xs i 0)))
+stands-twice (y ∷ xs) (suc j) (suc i) g h e =
+    omega (arith, stands-twice xs j i (omega arith) (omega arith) e, no-fewer (eqb y (getD xs i 0)) (times xs (getD xs i 0)))
 
 -- a queue of such numbers is right
 module _ (xs : List ℕ) (d : Distinct xs) where
@@ -75,7 +77,9 @@ module _ (xs : List ℕ) (d : Distinct xs) where
   place i h =
       let e = List·getD-append xs (replicate (200 - length xs) 0) 0 i h in
       and-both (le-leb (getD tables i 0) 199 (rw e (small (lt-or-ge (getD xs i 0) 200))))
-      (every-all (λ j. not (eqb (getD tables j 0) (getD tables i 0))) i (λ j g. rw (e, List·getD-append xs (replicate (200 - length xs) 0) 0 j (omega arith)) (ap not (ne-eqb (getD xs j 0) (getD xs i 0) (λ q. absurd (omega (arith, stands-twice xs j i g h q, d .once (getD xs i 0))))))))
+      (every-all (λ j. not (eqb (getD tables j 0) (getD tables i 0))) i
+      (λ j g. rw (e, List·getD-append xs (replicate (200 - length xs) 0) 0 j (omega arith))
+      (ap not (ne-eqb (getD xs j 0) (getD xs i 0) (λ q. absurd (omega (arith, stands-twice xs j i g h q, d .once (getD xs i 0))))))))
     where
       small : (getD xs i 0 < 200) ⊎ (200 ≤ getD xs i 0) → getD xs i 0 ≤ 199
       small (inl l) = omega arith

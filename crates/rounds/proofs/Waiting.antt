@@ -1,4 +1,5 @@
--- A table waits at most as many accepted calls of the round as its place, divided by b and rounded up: each of them takes it or moves it up by b places, and nothing else moves it back.
+-- A table waits at most as many accepted calls of the round as its place, divided by b and rounded up: each of them takes it or moves it up by b
+-- places, and nothing else moves it back.
 -- Assumes nothing.
 use Prim.Native.Nat.{ℕ, zero, suc, _+_, _-_, _*_, _≤_, _<_}
 use mathlib.Core.Path.{_≡_, refl, _∙_, sym, ap}
@@ -18,8 +19,10 @@ use Rattle.rounds.proofs.Rights.{handle-right, join-right, leave-right,
 use Rattle.rounds.specs.declared.Queue.{Queue}
 use Rattle.rounds.specs.declared.Handled.{Handled}
 use Rattle.rounds.specs.declared.Changed.{Changed}
-use Rattle.rounds.specs.Rounds.{queued, queueRight, places200, queueOf, handleAsks, handled, handleCall, changed, joinAsks, joinCall, leaveAsks, without, leaveCall}
-use Rattle.rounds.specs.Waiting.{Event, handle, join, leave, queueRun, callCount, callsIn, sameAt, staysSame, takes, takenWithin, leavesIn, roundedUp, Waiting}
+use Rattle.rounds.specs.Rounds.{queued, queueRight, places200, queueOf, handleAsks, handled, handleCall, changed, joinAsks, joinCall, leaveAsks, without}
+use Rattle.rounds.specs.Rounds.{leaveCall}
+use Rattle.rounds.specs.Waiting.{Event, handle, join, leave, queueRun, callCount, callsIn, sameAt, staysSame, takes, takenWithin, leavesIn, roundedUp}
+use Rattle.rounds.specs.Waiting.{Waiting}
 
 -- the numbers of a queue of numbers
 queued-of : (xs : List ℕ) → queued (queueOf xs) ≡ xs
@@ -50,7 +53,8 @@ unfolding without
 without-append y [] t = refl
 without-append y (z ∷ s) t = go (eqb z y) (without-append y s t)
   where
-    go : (c : Bool) → without y (s ++ t) ≡ without y s ++ without y t → cond c (without y (s ++ t)) (z ∷ without y (s ++ t)) ≡ cond c (without y s) (z ∷ without y s) ++ without y t
+    go : (c : Bool) → without y (s ++ t) ≡ without y s ++ without y t
+        → cond c (without y (s ++ t)) (z ∷ without y (s ++ t)) ≡ cond c (without y s) (z ∷ without y s) ++ without y t
     go true e = e
     go false e = ap (λ (l : List ℕ). z ∷ l) e
 
@@ -104,7 +108,8 @@ one-more b n = mul-add b 1 n ∙ ap (λ (m : ℕ). m + b * n) (mul-one b)
 
 -- a table with fewer than b · n before it is taken within n calls of the events that follow, whatever the queue then is
 abbrev Waits : ℕ → List Event → ℕ → Type 0
-Waits b es x = (n : ℕ) (q : Queue) (s t : List ℕ) → queued q ≡ s ++ (x ∷ t) → staysSame b q es ≡ true → leavesIn q es x ≡ false → length s < b * n → n ≤ callsIn q es → takenWithin n q es x ≡ true
+Waits b es x = (n : ℕ) (q : Queue) (s t : List ℕ) → queued q ≡ s ++ (x ∷ t) → staysSame b q es ≡ true → leavesIn q es x ≡ false → length s < b * n
+    → n ≤ callsIn q es → takenWithin n q es x ≡ true
 
 -- some calls are left
 some-left : (b n k : ℕ) → k < b * n → ltb 0 n ≡ true
@@ -116,7 +121,8 @@ module _ (b : ℕ) (es : List Event) (x : ℕ) (later : Waits b es x) (q : Queue
   rotated = queueOf (drop b (queued q) ++ take b (queued q))
 
   -- an accepted call takes the table, or moves it up
-  handle-accepted : (n : ℕ) → staysSame b rotated es ≡ true → leavesIn rotated es x ≡ false → length s < b * (1 + n) → n ≤ callsIn rotated es → (oneOf (queued (queueOf (take b (queued q)))) x || takenWithin n rotated es x) ≡ true
+  handle-accepted : (n : ℕ) → staysSame b rotated es ≡ true → leavesIn rotated es x ≡ false → length s < b * (1 + n) → n ≤ callsIn rotated es
+      → (oneOf (queued (queueOf (take b (queued q)))) x || takenWithin n rotated es x) ≡ true
   handle-accepted n u l h m = side (lt-or-ge (length s) b)
     where
       side : (length s < b) ⊎ (b ≤ length s) → (oneOf (queued (queueOf (take b (queued q)))) x || takenWithin n rotated es x) ≡ true
@@ -136,7 +142,8 @@ module _ (b : ℕ) (es : List Event) (x : ℕ) (later : Waits b es x) (q : Queue
   abbrev Handles : ℕ → ℕ → Type 0
   Handles n other = (takes q (handle other) x || takenWithin (suc n - callCount q (handle other)) (handleCall q other .queue) es x) ≡ true
 
-  handle-next : (n other : ℕ) → sameAt b q (handle other) ≡ true → staysSame b (handleCall q other .queue) es ≡ true → leavesIn (handleCall q other .queue) es x ≡ false
+  handle-next : (n other : ℕ) → sameAt b q (handle other) ≡ true → staysSame b (handleCall q other .queue) es ≡ true
+      → leavesIn (handleCall q other .queue) es x ≡ false
       → length s < b * suc n → suc n ≤ callCount q (handle other) + callsIn (handleCall q other .queue) es → Handles n other
   handle-next n other o u l h m = go (eqb (firstNo (handleAsks q other)) 0) refl
     where
@@ -147,15 +154,18 @@ module _ (b : ℕ) (es : List Event) (x : ℕ) (later : Waits b es x) (q : Queue
           let j : handleCall q other ≡ handled (queued q) b = accepted ∙ ap (handled (queued q)) same in
           let m1 : suc n ≤ 1 + callsIn rotated es = rw j at m in
           let one-less : suc n - 1 ≡ n = omega arith in
-          let g : (oneOf (queued (queueOf (take b (queued q)))) x || takenWithin (suc n - 1) rotated es x) ≡ true = rw one-less (handle-accepted n (rw j at u) (rw j at l) (omega (arith, one-more b n)) (omega arith)) in
+          let g : (oneOf (queued (queueOf (take b (queued q)))) x || takenWithin (suc n - 1) rotated es x) ≡ true =
+          rw one-less (handle-accepted n (rw j at u) (rw j at l) (omega (arith, one-more b n)) (omega arith)) in
           rw j g
       go false a =
           let j : handleCall q other ≡ record { refusal = firstNo (handleAsks q other); taken = queueOf []; queue = q } = handle-no q other a in
           let k : callCount q (handle other) ≡ 0 = not-counted q other (ap (λ (c : Handled). eqb (c .refusal) 0) j ∙ a) in
           or-right (takes q (handle other) x)
-          (rw (k, sub-zero (suc n)) (later (suc n) (handleCall q other .queue) s t (ap (λ (c : Handled). queued (c .queue)) j ∙ e) u l h (rw (k, zero-add (callsIn (handleCall q other .queue) es)) at m)))
+          (rw (k, sub-zero (suc n)) (later (suc n) (handleCall q other .queue) s t (ap (λ (c : Handled). queued (c .queue)) j ∙ e) u l h
+          (rw (k, zero-add (callsIn (handleCall q other .queue) es)) at m)))
 
-  handle-waits : (n other : ℕ) → staysSame b q (handle other ∷ es) ≡ true → leavesIn q (handle other ∷ es) x ≡ false → length s < b * n → n ≤ callsIn q (handle other ∷ es) → takenWithin n q (handle other ∷ es) x ≡ true
+  handle-waits : (n other : ℕ) → staysSame b q (handle other ∷ es) ≡ true → leavesIn q (handle other ∷ es) x ≡ false → length s < b * n
+      → n ≤ callsIn q (handle other ∷ es) → takenWithin n q (handle other ∷ es) x ≡ true
   unfolding callsIn staysSame takenWithin leavesIn
   handle-waits zero other u l h m = absurd (omega (arith, mul-zero b))
   handle-waits (suc n) other u l h m =
@@ -163,25 +173,31 @@ module _ (b : ℕ) (es : List Event) (x : ℕ) (later : Waits b es x) (q : Queue
       and-both (some-left b (suc n) (length s) h) (handle-next n other o later-same l h m)
 
   -- a joining
-  join-next : (n y : ℕ) (r : Changed) → r ≡ changed q (joinAsks q y) (queued q ++ (y ∷ [])) → staysSame b (r .queue) es ≡ true → leavesIn (r .queue) es x ≡ false → length s < b * n → n ≤ callsIn (r .queue) es → takenWithin n (r .queue) es x ≡ true
+  join-next : (n y : ℕ) (r : Changed) → r ≡ changed q (joinAsks q y) (queued q ++ (y ∷ [])) → staysSame b (r .queue) es ≡ true
+      → leavesIn (r .queue) es x ≡ false → length s < b * n → n ≤ callsIn (r .queue) es → takenWithin n (r .queue) es x ≡ true
   join-next n y r d u l h m = go (eqb (firstNo (joinAsks q y)) 0) refl
     where
       go : (a : Bool) → eqb (firstNo (joinAsks q y)) 0 ≡ a → takenWithin n (r .queue) es x ≡ true
       go true a =
           let j : r ≡ record { refusal = 0; queue = queueOf (queued q ++ (y ∷ [])) } = d ∙ changed-yes q (joinAsks q y) (queued q ++ (y ∷ [])) a in
           later n (r .queue) s (t ++ (y ∷ []))
-          (ap (λ (c : Changed). queued (c .queue)) j ∙ queued-of (queued q ++ (y ∷ [])) ∙ ap (λ (l : List ℕ). l ++ (y ∷ [])) e ∙ append-assoc s (x ∷ t) (y ∷ []))
+          (ap (λ (c : Changed). queued (c .queue)) j ∙ queued-of (queued q ++ (y ∷ [])) ∙ ap (λ (l : List ℕ). l ++ (y ∷ [])) e ∙
+          append-assoc s (x ∷ t) (y ∷ []))
           u l h m
       go false a =
           let j : r ≡ record { refusal = firstNo (joinAsks q y); queue = q } = d ∙ changed-no q (joinAsks q y) (queued q ++ (y ∷ [])) a in
           later n (r .queue) s t (ap (λ (c : Changed). queued (c .queue)) j ∙ e) u l h m
 
-  join-waits : (n y : ℕ) → staysSame b q (join y ∷ es) ≡ true → leavesIn q (join y ∷ es) x ≡ false → length s < b * n → n ≤ callsIn q (join y ∷ es) → takenWithin n q (join y ∷ es) x ≡ true
+  join-waits : (n y : ℕ) → staysSame b q (join y ∷ es) ≡ true → leavesIn q (join y ∷ es) x ≡ false → length s < b * n → n ≤ callsIn q (join y ∷ es)
+      → takenWithin n q (join y ∷ es) x ≡ true
   unfolding callsIn staysSame takenWithin leavesIn joinCall
-  join-waits n y u l h m = rw (sub-zero n) (and-both (some-left b n (length s) h) (join-next n y (joinCall q y) refl u l h (rw (zero-add (callsIn (joinCall q y .queue) es)) at m)))
+  join-waits n y u l h m = rw (sub-zero n)
+      (and-both (some-left b n (length s) h) (join-next n y (joinCall q y) refl u l h (rw (zero-add (callsIn (joinCall q y .queue) es)) at m)))
 
   -- a leaving, of another table
-  leave-next : (n y : ℕ) (r : Changed) → r ≡ changed q (leaveAsks q y) (without y (queued q)) → (eqb y x && eqb (r .refusal) 0) ≡ false → staysSame b (r .queue) es ≡ true → leavesIn (r .queue) es x ≡ false → length s < b * n → n ≤ callsIn (r .queue) es → takenWithin n (r .queue) es x ≡ true
+  leave-next : (n y : ℕ) (r : Changed) → r ≡ changed q (leaveAsks q y) (without y (queued q)) → (eqb y x && eqb (r .refusal) 0) ≡ false
+      → staysSame b (r .queue) es ≡ true → leavesIn (r .queue) es x ≡ false → length s < b * n → n ≤ callsIn (r .queue) es
+      → takenWithin n (r .queue) es x ≡ true
   leave-next n y r d o u l h m = go (eqb (firstNo (leaveAsks q y)) 0) refl
     where
       go : (a : Bool) → eqb (firstNo (leaveAsks q y)) 0 ≡ a → takenWithin n (r .queue) es x ≡ true
@@ -189,17 +205,20 @@ module _ (b : ℕ) (es : List Event) (x : ℕ) (later : Waits b es x) (q : Queue
           let j : r ≡ record { refusal = 0; queue = queueOf (without y (queued q)) } = d ∙ changed-yes q (leaveAsks q y) (without y (queued q)) a in
           let other : eqb x y ≡ false = ne-eqb x y (λ z. clash (and-both (eq-eqb y x (sym z)) (ap (λ (c : Changed). eqb (c .refusal) 0) j)) o) in
           later n (r .queue) (without y s) (without y t)
-          (ap (λ (c : Changed). queued (c .queue)) j ∙ queued-of (without y (queued q)) ∙ ap (without y) e ∙ without-append y s (x ∷ t) ∙ ap (λ (l : List ℕ). without y s ++ l) (without-other y x t other))
+          (ap (λ (c : Changed). queued (c .queue)) j ∙ queued-of (without y (queued q)) ∙ ap (without y) e ∙ without-append y s (x ∷ t) ∙
+          ap (λ (l : List ℕ). without y s ++ l) (without-other y x t other))
           u l (omega (arith, without-fewer y s)) m
       go false a =
           let j : r ≡ record { refusal = firstNo (leaveAsks q y); queue = q } = d ∙ changed-no q (leaveAsks q y) (without y (queued q)) a in
           later n (r .queue) s t (ap (λ (c : Changed). queued (c .queue)) j ∙ e) u l h m
 
-  leave-waits : (n y : ℕ) → staysSame b q (leave y ∷ es) ≡ true → leavesIn q (leave y ∷ es) x ≡ false → length s < b * n → n ≤ callsIn q (leave y ∷ es) → takenWithin n q (leave y ∷ es) x ≡ true
+  leave-waits : (n y : ℕ) → staysSame b q (leave y ∷ es) ≡ true → leavesIn q (leave y ∷ es) x ≡ false → length s < b * n → n ≤ callsIn q (leave y ∷ es)
+      → takenWithin n q (leave y ∷ es) x ≡ true
   unfolding callsIn staysSame takenWithin leavesIn leaveCall
   leave-waits n y u l h m =
       let (o, later-none) = neither (eqb y x && eqb (leaveCall q y .refusal) 0) (leavesIn (leaveCall q y .queue) es x) l in
-      rw (sub-zero n) (and-both (some-left b n (length s) h) (leave-next n y (leaveCall q y) refl o u later-none h (rw (zero-add (callsIn (leaveCall q y .queue) es)) at m)))
+      rw (sub-zero n) (and-both (some-left b n (length s) h)
+      (leave-next n y (leaveCall q y) refl o u later-none h (rw (zero-add (callsIn (leaveCall q y .queue) es)) at m)))
 
 no-calls : (q : Queue) → callsIn q [] ≡ 0
 unfolding callsIn

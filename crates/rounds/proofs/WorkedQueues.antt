@@ -53,7 +53,8 @@ unfolding takenWithin handleCall joinCall changed firstNo queueRight places200 e
 in-two = refl
 
 -- the same with refused calls between them, of 0 and of 250 tables: b stays the same, and they don't count
-refused-between : (staysSame 3 four (handle 3 ∷ handle 0 ∷ handle 250 ∷ handle 3 ∷ []) ≡ true) × (takenWithin 2 four (handle 3 ∷ handle 0 ∷ handle 250 ∷ handle 3 ∷ []) 2 ≡ true)
+refused-between : (staysSame 3 four (handle 3 ∷ handle 0 ∷ handle 250 ∷ handle 3 ∷ []) ≡ true)
+    × (takenWithin 2 four (handle 3 ∷ handle 0 ∷ handle 250 ∷ handle 3 ∷ []) 2 ≡ true)
 unfolding staysSame takenWithin handleCall firstNo queueRight places200 every oneOf
 refused-between = (refl, refl)
 

@@ -1,4 +1,5 @@
--- A roll whose front stays, and a close on which no listed maturity ends, on a table apart from its maps; a table put together and taken apart again; the answer to a line.
+-- A roll whose front stays, and a close on which no listed maturity ends, on a table apart from its maps; a table put together and taken apart again;
+-- the answer to a line.
 -- Assumes nothing.
 use mathlib.Core.Path.{_≡_, refl, sym, ap, _∙_}
 use mathlib.Core.Bool.{Bool, true, false, _&&_, cond}
@@ -42,29 +43,36 @@ use Rattle.session_apart.specs.Apart.{tableWith, tableRest, keptWith, da
 module _ (rest : Rest) (closed : List ℕ) (len : length (rest .maturities) ≡ 15) where
   -- a roll to a covered day, not before the date, that leaves the first maturity in front changes only the date
   pub rolls-kept : (date : ℕ) → inCover (rest .cover) date ≡ true → leb (rest .date) date ≡ true
-      → eqb (getD (rest .maturities) 0 unused .key) (front (ruleOf (calendarWith (rest .cover) closed) (rest .product .kind) (rest .product .group)) (calendarWith (rest .cover) closed) date) ≡ true
+      → eqb (getD (rest .maturities) 0 unused .key)
+      (front (ruleOf (calendarWith (rest .cover) closed) (rest .product .kind) (rest .product .group)) (calendarWith (rest .cover) closed) date) ≡ true
       → (exchange : List ℕ) → sound (tableWith rest closed exchange) ≡ true
       → rollCall (tableWith rest closed exchange) date ≡ keptIn (tableWith rest closed exchange) (tableWith rest closed exchange .calendar) date
   rolls-kept date c d e exchange s =
       let t = tableWith rest closed exchange in
       let r = ruleOf (t .calendar) (rest .product .kind) (rest .product .group) in
-      let f : eqb (getD (rest .maturities) 0 unused .key) (front r (t .calendar) date) ≡ true = ap (eqb (getD (rest .maturities) 0 unused .key)) (front-second (calendarWith (rest .cover) closed) exchange r date) ∙ e in
+      let f : eqb (getD (rest .maturities) 0 unused .key) (front r (t .calendar) date) ≡ true =
+      ap (eqb (getD (rest .maturities) 0 unused .key)) (front-second (calendarWith (rest .cover) closed) exchange r date) ∙ e in
       roll-16 t date s c d ∙ stays t s len date f
 
   -- closing a covered trading day after the date, on which no maturity ends, with trading left around it, changes only the calendar
-  pub closes-kept : (day : ℕ) → inCover (rest .cover) day ≡ true → rest .date < day → ltb (rest .date) day ≡ true → tradingDay (calendarWith (rest .cover) closed) day ≡ true
+  pub closes-kept : (day : ℕ) → inCover (rest .cover) day ≡ true → rest .date < day → ltb (rest .date) day ≡ true
+      → tradingDay (calendarWith (rest .cover) closed) day ≡ true
       → tradesAround (calendarWith (rest .cover) closed) day ≡ true → noneEndsOn (rest .maturities) day ≡ true
       → (exchange : List ℕ) → sound (tableWith rest closed exchange) ≡ true
-      → closeCall (tableWith rest closed exchange) day ≡ keptIn (tableWith rest closed exchange) (closeDay (tableWith rest closed exchange .calendar) day) (rest .date)
+      → closeCall (tableWith rest closed exchange) day
+      ≡ keptIn (tableWith rest closed exchange) (closeDay (tableWith rest closed exchange .calendar) day) (rest .date)
   closes-kept day c d l w a n exchange s =
       let t = tableWith rest closed exchange in
       let x : tradingDay (t .calendar) day ≡ true = trading-second (calendarWith (rest .cover) closed) exchange day ∙ w in
-      let y : everyWeek (closeDay (t .calendar) day) ≡ true = around-of (t .calendar) day (trades-second (calendarWith (rest .cover) closed) exchange day ∙ a) (sound-parts t s .weeks) in
-      close-16 t day s c l x y ∙ unmoved t s len day d (none-of (rest .maturities) day n) (closeDay (t .calendar) day) (close-cover (t .calendar) day) (last-but (t .calendar) day)
+      let y : everyWeek (closeDay (t .calendar) day) ≡ true =
+      around-of (t .calendar) day (trades-second (calendarWith (rest .cover) closed) exchange day ∙ a) (sound-parts t s .weeks) in
+      close-16 t day s c l x y ∙ unmoved t s len day d (none-of (rest .maturities) day n) (closeDay (t .calendar) day) (close-cover (t .calendar) day)
+      (last-but (t .calendar) day)
 
 -- a table that is kept as it was but for its date and its first map
 moves-kept : (t : Table) (o : Outcome) (rest : Rest) (date : ℕ) (closed exchange : List ℕ)
-    → o ≡ record { refusal = 0; table = tableWith (datedRest rest date .rest) closed exchange; entered = 0; left = 0 } → Moves t o (datedRest rest date) closed exchange
+    → o ≡ record { refusal = 0; table = tableWith (datedRest rest date .rest) closed exchange; entered = 0; left = 0 }
+    → Moves t o (datedRest rest date) closed exchange
 moves-kept t o rest date closed exchange e =
     record {
       refusal = sym (ap (λ (x : Outcome). x .refusal) e);
@@ -75,7 +83,8 @@ moves-kept t o rest date closed exchange e =
 
 module _ (opening : List ℕ → ℕ → Outcome) (rest : Rest) (closed exchange : List ℕ) (c : Command) where
   -- an R whose roll changes only the date gives the rest on the new date, the maps unchanged
-  pub rolled : c .letter ≡ 82 → rollCall (tableWith rest closed exchange) (c .day) ≡ keptIn (tableWith rest closed exchange) (tableWith rest closed exchange .calendar) (c .day)
+  pub rolled : c .letter ≡ 82 → rollCall (tableWith rest closed exchange) (c .day)
+      ≡ keptIn (tableWith rest closed exchange) (tableWith rest closed exchange .calendar) (c .day)
       → Moves (tableWith rest closed exchange) (outcomeOf opening (tableWith rest closed exchange) c) (datedRest rest (c .day)) closed exchange
   rolled l e =
       moves-kept (tableWith rest closed exchange) (outcomeOf opening (tableWith rest closed exchange) c) rest (c .day) closed exchange
@@ -83,7 +92,8 @@ module _ (opening : List ℕ → ℕ → Outcome) (rest : Rest) (closed exchange
 
   -- a C whose closing changes only the calendar gives the rest as it is and the map with the day closed
   pub closed-aside : (map : List ℕ) → c .letter ≡ 67 → map ≡ closeDay (calendarWith (rest .cover) closed) (c .day) .closed
-      → closeCall (tableWith rest closed exchange) (c .day) ≡ keptIn (tableWith rest closed exchange) (closeDay (tableWith rest closed exchange .calendar) (c .day)) (rest .date)
+      → closeCall (tableWith rest closed exchange) (c .day)
+      ≡ keptIn (tableWith rest closed exchange) (closeDay (tableWith rest closed exchange .calendar) (c .day)) (rest .date)
       → Moves (tableWith rest closed exchange) (outcomeOf opening (tableWith rest closed exchange) c) (datedRest rest (rest .date)) map exchange
   unfolding closeDay
   closed-aside map l m e =
@@ -107,7 +117,8 @@ module _ (cover : Cover) (map : List ℕ) (day : ℕ) where
 
 module _ (t : Table) (o : Outcome) (closed exchange : List ℕ) where
   -- a refused command leaves the rest and the maps as they are, nothing entered or left
-  pub whole-refused : (rest : Rest) (q : ℕ) → q ≡ o .refusal → (q ≡ 0 → ⊥) → t ≡ tableWith rest closed exchange → Moves t o (record { refusal = q; rest = rest; entered = 0; left = 0 }) closed exchange
+  pub whole-refused : (rest : Rest) (q : ℕ) → q ≡ o .refusal → (q ≡ 0 → ⊥) → t ≡ tableWith rest closed exchange
+      → Moves t o (record { refusal = q; rest = rest; entered = 0; left = 0 }) closed exchange
   whole-refused rest q e n i =
       record {
         refusal = e;
@@ -118,7 +129,8 @@ module _ (t : Table) (o : Outcome) (closed exchange : List ℕ) where
 
 -- an accepted command gives the rest and the maps of its outcome
 pub whole-accepted : (t : Table) (o p : Outcome) → p ≡ o → p .refusal ≡ 0
-    → Moves t o (record { refusal = 0; rest = tableRest (p .table); entered = p .entered; left = p .left }) (p .table .calendar .closed) (p .table .calendar .exchange)
+    → Moves t o (record { refusal = 0; rest = tableRest (p .table); entered = p .entered; left = p .left }) (p .table .calendar .closed)
+    (p .table .calendar .exchange)
 whole-accepted t o p e z =
     record {
       refusal = sym z ∙ ap (λ (x : Outcome). x .refusal) e;
@@ -127,7 +139,13 @@ whole-accepted t o p e z =
       counts = λ n. absurd (n (sym (ap (λ (x : Outcome). x .refusal) e) ∙ z));
     }
   where
-    own : (p : Outcome) → record { refusal = p .refusal; table = tableWith (tableRest (p .table)) (p .table .calendar .closed) (p .table .calendar .exchange); entered = p .entered; left = p .left } ≡ p
+    own : (p : Outcome) → record {
+      refusal = p .refusal;
+      table =
+          tableWith (tableRest (p .table)) (p .table .calendar .closed) (p .table .calendar .exchange);
+      entered = p .entered;
+      left = p .left;
+    } ≡ p
     own p = refl
 
 -- ---- an open without a whole table: what is listed, and the verdict's calendar
@@ -155,7 +173,8 @@ opened-apart opening t c m closed exchange e v = rw (opens-by opening t c e) at 
 
 -- ---- the answer to a line
 
-module _ (verdict : Answer Calendar) (f : List ℕ) (opened : Bool) (rest : Rest) (first second : List ℕ) (c : Command) (m : Moved) (closed exchange : List ℕ) where
+module _ (verdict : Answer Calendar) (f : List ℕ) (opened : Bool) (rest : Rest) (first second : List ℕ) (c : Command) (m : Moved)
+    (closed exchange : List ℕ) where
   abbrev opening : List ℕ → ℕ → Outcome
   opening = openIn verdict f
 
@@ -180,12 +199,14 @@ module _ (verdict : Answer Calendar) (f : List ℕ) (opened : Bool) (rest : Rest
     pub no-table-apart : (m .refusal ≡ 0 → ⊥) → tableWith (m .rest) closed exchange ≡ before
     no-table-apart n = v .refused (λ z. n (v .refusal ∙ z))
 
-    is-out : m .refusal ≡ 0 → record { refusal = 0; table = tableWith (m .rest) closed exchange; entered = m .entered; left = m .left } ≡ outcomeOf opening before c
+    is-out : m .refusal ≡ 0 → record { refusal = 0; table = tableWith (m .rest) closed exchange; entered = m .entered; left = m .left }
+        ≡ outcomeOf opening before c
     is-out z = v .accepted (sym (v .refusal) ∙ z)
 
     -- after an accepted command its rest and maps are kept, as opened
     pub yes-kept-apart : m .refusal ≡ 0 → keptWith true (m .rest) closed exchange ≡ keptAfter opening h c
-    yes-kept-apart z = yes-kept opening h c b (record { refusal = 0; table = tableWith (m .rest) closed exchange; entered = m .entered; left = m .left }) (is-out z) refl
+    yes-kept-apart z = yes-kept opening h c b (record { refusal = 0; table = tableWith (m .rest) closed exchange; entered = m .entered; left = m .left })
+        (is-out z) refl
 
     -- the maps take no part in what is printed
     pub yes-text-apart : m .refusal ≡ 0
@@ -195,5 +216,7 @@ module _ (verdict : Answer Calendar) (f : List ℕ) (opened : Bool) (rest : Rest
         yes-text opening h c b (record { refusal = 0; table = tableWith (m .rest) closed exchange; entered = m .entered; left = m .left }) (is-out z) refl
 
     -- the table after an accepted command is sound, after an O exactly if its calendar is sound and its product right
-    pub yes-sound-apart : m .refusal ≡ 0 → sound (tableWith (m .rest) closed exchange) ≡ cond (eqb (c .letter) 79) (calendarSound (verdict .value) && productRight (m .rest .product)) true
-    yes-sound-apart z = leaves-sound verdict f before c (record { refusal = 0; table = tableWith (m .rest) closed exchange; entered = m .entered; left = m .left }) (is-out z) refl
+    pub yes-sound-apart : m .refusal ≡ 0 → sound (tableWith (m .rest) closed exchange)
+        ≡ cond (eqb (c .letter) 79) (calendarSound (verdict .value) && productRight (m .rest .product)) true
+    yes-sound-apart z = leaves-sound verdict f before c
+        (record { refusal = 0; table = tableWith (m .rest) closed exchange; entered = m .entered; left = m .left }) (is-out z) refl

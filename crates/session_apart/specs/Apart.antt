@@ -69,7 +69,8 @@ pub record Moves (t : Table) (o : Outcome) (m : Moved) (closed exchange : List �
   pub counts : (o .refusal ≡ 0 → ⊥) → (m .entered ≡ 0) × (m .left ≡ 0)
 
 -- the answer to a command from what is kept, in a buffer from a place on, and what is kept and known after it
-pub record Replies (opening : List ℕ → ℕ → Outcome) (judged : FileCalendar) (right : Bool) (h : Kept) (at : ℕ) (c : Command) (before after : List ℕ) (r : Replied) (closed exchange : List ℕ) : Type 0 where
+pub record Replies (opening : List ℕ → ℕ → Outcome) (judged : FileCalendar) (right : Bool) (h : Kept) (at : ℕ) (c : Command) (before after : List ℕ)
+    (r : Replied) (closed exchange : List ℕ) : Type 0 where
   pub kept : keptWith (r .opened) (r .rest) closed exchange ≡ keptAfter opening h c
   pub text : Printed before after at (r .at) (answerText opening h c)
   pub known : Known judged right (tableWith (r .rest) closed exchange) (r .ten)

@@ -64,7 +64,8 @@ three-no true false c d e = refl
 three-no false b c d e = refl
 
 module _ (p : Product) (cal : Calendar) (date : ℕ)
-    (dated : inCover (cal .cover) date ≡ true) (week : weekIntoCover (p .kind) (cal .cover) date ≡ true) (whole : allInCover cal (p .kind) (p .group) date ≡ true) where
+    (dated : inCover (cal .cover) date ≡ true) (week : weekIntoCover (p .kind) (cal .cover) date ≡ true)
+    (whole : allInCover cal (p .kind) (p .group) date ≡ true) where
   opens-is : calendarSound cal ≡ true → productRight p ≡ true → opens p cal date ≡ true
   unfolding opens
   opens-is e r =
@@ -80,7 +81,8 @@ module _ (p : Product) (cal : Calendar) (date : ℕ)
   opened-is false true e r = rw r (three-no (validCover (cal .cover)) (clean cal) (everyWeek cal) _ e)
   opened-is false false e r = rw r refl
 
-product-is : (p : Product) (cal : Calendar) (date : ℕ) → (calendarSound cal && productRight p) ≡ (calendarSound cal && productRight (openedTable p cal date .product))
+product-is : (p : Product) (cal : Calendar) (date : ℕ)
+    → (calendarSound cal && productRight p) ≡ (calendarSound cal && productRight (openedTable p cal date .product))
 unfolding openedTable
 product-is p cal date = refl
 
@@ -90,7 +92,8 @@ open-leaves verdict f id date e =
     let w = accepted-in verdict f id date e in
     rw (opened-table-in verdict f id date e) (opened-of (productByHalves f id) (verdict .value) date (w .dated) (w .week) (w .whole))
   where
-    opened-of : (p : Product) (cal : Calendar) (date : ℕ) → inCover (cal .cover) date ≡ true → weekIntoCover (p .kind) (cal .cover) date ≡ true → allInCover cal (p .kind) (p .group) date ≡ true
+    opened-of : (p : Product) (cal : Calendar) (date : ℕ) → inCover (cal .cover) date ≡ true → weekIntoCover (p .kind) (cal .cover) date ≡ true
+        → allInCover cal (p .kind) (p .group) date ≡ true
         → sound (openedTable p cal date) ≡ (calendarSound cal && productRight (openedTable p cal date .product))
     opened-of p cal date d w h = opened-is p cal date d w h (calendarSound cal) (productRight p) refl refl ∙ product-is p cal date
 

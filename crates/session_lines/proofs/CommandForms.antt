@@ -14,7 +14,8 @@ use Rattle.days.specs.declared.DayAnswer.{DayAnswer}
 use Rattle.days.specs.declared.DayAnswer.the-variants.{Day, NotADate}
 use Rattle.days.specs.Dates.{dayCall, dayAnswer}
 use Rattle.session_lines.specs.declared.DateRead.{DateRead}
-use Rattle.session_lines.specs.CommandLines.{twoDigits, twoValue, dateForm, yearAt, noDateRead, dateAt, otherLine, moveForm, moveCommand, idForm, idInLine, openForm, openCommand, commandAt}
+use Rattle.session_lines.specs.CommandLines.{twoDigits, twoValue, dateForm, yearAt, noDateRead, dateAt, otherLine, moveForm, moveCommand, idForm}
+use Rattle.session_lines.specs.CommandLines.{idInLine, openForm, openCommand, commandAt}
 
 module _ (f : ℕ → ℕ) where
   -- the date at a place
@@ -24,7 +25,8 @@ module _ (f : ℕ → ℕ) where
     unfolding dateAt
     date-formless e = rw e refl
 
-    module _ (e : dateForm f at ≡ true) (y m d : ℕ) (p : y ≡ yearAt f at) (q : m ≡ twoValue f (at + 5)) (r : d ≡ twoValue f (at + 8)) (a : DayAnswer) (s : dayAnswer a ≡ dayCall y m d) where
+    module _ (e : dateForm f at ≡ true) (y m d : ℕ) (p : y ≡ yearAt f at) (q : m ≡ twoValue f (at + 5)) (r : d ≡ twoValue f (at + 8)) (a : DayAnswer)
+        (s : dayAnswer a ≡ dayCall y m d) where
       called : dayAnswer a ≡ dayCall (yearAt f at) (twoValue f (at + 5)) (twoValue f (at + 8))
       called = s ∙ rw (p, q, r) refl
 
@@ -86,7 +88,8 @@ module _ (f : ℕ → ℕ) where
     -- the form of an opening has an id of at most 4 characters
     pub open-most : openForm f k ≡ true → k ≤ 4
     unfolding openForm
-    open-most e = leb-true k 4 (and-fst (leb k 4) (eqb (f 1) 32 && (idForm f k && eqb (f (2 + k)) 32)) (and-snd (leb 1 k) (leb k 4 && (eqb (f 1) 32 && (idForm f k && eqb (f (2 + k)) 32))) e))
+    open-most e = leb-true k 4 (and-fst (leb k 4) (eqb (f 1) 32 && (idForm f k && eqb (f (2 + k)) 32))
+        (and-snd (leb 1 k) (leb k 4 && (eqb (f 1) 32 && (idForm f k && eqb (f (2 + k)) 32))) e))
 
   module _ (n : ℕ) where
     -- a line shorter than 13 is no opening

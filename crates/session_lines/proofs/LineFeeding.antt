@@ -9,12 +9,14 @@ use native.Mathlib.Nat.{eq-or-lt-of-le}
 use native.Mathlib.Numerals.{add-one}
 use native.Mathlib.Omega.{arith}
 use lib.Dec.{eqb, leb}
-use lib.ListN.{getD, set, length, take, drop, drop-of-length-le, replicate, length-set, length-append, length-replicate, getD-replicate, List·getD-append, List·getD-eq-default}
+use lib.ListN.{getD, set, length, take, drop, drop-of-length-le, replicate, length-set, length-append, length-replicate, getD-replicate, List·getD-append}
+use lib.ListN.{List·getD-eq-default}
 use lib.Seq.{length-take-le, ext-getD, getD-take, getD-append-seam, getD-set-same, getD-set-other, append-snoc, drop-cons}
 use borrow.Author.Tests.{lt-ltb, le-ltb, lt-leb, ne-eqb}
 use Rattle.questions.proofs.Bools.{lt-or-ge}
 use Rattle.session_lines.specs.declared.Line.{Line}
-use Rattle.session_lines.specs.CommandLines.{moveForm, moveCommand, openForm, openCommand, otherLine, commandAt, commandOf, lineCommand, emptyLine, extended, fed}
+use Rattle.session_lines.specs.CommandLines.{moveForm, moveCommand, openForm, openCommand, otherLine, commandAt, commandOf, lineCommand, emptyLine}
+use Rattle.session_lines.specs.CommandLines.{extended, fed}
 
 -- a line of 64 bytes or more is no command
 no-open : (f : ℕ → ℕ) (k : ℕ) → 5 ≤ k → openForm f k ≡ false
@@ -60,7 +62,8 @@ module _ (a b : List ℕ) (byte : ℕ) (same : (i : ℕ) → getD a i 0 ≡ getD
       after : length b < i → getD (set a (length b) byte) i 0 ≡ getD (b ++ (byte ∷ [])) i 0
       after h =
           let n : length (b ++ (byte ∷ [])) ≡ length b + 1 = length-append b (byte ∷ []) in
-          getD-set-other a (length b) i byte 0 (λ e. omega arith) ∙ same i ∙ List·getD-eq-default b 0 (omega arith) ∙ sym (List·getD-eq-default (b ++ (byte ∷ [])) 0 (omega arith))
+          getD-set-other a (length b) i byte 0 (λ e. omega arith) ∙ same i ∙ List·getD-eq-default b 0 (omega arith) ∙
+          sym (List·getD-eq-default (b ++ (byte ∷ [])) 0 (omega arith))
 
       here : i ≡ length b → getD (set a (length b) byte) i 0 ≡ getD (b ++ (byte ∷ [])) i 0
       here e = rw e (getD-set-same a (length b) byte 0 l ∙ sym (getD-append-seam b byte [] 0))
@@ -96,7 +99,8 @@ more-short l bytes byte r f =
         })
     go (inr h) = inr (omega (arith, n), omega (arith, f .count, f .short))
 
-more-long : (l : Line) (bytes : List ℕ) (byte : ℕ) → length (l .bytes) ≡ 64 → 64 ≤ length bytes → l .length ≡ 64 → Holds (extended l byte) (bytes ++ (byte ∷ []))
+more-long : (l : Line) (bytes : List ℕ) (byte : ℕ) → length (l .bytes) ≡ 64 → 64 ≤ length bytes → l .length ≡ 64
+    → Holds (extended l byte) (bytes ++ (byte ∷ []))
 unfolding extended
 more-long l bytes byte r h e =
     rw (le-ltb (l .length) 64 (omega (arith, e)))
@@ -145,7 +149,8 @@ any-length bytes = go (fed-holds bytes .holds)
     l : Line
     l = fed emptyLine bytes
 
-    go : Fed l bytes ⊎ ((64 ≤ length bytes) × (l .length ≡ 64)) → commandAt (λ i. getD (l .bytes) i 0) (l .length) ≡ commandAt (λ i. getD bytes i 0) (length bytes)
+    go : Fed l bytes ⊎ ((64 ≤ length bytes) × (l .length ≡ 64))
+        → commandAt (λ i. getD (l .bytes) i 0) (l .length) ≡ commandAt (λ i. getD bytes i 0) (length bytes)
     go (inl f) = ap (commandAt (λ i. getD (l .bytes) i 0)) (f .count) ∙ ap (λ (g : ℕ → ℕ). commandAt g (length bytes)) (fun-ext (f .same))
     go (inr f) = long-line (λ i. getD (l .bytes) i 0) (l .length) (omega (arith, f .1)) ∙ sym (long-line (λ i. getD bytes i 0) (length bytes) (f .0))
 
@@ -173,7 +178,8 @@ fed-append l [] b = refl
 fed-append l (byte ∷ a) b = fed-append (extended l byte) a b
 
 -- a byte more where there is room for it
-pub extended-is : (bytes : List ℕ) (n byte : ℕ) → n < 64 → extended (record { bytes = bytes; length = n }) byte ≡ record { bytes = set bytes n byte; length = n + 1 }
+pub extended-is : (bytes : List ℕ) (n byte : ℕ) → n < 64
+    → extended (record { bytes = bytes; length = n }) byte ≡ record { bytes = set bytes n byte; length = n + 1 }
 unfolding extended
 extended-is bytes n byte h = rw (lt-ltb n 64 h) refl
 
@@ -202,7 +208,8 @@ fed-done l bytes i h =
     rw z
 
 -- a line that was fed fewer than 64 bytes has these bytes
-pub fed-is : (bytes : List ℕ) → length bytes < 64 → (fed emptyLine bytes .length ≡ length bytes) × (take (fed emptyLine bytes .length) (fed emptyLine bytes .bytes) ≡ bytes)
+pub fed-is : (bytes : List ℕ) → length bytes < 64
+    → (fed emptyLine bytes .length ≡ length bytes) × (take (fed emptyLine bytes .length) (fed emptyLine bytes .bytes) ≡ bytes)
 fed-is bytes h = go (fed-holds bytes .holds)
   where
     l : Line

@@ -89,7 +89,8 @@ put before after at next text r p =
     size = length-append (take at before) text ∙ ap (λ (k : ℕ). k + length text) (length-take-le at before (omega (arith, room-long before at r))) ∙ sym to
 
     sizes : length after ≡ next + length (drop (at + length text) before)
-    sizes = ap length is ∙ length-append (take at before ++ text) (drop (at + length text) before) ∙ ap (λ (k : ℕ). k + length (drop (at + length text) before)) size
+    sizes = ap length is ∙ length-append (take at before ++ text) (drop (at + length text) before) ∙
+        ap (λ (k : ℕ). k + length (drop (at + length text) before)) size
 
 -- ---- the bytes of a part, as long as 512 bytes are free
 
@@ -158,10 +159,12 @@ module _ (opening : List ℕ → ℕ → Outcome) (part before : List ℕ) (s : 
     (end : ℕ) (e : ByteFrom 10 part (s .at) end) (l : Line) (f : l ≡ fed (s .line) (take (end - s .at) (drop (s .at) part))) where
   -- the text and what is kept, from the line's end on
   text-on : (rest : List ℕ) → restText opening (s .kept) (s .line) (drop (s .at) part ++ rest) ≡ restText opening (s .kept) l (drop end part ++ rest)
-  text-on rest = to-end part (s .at) end e (restText opening (s .kept)) (text-byte opening (s .kept)) (s .line) rest ∙ ap (λ (k : Line). restText opening (s .kept) k (drop end part ++ rest)) (sym f)
+  text-on rest = to-end part (s .at) end e (restText opening (s .kept)) (text-byte opening (s .kept)) (s .line) rest ∙
+      ap (λ (k : Line). restText opening (s .kept) k (drop end part ++ rest)) (sym f)
 
   kept-on : (rest : List ℕ) → restKept opening (s .kept) (s .line) (drop (s .at) part ++ rest) ≡ restKept opening (s .kept) l (drop end part ++ rest)
-  kept-on rest = to-end part (s .at) end e (restKept opening (s .kept)) (kept-byte opening (s .kept)) (s .line) rest ∙ ap (λ (k : Line). restKept opening (s .kept) k (drop end part ++ rest)) (sym f)
+  kept-on rest = to-end part (s .at) end e (restKept opening (s .kept)) (kept-byte opening (s .kept)) (s .line) rest ∙
+      ap (λ (k : Line). restKept opening (s .kept) k (drop end part ++ rest)) (sym f)
 
   -- the bytes of the part, from the line's end on
   ahead-on : (text : List ℕ) → passed opening (length before) (s .kept) (s .line) text (drop (s .at) part)
@@ -242,7 +245,8 @@ same-progress s at n e d = rw (e, d) refl
 -- on the way: nothing has been done yet, or the place has moved on
 pub record Going (opening : List ℕ → ℕ → Outcome) (h : Kept) (l : Line) (part : List ℕ) (from : ℕ) (before after : List ℕ) (r : TermsProgress) : Type 0 where
   -- the text written so far and the text of what is left are the whole text
-  pub text : (rest : List ℕ) → restText opening h l (drop from part ++ rest) ≡ take (r .length) after ++ restText opening (r .kept) (r .line) (drop (r .at) part ++ rest)
+  pub text : (rest : List ℕ) → restText opening h l (drop from part ++ rest)
+      ≡ take (r .length) after ++ restText opening (r .kept) (r .line) (drop (r .at) part ++ rest)
   -- what is left leads to what the whole leaves
   pub state : (rest : List ℕ) → restKept opening h l (drop from part ++ rest) ≡ restKept opening (r .kept) (r .line) (drop (r .at) part ++ rest)
   -- the text written is no longer than the output
@@ -276,7 +280,8 @@ module _ (opening : List ℕ → ℕ → Outcome) (h : Kept) (l : Line) (part : 
 
   module _ (out : List ℕ) (s : TermsProgress) (g : Going opening h l part from before out s) where
     -- the state after one more step of a part
-    pub goes : (after : List ℕ) (r : TermsProgress) {b : Bool} → b ≡ another part (s .at) out (s .length) → b ≡ true → Next opening part out after s r → Going opening h l part from before after r
+    pub goes : (after : List ℕ) (r : TermsProgress) {b : Bool} → b ≡ another part (s .at) out (s .length) → b ≡ true → Next opening part out after s r
+        → Going opening h l part from before after r
     goes after r e t n =
         record {
           text = λ rest. g .text rest ∙ joined rest;
@@ -316,11 +321,13 @@ module _ (opening : List ℕ → ℕ → Outcome) (h : Kept) (l : Line) (part : 
         same-place : s ≡ record { kept = h; line = l; at = from; length = 0 } → s .at ≡ from
         same-place e = ap (λ (q : TermsProgress). q .at) e
 
-        came : ((s ≡ record { kept = h; line = l; at = from; length = 0 }) × (out ≡ before)) ⊎ ((512 ≤ length before) × (from < length part) × (from < s .at)) → from < length part
+        came : ((s ≡ record { kept = h; line = l; at = from; length = 0 }) × (out ≡ before)) ⊎ ((512 ≤ length before) × (from < length part) × (from < s .at))
+            → from < length part
         came (inl e) = omega (arith, same-place (e .0), in-part)
         came (inr e) = e .1
 
-        later : ((s ≡ record { kept = h; line = l; at = from; length = 0 }) × (out ≡ before)) ⊎ ((512 ≤ length before) × (from < length part) × (from < s .at)) → from < r .at
+        later : ((s ≡ record { kept = h; line = l; at = from; length = 0 }) × (out ≡ before)) ⊎ ((512 ≤ length before) × (from < length part) × (from < s .at))
+            → from < r .at
         later (inl e) = omega (arith, same-place (e .0), n .on .0)
         later (inr e) = omega (arith, e .2, n .on .0)
 
@@ -396,7 +403,8 @@ module _ (opening : List ℕ → ℕ → Outcome) (h : Kept) (l : Line) (before 
       }
 
   -- a begun line gets its answer as the last one
-  pub last : (after : List ℕ) (next : ℕ) → (l .length ≡ 0 → ⊥) → Printed before after 0 next (answerText opening h (lineCommand l)) → LastAnswer opening h l before after next
+  pub last : (after : List ℕ) (next : ℕ) → (l .length ≡ 0 → ⊥) → Printed before after 0 next (answerText opening h (lineCommand l))
+      → LastAnswer opening h l before after next
   last after next e p = go (lt-or-ge (length before) 512)
     where
       answer : List ℕ

@@ -37,7 +37,8 @@ module _ (opening : List ℕ → ℕ → Outcome) (h : Kept) (l : Line) (part : 
   handed-more h′ l′ at m n′ before after r d a c =
       record {
         text = d .text ++ take (r .length) after;
-        is = λ rest. d .is rest ∙ ap (λ (t : List ℕ). d .text ++ t) (a .text rest) ∙ sym (append-assoc (d .text) (take (r .length) after) (restText opening (r .kept) (r .line) (drop (r .at) part ++ rest)));
+        is = λ rest. d .is rest ∙ ap (λ (t : List ℕ). d .text ++ t) (a .text rest) ∙
+            sym (append-assoc (d .text) (take (r .length) after) (restText opening (r .kept) (r .line) (drop (r .at) part ++ rest)));
         state = λ rest. d .state rest ∙ a .state rest;
         count = c ∙ ap (λ (k : ℕ). counted k (r .length)) (d .count) ∙ counted-twice n (length (d .text)) (r .length) ∙ ap (counted n) (sym long);
       }
@@ -46,11 +47,13 @@ module _ (opening : List ℕ → ℕ → Outcome) (h : Kept) (l : Line) (part : 
       long = length-append (d .text) (take (r .length) after) ∙ ap (λ (k : ℕ). length (d .text) + k) (length-take-le (r .length) after (a .fits))
 
   -- it is used up
-  pub handed-all : (h′ : Kept) (l′ : Line) (at m : ℕ) → length part ≤ at → Handed opening h l part n h′ l′ (drop at part) m → Handed opening h l part n h′ l′ [] m
+  pub handed-all : (h′ : Kept) (l′ : Line) (at m : ℕ) → length part ≤ at → Handed opening h l part n h′ l′ (drop at part) m
+      → Handed opening h l part n h′ l′ [] m
   handed-all h′ l′ at m k d = rw (drop-of-length-le part k) at d
 
 -- the count after the last line
-pub last-count : (opening : List ℕ → ℕ → Outcome) (h : Kept) (l : Line) (before after : List ℕ) (n n′ r : ℕ) → 512 ≤ length before → LastAnswer opening h l before after r → n′ ≡ counted n r → n′ ≡ counted n (length (restText opening h l []))
+pub last-count : (opening : List ℕ → ℕ → Outcome) (h : Kept) (l : Line) (before after : List ℕ) (n n′ r : ℕ) → 512 ≤ length before
+    → LastAnswer opening h l before after r → n′ ≡ counted n r → n′ ≡ counted n (length (restText opening h l []))
 last-count opening h l before after n n′ r room a c = c ∙ ap (counted n) (sym (length-take-le r after (a .fits)) ∙ ap length (sym (a .text room)))
 
 -- on the way: whatever a run from here writes, it is the rest of a run from the first command on
@@ -67,37 +70,50 @@ pub came-none : (opening : List ℕ → ℕ → Outcome) → Came opening nothin
 came-none opening = record { parts = []; text = []; on = λ later t n′ r. r }
 
 -- what has come with one more part handed over
-pub came-more : (opening : List ℕ → ℕ → Outcome) (h h′ : Kept) (l l′ : Line) (n m : ℕ) (part : List ℕ) → Came opening h l n → Handed opening h l part n h′ l′ [] m → Came opening h′ l′ m
+pub came-more : (opening : List ℕ → ℕ → Outcome) (h h′ : Kept) (l l′ : Line) (n m : ℕ) (part : List ℕ) → Came opening h l n
+    → Handed opening h l part n h′ l′ [] m → Came opening h′ l′ m
 came-more opening h h′ l l′ n m part c d =
     record {
       parts = c .parts ++ (part ∷ []);
       text = c .text ++ d .text;
-      on = λ later t n′ r. rw (append-assoc (c .parts) (part ∷ []) later, append-assoc (c .text) (d .text) t) (c .on (part ∷ later) (d .text ++ t) n′ (goes-on d r));
+      on = λ later t n′ r. rw (append-assoc (c .parts) (part ∷ []) later, append-assoc (c .text) (d .text) t)
+          (c .on (part ∷ later) (d .text ++ t) n′ (goes-on d r));
     }
 
 -- after the last line the parts that have come are a whole run
-pub came-all : (opening : List ℕ → ℕ → Outcome) (h : Kept) (l : Line) (n n′ : ℕ) → Came opening h l n → n′ ≡ counted n (length (restText opening h l [])) → Ran opening n′
-came-all opening h l n n′ c e = record { parts = c .parts ++ []; text = c .text ++ restText opening h l []; run = c .on [] (restText opening h l []) n′ (ended e) }
+pub came-all : (opening : List ℕ → ℕ → Outcome) (h : Kept) (l : Line) (n n′ : ℕ) → Came opening h l n → n′ ≡ counted n (length (restText opening h l []))
+    → Ran opening n′
+came-all opening h l n n′ c e = record {
+  parts = c .parts ++ [];
+  text = c .text ++ restText opening h l [];
+  run =
+      c .on [] (restText opening h l []) n′ (ended e);
+}
 
 -- a run with tables opened by the file's own verdict is one with tables opened from the file
 pub ran-own : (file : List ℕ) (n : ℕ) → Ran (openIn (judgeCall file) file) n → Ran (openCall file) n
 ran-own file n r = subst (λ (opening : List ℕ → ℕ → Outcome). Ran opening n) (fun-ext (λ id. fun-ext (λ date. open-is file id date))) r
 
 -- what a run writes, and the count of its bytes
-pub run-text : {opening : List ℕ → ℕ → Outcome} {h : Kept} {l : Line} {n n′ : ℕ} {parts : List (List ℕ)} {text : List ℕ} → Run opening h l n parts text n′ → restText opening h l (inOne parts) ≡ text
+pub run-text : {opening : List ℕ → ℕ → Outcome} {h : Kept} {l : Line} {n n′ : ℕ} {parts : List (List ℕ)} {text : List ℕ} → Run opening h l n parts text n′
+    → restText opening h l (inOne parts) ≡ text
 unfolding inOne
 run-text (ended e) = refl
 run-text (goes-on {parts = parts} d r) = d .is (inOne parts) ∙ ap (λ (t : List ℕ). d .text ++ t) (run-text r)
 
-run-count : {opening : List ℕ → ℕ → Outcome} {h : Kept} {l : Line} {n n′ : ℕ} {parts : List (List ℕ)} {text : List ℕ} → Run opening h l n parts text n′ → n′ ≡ counted n (length text)
+run-count : {opening : List ℕ → ℕ → Outcome} {h : Kept} {l : Line} {n n′ : ℕ} {parts : List (List ℕ)} {text : List ℕ} → Run opening h l n parts text n′
+    → n′ ≡ counted n (length text)
 run-count (ended e) = e
 run-count {n = n} (goes-on {m = m} {text = text} d r) =
-    run-count r ∙ ap (λ (k : ℕ). counted k (length text)) (d .count) ∙ counted-twice n (length (d .text)) (length text) ∙ ap (counted n) (sym (length-append (d .text) text))
+    run-count r ∙ ap (λ (k : ℕ). counted k (length text)) (d .count) ∙ counted-twice n (length (d .text)) (length text) ∙
+    ap (counted n) (sym (length-append (d .text) text))
 
 -- for every file, every input and every way in which it arrives in parts, it is the text of the definition
-pub terms-text : (file : List ℕ) (parts : List (List ℕ)) (text : List ℕ) (n : ℕ) → Run (openCall file) nothingKept emptyLine 0 parts text n → text ≡ termsText file (inOne parts)
+pub terms-text : (file : List ℕ) (parts : List (List ℕ)) (text : List ℕ) (n : ℕ) → Run (openCall file) nothingKept emptyLine 0 parts text n
+    → text ≡ termsText file (inOne parts)
 terms-text file parts text n r = sym (run-text r) ∙ whole-text file (inOne parts)
 
 -- and so many bytes were written
-pub terms-count : (file : List ℕ) (parts : List (List ℕ)) (text : List ℕ) (n : ℕ) → Run (openCall file) nothingKept emptyLine 0 parts text n → n ≡ counted 0 (length (termsText file (inOne parts)))
+pub terms-count : (file : List ℕ) (parts : List (List ℕ)) (text : List ℕ) (n : ℕ) → Run (openCall file) nothingKept emptyLine 0 parts text n
+    → n ≡ counted 0 (length (termsText file (inOne parts)))
 terms-count file parts text n r = run-count r ∙ ap (λ (t : List ℕ). counted 0 (length t)) (terms-text file parts text n r)

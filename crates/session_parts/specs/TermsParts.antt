@@ -46,7 +46,8 @@ passed opening size h l text (byte ∷ rest) =
     let written = text ++ answerText opening h (lineCommand l) in
     let after = keptAfter opening h (lineCommand l) in
     cond (eqb byte 10)
-    (cond (leb (length written + 512) size) (passed opening size after emptyLine written rest) (record { kept = after; line = emptyLine; text = written; left = rest }))
+    (cond (leb (length written + 512) size) (passed opening size after emptyLine written rest)
+    (record { kept = after; line = emptyLine; text = written; left = rest }))
     (passed opening size h (extended l byte) text rest)
 
 -- the same where the first line, too, is looked at only where 512 bytes are free
@@ -61,19 +62,23 @@ progressOf part from p = record { kept = p .kept; line = p .line; at = from + (l
 -- one line, or the rest of the part: a piece of text stands after what stood in the buffer, and for every rest of the input it is what comes next
 pub record Next (opening : List ℕ → ℕ → Outcome) (part before after : List ℕ) (s r : TermsProgress) : Type 0 where
   pub piece : List ℕ
-  pub text : (rest : List ℕ) → restText opening (s .kept) (s .line) (drop (s .at) part ++ rest) ≡ piece ++ restText opening (r .kept) (r .line) (drop (r .at) part ++ rest)
-  pub state : (rest : List ℕ) → restKept opening (s .kept) (s .line) (drop (s .at) part ++ rest) ≡ restKept opening (r .kept) (r .line) (drop (r .at) part ++ rest)
+  pub text : (rest : List ℕ) → restText opening (s .kept) (s .line) (drop (s .at) part ++ rest)
+      ≡ piece ++ restText opening (r .kept) (r .line) (drop (r .at) part ++ rest)
+  pub state : (rest : List ℕ) → restKept opening (s .kept) (s .line) (drop (s .at) part ++ rest)
+      ≡ restKept opening (r .kept) (r .line) (drop (r .at) part ++ rest)
   pub is : take (r .length) after ≡ take (s .length) before ++ piece
   pub unchanged : drop (r .length) after ≡ drop (r .length) before
   pub long : length after ≡ length before
   pub fits : (s .length ≤ r .length) × (r .length ≤ length after)
   pub on : (s .at < r .at) × (r .at ≤ length part)
-  pub ahead : passed opening (length before) (s .kept) (s .line) (take (s .length) before) (drop (s .at) part) ≡ passedOn opening (length before) (r .kept) (r .line) (take (r .length) after) (drop (r .at) part)
+  pub ahead : passed opening (length before) (s .kept) (s .line) (take (s .length) before) (drop (s .at) part)
+      ≡ passedOn opening (length before) (r .kept) (r .line) (take (r .length) after) (drop (r .at) part)
 
 -- the answers to the lines that end in a part from a place on
 pub record Answers (opening : List ℕ → ℕ → Outcome) (h : Kept) (l : Line) (part : List ℕ) (from : ℕ) (before after : List ℕ) (r : TermsProgress) : Type 0 where
   -- for every rest of the input, what was written followed by the text of what remains is the text of the whole
-  pub text : (rest : List ℕ) → restText opening h l (drop from part ++ rest) ≡ take (r .length) after ++ restText opening (r .kept) (r .line) (drop (r .at) part ++ rest)
+  pub text : (rest : List ℕ) → restText opening h l (drop from part ++ rest)
+      ≡ take (r .length) after ++ restText opening (r .kept) (r .line) (drop (r .at) part ++ rest)
   -- and what is kept after the whole is what is kept after what remains
   pub state : (rest : List ℕ) → restKept opening h l (drop from part ++ rest) ≡ restKept opening (r .kept) (r .line) (drop (r .at) part ++ rest)
   -- it stands at the buffer's start, and nothing else is changed
@@ -107,7 +112,8 @@ counted n more = (n + more) % 2 ^ 64
 -- the answers to the lines that end in the part between the places of s and r; or the answer to the line of s as the last one;
 -- that s is the state which the session has reached, and that `last` is used where the input has ended, is seen where it is used, not said here
 pub data ComesNext (opening : List ℕ → ℕ → Outcome) (part : List ℕ) (s r : TermsProgress) (bytes : List ℕ) : Type 0 where
-  answers : ((rest : List ℕ) → restText opening (s .kept) (s .line) (drop (s .at) part ++ rest) ≡ bytes ++ restText opening (r .kept) (r .line) (drop (r .at) part ++ rest))
+  answers : ((rest : List ℕ) → restText opening (s .kept) (s .line) (drop (s .at) part ++ rest)
+      ≡ bytes ++ restText opening (r .kept) (r .line) (drop (r .at) part ++ rest))
       → ComesNext opening part s r bytes
   last : restText opening (s .kept) (s .line) [] ≡ bytes → ComesNext opening part s r bytes
 

@@ -82,7 +82,8 @@ unfolding maturitiesText
 more-lines kind i ms = rw (add-one i) refl
 
 -- the lines of all maturities are written once the last one is
-pub lines-done : {a b : List ℕ} {at next : ℕ} (kind : Kind) (i n : ℕ) (ms : List Maturity) → n ≤ i → i ≤ n → Written a b at next (maturitiesText kind i ms) → Written a b at next (maturitiesText kind n ms)
+pub lines-done : {a b : List ℕ} {at next : ℕ} (kind : Kind) (i n : ℕ) (ms : List Maturity) → n ≤ i → i ≤ n → Written a b at next (maturitiesText kind i ms)
+    → Written a b at next (maturitiesText kind n ms)
 lines-done kind i n ms h l w =
     let e : n ≡ i = omega arith in
     rw e w

@@ -54,7 +54,8 @@ some (suc n) h = omega arith
 
 module _ (i so : Input) (enough room n : ℕ) (g : Going i so enough room n) (a : n < enough) (b : n < room) (l : 0 < so .left) (t : Transfer) (next : Input)
     (e : next ≡ inputAfter so t) (m : ℕ) (p : m ≡ n + t .length) where
-  each : ((i .left ≤ so .left + n) × (so .failed ≡ i .failed)) ⊎ ((so .left ≡ 0) × (n < enough) × (n < room)) → (i .left ≤ so .left + n) × (so .failed ≡ i .failed)
+  each : ((i .left ≤ so .left + n) × (so .failed ≡ i .failed)) ⊎ ((so .left ≡ 0) × (n < enough) × (n < room))
+      → (i .left ≤ so .left + n) × (so .failed ≡ i .failed)
   each (inl x) = x
   each (inr x) = absurd (omega (arith, x .0, l))
 

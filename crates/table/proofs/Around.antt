@@ -26,7 +26,8 @@ module _ (cal : Calendar) (day : ℕ) where
       let e : s + (x - s) ≡ x = omega arith in
       some-at (λ i. tradingDay (closeDay cal day) (s + i)) 7 (x - s) (ap (tradingDay (closeDay cal day)) e ∙ trading-other cal day x n ∙ t) (omega arith)
 
-  module _ (back on : ℕ) (b1 : 1 ≤ back) (b2 : back ≤ day) (b : tradingDay cal (day - back) ≡ true) (o1 : 1 ≤ on) (o : tradingDay cal (day + on) ≡ true) (near : back + on ≤ 7) where
+  module _ (back on : ℕ) (b1 : 1 ≤ back) (b2 : back ≤ day) (b : tradingDay cal (day - back) ≡ true) (o1 : 1 ≤ on) (o : tradingDay cal (day + on) ≡ true)
+      (near : back + on ≤ 7) where
     week-holds : (s : ℕ) → someTrades cal s 7 ≡ true → someTrades (closeDay cal day) s 7 ≡ true
     week-holds s w = before (lt-or-ge day s)
       where
@@ -50,7 +51,8 @@ module _ (cal : Calendar) (day : ℕ) where
     around w =
         ap (λ (c : Cover). every (coverEnd c - coverStart c - 6) (λ k. someTrades (closeDay cal day) (coverStart c + k) 7)) (close-cover cal day) ∙
         every-all (λ k. someTrades (closeDay cal day) (coverStart (cal .cover) + k) 7) (coverEnd (cal .cover) - coverStart (cal .cover) - 6)
-        (λ k h. week-holds (coverStart (cal .cover) + k) (every-at (λ k. someTrades cal (coverStart (cal .cover) + k) 7) (coverEnd (cal .cover) - coverStart (cal .cover) - 6) k w h))
+        (λ k h. week-holds (coverStart (cal .cover) + k)
+        (every-at (λ k. someTrades cal (coverStart (cal .cover) + k) 7) (coverEnd (cal .cover) - coverStart (cal .cover) - 6) k w h))
 
 -- ---- the search for the nearest trading day
 
@@ -98,7 +100,8 @@ module _ (f : ℕ → Bool) where
   first-found zero k h = absurd (omega arith)
   first-found (suc m) k h = go (f k) refl h (first-found m (suc k))
     where
-      go : (b : Bool) → f k ≡ b → cond b k (firstFrom f 7 m (suc k)) < 7 → (firstFrom f 7 m (suc k) < 7 → (suc k ≤ firstFrom f 7 m (suc k)) × (f (firstFrom f 7 m (suc k)) ≡ true))
+      go : (b : Bool) → f k ≡ b → cond b k (firstFrom f 7 m (suc k)) < 7
+          → (firstFrom f 7 m (suc k) < 7 → (suc k ≤ firstFrom f 7 m (suc k)) × (f (firstFrom f 7 m (suc k)) ≡ true))
           → (k ≤ cond b k (firstFrom f 7 m (suc k))) × (f (cond b k (firstFrom f 7 m (suc k))) ≡ true)
       go true e l i = (omega arith, e)
       go false e l i = (omega (arith, i l .0), i l .1)
@@ -205,7 +208,8 @@ unfolding tradesAround stepsBack stepsOn tradingDay closedOn
 trades-second cal second day = refl
 
 -- by the cover and the first map alone
-pub around-in : (cal : Calendar) (day : ℕ) (b : Bool) → b ≡ tradesAround (calendarWith (cal .cover) (cal .closed)) day → b ≡ true → everyWeek cal ≡ true → true ≡ everyWeek (closeDay cal day)
+pub around-in : (cal : Calendar) (day : ℕ) (b : Bool) → b ≡ tradesAround (calendarWith (cal .cover) (cal .closed)) day → b ≡ true → everyWeek cal ≡ true
+    → true ≡ everyWeek (closeDay cal day)
 around-in cal day b e t w = sym (around-of cal day (sym (trades-second cal [] day) ∙ sym e ∙ t) w)
 
 module _ (f : ℕ → Bool) (n r : ℕ) (h : n < 7) (s : Searching f n r) where

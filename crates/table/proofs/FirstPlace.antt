@@ -27,13 +27,17 @@ pub first-front : (t : Table) → coveredIn t (t .calendar) (t .date) ≡ true �
     → getD (t .maturities) 0 unused .key ≡ front (ruleIn t (t .calendar)) (t .calendar) (t .date)
 unfolding listsFresh complete coverRule places15
 first-front t w a =
-    let same = both (sameMaturity m (getD (places15 fresh) 0 unused)) (ltb 0 (placesOfKind (t .product .kind)) || eqb (m .number) 0) (every-at (placeRight (t .maturities) (places15 fresh) (placesOfKind (t .product .kind))) 15 0 a (omega arith)) .0 in
-    let same-key : m .key ≡ getD (places15 fresh) 0 unused .key = eqb-true (m .key) (getD (places15 fresh) 0 unused .key) (both (eqb (m .key) (getD (places15 fresh) 0 unused .key)) _ same .0) in
+    let same = both (sameMaturity m (getD (places15 fresh) 0 unused)) (ltb 0 (placesOfKind (t .product .kind)) || eqb (m .number) 0)
+    (every-at (placeRight (t .maturities) (places15 fresh) (placesOfKind (t .product .kind))) 15 0 a (omega arith)) .0 in
+    let same-key : m .key ≡ getD (places15 fresh) 0 unused .key =
+    eqb-true (m .key) (getD (places15 fresh) 0 unused .key) (both (eqb (m .key) (getD (places15 fresh) 0 unused .key)) _ same .0) in
     let long : length (freshKeys r (t .calendar) (t .date)) ≡ placesOfKind (t .product .kind) = eqb-true _ _ w in
     let some : 1 ≤ length (freshKeys r (t .calendar) (t .date)) = omega (arith, long, places-least (t .product .kind)) in
     same-key
-    ∙ ap (λ (x : Maturity). x .key) (List·getD-append fresh (replicate (15 - length fresh) unused) unused 0 (omega (arith, some, length-map (freshKeys r (t .calendar) (t .date)) (maturity r (t .calendar) (λ k. 0)))))
-    ∙ head (freshKeys r (t .calendar) (t .date)) some ∙ fresh-first r (rule-lawful (t .calendar .cover) (t .product .kind) (t .product .group)) (t .calendar) (t .date) some
+    ∙ ap (λ (x : Maturity). x .key) (List·getD-append fresh (replicate (15 - length fresh) unused) unused 0
+    (omega (arith, some, length-map (freshKeys r (t .calendar) (t .date)) (maturity r (t .calendar) (λ k. 0)))))
+    ∙ head (freshKeys r (t .calendar) (t .date)) some ∙
+    fresh-first r (rule-lawful (t .calendar .cover) (t .product .kind) (t .product .group)) (t .calendar) (t .date) some
   where
     r : Rule
     r = ruleIn t (t .calendar)
@@ -50,8 +54,10 @@ first-front t w a =
 
 -- so the keys of the cover before it are those before the front
 pub keys-there : (t : Table) → coveredIn t (t .calendar) (t .date) ≡ true → listsFresh t ≡ true
-    → (m : ℕ) → m ≡ countFrom (countedFor (t .product .kind)) (getD (t .maturities) 0 unused .key - keyOf (t .product .kind) (coverStart (t .calendar .cover))) (keyOf (t .product .kind) (coverStart (t .calendar .cover)))
+    → (m : ℕ) → m ≡ countFrom (countedFor (t .product .kind)) (getD (t .maturities) 0 unused .key - keyOf (t .product .kind) (coverStart (t .calendar .cover)))
+    (keyOf (t .product .kind) (coverStart (t .calendar .cover)))
     → m ≡ keysBefore (ruleIn t (t .calendar)) (t .calendar) (t .date)
 unfolding keysBefore coverRule
 keys-there t w a m e =
-    e ∙ ap (λ (x : ℕ). countFrom (countedFor (t .product .kind)) (x - keyOf (t .product .kind) (coverStart (t .calendar .cover))) (keyOf (t .product .kind) (coverStart (t .calendar .cover)))) (first-front t w a)
+    e ∙ ap (λ (x : ℕ). countFrom (countedFor (t .product .kind)) (x - keyOf (t .product .kind) (coverStart (t .calendar .cover)))
+    (keyOf (t .product .kind) (coverStart (t .calendar .cover)))) (first-front t w a)

@@ -53,8 +53,10 @@ module _ (verdict : Answer Calendar) (f id : List ℕ) (date : ℕ) where
     unfolding openIn openingIn
     in-accepted h = go (firstNo (asksIn verdict f id date)) refl
       where
-        go : (n : ℕ) → firstNo (asksIn verdict f id date) ≡ n → openedWith (o .product) (o .calendar) date (take (placesOfKind (o .product .kind)) (o .fresh)) ≡ openIn verdict f id date
-        go zero q = rw (is, q) (rw (fresh-listed (verdict .value) (productByHalves f id .kind) (productByHalves f id .group) date _ refl (in-whole q)) (sym (answered-yes zeroTable (asksIn verdict f id date) _ q)))
+        go : (n : ℕ) → firstNo (asksIn verdict f id date) ≡ n
+            → openedWith (o .product) (o .calendar) date (take (placesOfKind (o .product .kind)) (o .fresh)) ≡ openIn verdict f id date
+        go zero q = rw (is, q) (rw (fresh-listed (verdict .value) (productByHalves f id .kind) (productByHalves f id .group) date _ refl (in-whole q))
+            (sym (answered-yes zeroTable (asksIn verdict f id date) _ q)))
         go (suc n) q =
             let r : o .refusal ≡ suc n = ap (λ (x : Opening). x .refusal) is ∙ rw (q, eqb·suc-zero n) in
             absurd (omega (arith, h))
@@ -84,6 +86,8 @@ unfolding openIn
 accepted-in verdict f id date e = opened-in verdict f id date (refusal-is zeroTable (asksIn verdict f id date) _ e)
 
 -- the table of an accepted open by a verdict is the opened table of the product found by halves, the calendar and the date
-pub opened-table-in : (verdict : Answer Calendar) (f id : List ℕ) (date : ℕ) → openIn verdict f id date .refusal ≡ 0 → openIn verdict f id date .table ≡ openedTable (productByHalves f id) (verdict .value) date
+pub opened-table-in : (verdict : Answer Calendar) (f id : List ℕ) (date : ℕ) → openIn verdict f id date .refusal ≡ 0
+    → openIn verdict f id date .table ≡ openedTable (productByHalves f id) (verdict .value) date
 unfolding openIn openedTable
-opened-table-in verdict f id date e = ap (λ (x : Outcome). x .table) (answered-yes zeroTable (asksIn verdict f id date) _ (refusal-is zeroTable (asksIn verdict f id date) _ e))
+opened-table-in verdict f id date e = ap (λ (x : Outcome). x .table)
+    (answered-yes zeroTable (asksIn verdict f id date) _ (refusal-is zeroTable (asksIn verdict f id date) _ e))

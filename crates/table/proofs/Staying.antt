@@ -49,7 +49,8 @@ taken-rises e (set ∷ rest) k = go (ltb (nextOf e set k) e) refl (taken-rises e
     low h (inl l) = first-low set e (e - k) k (omega arith)
     low h (inr l) = absurd (omega (arith, h, search-none set e e k l))
 
-    go : (b : Bool) → ltb (nextOf e set k) e ≡ b → Rises (suc (nextOf e set k)) (taken e rest (suc (nextOf e set k))) → Rises k (cond b (nextOf e set k ∷ taken e rest (suc (nextOf e set k))) [])
+    go : (b : Bool) → ltb (nextOf e set k) e ≡ b → Rises (suc (nextOf e set k)) (taken e rest (suc (nextOf e set k)))
+        → Rises k (cond b (nextOf e set k ∷ taken e rest (suc (nextOf e set k))) [])
     go true q i = (low (ltb-true _ _ q) (lt-or-ge k e), i)
     go false q i = omega arith
 
@@ -69,14 +70,20 @@ Known old (m ∷ ms) = (isListed old (m .key) ≡ true) × (numberOf old (m .key
 known-more : (m : Maturity) (old ms : List Maturity) (k : ℕ) → m .key < k → Rises k (months ms) → Known old ms → Known (m ∷ old) ms
 unfolding isListed numberOf
 known-more m old [] k l r h = refl
-known-more m old (x ∷ xs) k l r h =
-    (or-right (eqb (m .key) (x .key)) (h .0), rw (ne-eqb (m .key) (x .key) (λ q. omega (arith, r .0, l, q))) (h .1), known-more m old xs (suc (x .key)) (omega (arith, r .0)) (r .1) (h .2))
+known-more m old (x ∷ xs) k l r h = (
+  or-right (eqb (m .key) (x .key)) (h .0),
+  rw (ne-eqb (m .key) (x .key) (λ q. omega (arith, r .0, l, q))) (h .1),
+  known-more m old xs (suc (x .key)) (omega (arith, r .0)) (r .1) (h .2),
+)
 
 known-all : (ms : List Maturity) (k : ℕ) → Rises k (months ms) → Known ms ms
 unfolding isListed numberOf
 known-all [] k r = refl
-known-all (m ∷ ms) k r =
-    (or-left (isListed ms (m .key)) (eq-eqb (m .key) (m .key) refl), rw (eq-eqb (m .key) (m .key) refl), known-more m ms ms (suc (m .key)) (omega arith) (r .1) (known-all ms (suc (m .key)) (r .1)))
+known-all (m ∷ ms) k r = (
+  or-left (isListed ms (m .key)) (eq-eqb (m .key) (m .key) refl),
+  rw (eq-eqb (m .key) (m .key) refl),
+  known-more m ms ms (suc (m .key)) (omega arith) (r .1) (known-all ms (suc (m .key)) (r .1)),
+)
 
 -- known maturities, without their numbers and then renumbered, have their numbers again
 pub known-numbers : (old ms : List Maturity) (given : ℕ) → Known old ms → renumbered old given (map blank ms) ≡ ms
@@ -165,7 +172,8 @@ module _ (t : Table) (s : sound t ≡ true) (len : length (t .maturities) ≡ 15
   after-places xs i h l =
       let e : length xs + (i - length xs) ≡ i = omega arith in
       ap (λ (j : ℕ). getD (xs ++ replicate (15 - length xs) unused) j unused) (sym e) ∙
-      getD-append-add xs (replicate (15 - length xs) unused) (i - length xs) unused ∙ getD-replicate (15 - length xs) (i - length xs) unused unused (omega arith)
+      getD-append-add xs (replicate (15 - length xs) unused) (i - length xs) unused ∙
+      getD-replicate (15 - length xs) (i - length xs) unused unused (omega arith)
 
   -- a fresh maturity has no number
   fresh-number : (i : ℕ) → getD fresh i unused .number ≡ 0
@@ -186,7 +194,8 @@ module _ (t : Table) (s : sound t ≡ true) (len : length (t .maturities) ≡ 15
       let q = getD-take n (t .maturities) i unused l in
       sym
       (List·getD-map blank (listedIn t) i unused ∙ ap blank q ∙
-      same-maturity (blank (getD (t .maturities) i unused)) (getD fresh i unused) (p .key ∙ ap (λ (m : Maturity). m .key) (in-places i l)) (p .day ∙ ap (λ (m : Maturity). m .day) (in-places i l)) (p .back ∙ ap (λ (m : Maturity). m .back) (in-places i l)) (sym (fresh-number i))))
+      same-maturity (blank (getD (t .maturities) i unused)) (getD fresh i unused) (p .key ∙ ap (λ (m : Maturity). m .key) (in-places i l))
+      (p .day ∙ ap (λ (m : Maturity). m .day) (in-places i l)) (p .back ∙ ap (λ (m : Maturity). m .back) (in-places i l)) (sym (fresh-number i))))
 
   -- the fresh listing of a sound table is what the table lists, without the numbers
   pub listed-fresh : freshIn t (t .calendar) (t .date) ≡ unnumbered (listedIn t)
@@ -194,7 +203,8 @@ module _ (t : Table) (s : sound t ≡ true) (len : length (t .maturities) ≡ 15
 
   in-old : (i : ℕ) → i < n → getD (places15 (listedIn t)) i unused ≡ getD (t .maturities) i unused
   unfolding places15
-  in-old i l = List·getD-append (listedIn t) (replicate (15 - length (listedIn t)) unused) unused i (omega (arith, old-long)) ∙ getD-take n (t .maturities) i unused l
+  in-old i l = List·getD-append (listedIn t) (replicate (15 - length (listedIn t)) unused) unused i (omega (arith, old-long)) ∙
+      getD-take n (t .maturities) i unused l
 
   -- the places are what the table lists, then zeros
   pub places-are : places15 (listedIn t) ≡ t .maturities
@@ -211,7 +221,8 @@ module _ (t : Table) (s : sound t ≡ true) (len : length (t .maturities) ≡ 15
           let p = place i h in
           let z = after-places fresh i (omega (arith, fresh-long)) h in
           after-places (listedIn t) i (omega (arith, old-long)) h ∙
-          sym (same-maturity (getD (t .maturities) i unused) unused (p .key ∙ ap (λ (m : Maturity). m .key) z) (p .day ∙ ap (λ (m : Maturity). m .day) z) (p .back ∙ ap (λ (m : Maturity). m .back) z) (p .zero-number l))
+          sym (same-maturity (getD (t .maturities) i unused) unused (p .key ∙ ap (λ (m : Maturity). m .key) z) (p .day ∙ ap (λ (m : Maturity). m .day) z)
+          (p .back ∙ ap (λ (m : Maturity). m .back) z) (p .zero-number l))
 
   abbrev rule : Rule
   rule = ruleIn t (t .calendar)
@@ -220,16 +231,26 @@ module _ (t : Table) (s : sound t ≡ true) (len : length (t .maturities) ≡ 15
   pub known : Known (listedIn t) (listedIn t)
   unfolding freshKeys
   known =
-      let e : months (listedIn t) ≡ freshKeys rule (t .calendar) (t .date) = sym (blank-months (listedIn t)) ∙ ap months (sym blank-is) ∙ keys-are rule (t .calendar) (freshKeys rule (t .calendar) (t .date)) in
+      let e : months (listedIn t) ≡ freshKeys rule (t .calendar) (t .date) =
+      sym (blank-months (listedIn t)) ∙ ap months (sym blank-is) ∙ keys-are rule (t .calendar) (freshKeys rule (t .calendar) (t .date)) in
       known-all (listedIn t) (front rule (t .calendar) (t .date)) (rw e (taken-rises (rule .beyond) (rule .places) (front rule (t .calendar) (t .date))))
 
-  same-keys : (date : ℕ) → front rule (t .calendar) (t .date) ≡ front rule (t .calendar) date → freshKeys rule (t .calendar) date ≡ freshKeys rule (t .calendar) (t .date)
+  same-keys : (date : ℕ) → front rule (t .calendar) (t .date) ≡ front rule (t .calendar) date
+      → freshKeys rule (t .calendar) date ≡ freshKeys rule (t .calendar) (t .date)
   unfolding freshKeys
   same-keys date e = ap (taken (rule .beyond) (rule .places)) (sym e)
 
   -- a roll to a date whose front is the key in the first place is accepted and keeps the listing
-  pub stays : (date : ℕ) → eqb (getD (t .maturities) 0 unused .key) (front rule (t .calendar) date) ≡ true → cond (coveredIn t (t .calendar) date) (moved t (t .calendar) date) (refusedWith t 16) ≡ keptIn t (t .calendar) date
+  pub stays : (date : ℕ) → eqb (getD (t .maturities) 0 unused .key) (front rule (t .calendar) date) ≡ true
+      → cond (coveredIn t (t .calendar) date) (moved t (t .calendar) date) (refusedWith t 16) ≡ keptIn t (t .calendar) date
   unfolding moved complete
   stays date e =
       let k = same-keys date (sym (first-front t (sound-parts t s .whole) (sound-parts t s .listed)) ∙ eqb-true _ _ e) in
-      rw (k, sound-parts t s .whole) (rw (blank-is, none-missing (listedIn t) (listedIn t) known, none-left (listedIn t) (listedIn t) known, known-numbers (listedIn t) (listedIn t) (t .given) known, places-are, add-zero (t .given)))
+      rw (k, sound-parts t s .whole) (rw (
+        blank-is,
+        none-missing (listedIn t) (listedIn t) known,
+        none-left (listedIn t) (listedIn t) known,
+        known-numbers (listedIn t) (listedIn t) (t .given) known,
+        places-are,
+        add-zero (t .given),
+      ))

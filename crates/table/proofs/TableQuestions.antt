@@ -23,7 +23,8 @@ use Rattle.listing.proofs.Fresh.{places-most, complete-is, places-is, fresh-lis
 use Rattle.table.specs.declared.Table.{Table}
 use Rattle.table.specs.declared.Outcome.{Outcome}
 use Rattle.table_numbering.specs.Numbering.{placeRight, numbersRight}
-use Rattle.table.specs.Table.{listsFresh, listingSound, sound, movedTo, moved, refusedWith, answered, rollAsks, rollCall, closeAsks, closeCall, ruleIn, coveredIn}
+use Rattle.table.specs.Table.{listsFresh, listingSound, sound, movedTo, moved, refusedWith, answered, rollAsks, rollCall, closeAsks, closeCall, ruleIn}
+use Rattle.table.specs.Table.{coveredIn}
 
 -- the first question answered no
 pub answered-no : (t : Table) (asks : List Ask) (o : Outcome) (n : ℕ) → firstNo asks ≡ suc n → answered t asks o ≡ refusedWith t (suc n)

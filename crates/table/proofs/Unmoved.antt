@@ -72,9 +72,11 @@ search-same f g none (suc n) k over takes = go (f k) refl takes (search-same f g
 -- a list mapped by two functions that agree on it
 map-same : (φ ψ : ℕ → Maturity) (xs : List ℕ) → ((i : ℕ) → i < length xs → φ (getD xs i 0) ≡ ψ (getD xs i 0)) → map φ xs ≡ map ψ xs
 map-same φ ψ [] h = refl
-map-same φ ψ (x ∷ xs) h = ap (λ (m : Maturity). m ∷ map φ xs) (h 0 (omega arith)) ∙ ap (λ (l : List Maturity). ψ x ∷ l) (map-same φ ψ xs (λ i l. h (suc i) (omega arith)))
+map-same φ ψ (x ∷ xs) h = ap (λ (m : Maturity). m ∷ map φ xs) (h 0 (omega arith)) ∙
+    ap (λ (l : List Maturity). ψ x ∷ l) (map-same φ ψ xs (λ i l. h (suc i) (omega arith)))
 
-day-at : (r : Rule) (cal : Calendar) (ks : List ℕ) (i : ℕ) → i < length ks → getD (map (maturity r cal (λ k. 0)) ks) i unused .day ≡ lastDayOf r cal (getD ks i 0)
+day-at : (r : Rule) (cal : Calendar) (ks : List ℕ) (i : ℕ) → i < length ks
+    → getD (map (maturity r cal (λ k. 0)) ks) i unused .day ≡ lastDayOf r cal (getD ks i 0)
 day-at r cal [] i h = absurd (omega arith)
 day-at r cal (k ∷ ks) zero h = refl
 day-at r cal (k ∷ ks) (suc i) h = day-at r cal ks i (omega arith)
@@ -102,7 +104,8 @@ module _ (t : Table) (s : sound t ≡ true) (len : length (t .maturities) ≡ 15
   last-as : (k : ℕ) → (lastDayOf r (t .calendar) k ≡ d → ⊥) → lastDayOf r cal k ≡ lastDayOf r (t .calendar) k
   last-as k n = go (but (r .anchor k))
     where
-      go : (lastDay (t .calendar) (r .anchor k) ≡ d) ⊎ (lastDay cal (r .anchor k) ≡ lastDay (t .calendar) (r .anchor k)) → lastDay cal (r .anchor k) ≡ lastDay (t .calendar) (r .anchor k)
+      go : (lastDay (t .calendar) (r .anchor k) ≡ d) ⊎ (lastDay cal (r .anchor k) ≡ lastDay (t .calendar) (r .anchor k))
+          → lastDay cal (r .anchor k) ≡ lastDay (t .calendar) (r .anchor k)
       go (inl e) = absurd (n e)
       go (inr e) = e
 
@@ -117,14 +120,16 @@ module _ (t : Table) (s : sound t ≡ true) (len : length (t .maturities) ≡ 15
   front-same : front r cal (t .date) ≡ front r (t .calendar) (t .date)
   unfolding front
   front-same =
-      search-same (λ k. widest (r .places) k && alive r (t .calendar) (t .date) k) (λ k. widest (r .places) k && alive r cal (t .date) k) (r .beyond) (r .beyond - r .start (t .date)) (r .start (t .date)) still-over
+      search-same (λ k. widest (r .places) k && alive r (t .calendar) (t .date) k) (λ k. widest (r .places) k && alive r cal (t .date) k) (r .beyond)
+      (r .beyond - r .start (t .date)) (r .start (t .date)) still-over
       (λ e. ap (λ (x : ℕ). widest (r .places) (front r (t .calendar) (t .date)) && leb (t .date) x) (last-as (front r (t .calendar) (t .date)) at-front) ∙ e)
     where
       some : 1 ≤ length ks
       some = omega (arith, long, places-least (t .product .kind))
 
       at-front : lastDayOf r (t .calendar) (front r (t .calendar) (t .date)) ≡ d → ⊥
-      at-front e = key-apart 0 some (ap (lastDayOf r (t .calendar)) (fresh-first r (rule-lawful (t .calendar .cover) (t .product .kind) (t .product .group)) (t .calendar) (t .date) some) ∙ e)
+      at-front e = key-apart 0 some (ap (lastDayOf r (t .calendar))
+          (fresh-first r (rule-lawful (t .calendar .cover) (t .product .kind) (t .product .group)) (t .calendar) (t .date) some) ∙ e)
 
   keys-same : freshKeys r cal (t .date) ≡ freshKeys r (t .calendar) (t .date)
   unfolding freshKeys
@@ -133,16 +138,25 @@ module _ (t : Table) (s : sound t ≡ true) (len : length (t .maturities) ≡ 15
   maturity-as : (k : ℕ) → lastDayOf r cal k ≡ lastDayOf r (t .calendar) k → maturity r cal (λ k. 0) k ≡ maturity r (t .calendar) (λ k. 0) k
   maturity-as k e = rw e
 
-  fresh-same : map (maturity r cal (λ k. 0)) (freshKeys r (t .calendar) (t .date)) ≡ map (maturity r (t .calendar) (λ k. 0)) (freshKeys r (t .calendar) (t .date))
+  fresh-same : map (maturity r cal (λ k. 0)) (freshKeys r (t .calendar) (t .date))
+      ≡ map (maturity r (t .calendar) (λ k. 0)) (freshKeys r (t .calendar) (t .date))
   fresh-same =
       map-same (maturity r cal (λ k. 0)) (maturity r (t .calendar) (λ k. 0)) ks
       (λ i h. maturity-as (getD ks i 0) (last-as (getD ks i 0) (key-apart i h)))
 
-  as-kept : (q : Rule) → q ≡ r → cond (complete q cal (t .date)) (movedTo t cal (t .date) (map (maturity q cal (λ k. 0)) (freshKeys q cal (t .date)))) (refusedWith t 16) ≡ keptIn t cal (t .date)
+  as-kept : (q : Rule) → q ≡ r → cond (complete q cal (t .date)) (movedTo t cal (t .date) (map (maturity q cal (λ k. 0)) (freshKeys q cal (t .date))))
+      (refusedWith t 16) ≡ keptIn t cal (t .date)
   unfolding complete
   as-kept q e =
       rw (e, keys-same, fresh-same, sound-parts t s .whole)
-      (rw (blank-is t s len, none-missing (listedIn t) (listedIn t) (known t s len), none-left (listedIn t) (listedIn t) (known t s len), known-numbers (listedIn t) (listedIn t) (t .given) (known t s len), places-are t s len, add-zero (t .given)))
+      (rw (
+        blank-is t s len,
+        none-missing (listedIn t) (listedIn t) (known t s len),
+        none-left (listedIn t) (listedIn t) (known t s len),
+        known-numbers (listedIn t) (listedIn t) (t .given) (known t s len),
+        places-are t s len,
+        add-zero (t .given),
+      ))
 
   -- a calendar that changes only last days on a later day on which no listed maturity ends is accepted and keeps the listing
   pub unmoved : cond (coveredIn t cal (t .date)) (moved t cal (t .date)) (refusedWith t 16) ≡ keptIn t cal (t .date)

@@ -61,8 +61,10 @@ measureCall t p q price =
 pub record ValueKept (t : Table) (p q price : ℕ) : Type 0 where
   -- 'new price × new size differs from the old product by at most half the new size':
   -- both ways, each side doubled
-  pub above : 2 * (measureCall t p q price .price * measureCall t p q price .table .product .size) ≤ 2 * (price * t .product .size) + measureCall t p q price .table .product .size
-  pub under : 2 * (price * t .product .size) ≤ 2 * (measureCall t p q price .price * measureCall t p q price .table .product .size) + measureCall t p q price .table .product .size
+  pub above : 2 * (measureCall t p q price .price * measureCall t p q price .table .product .size) ≤ 2 * (price * t .product .size) + measureCall t p q
+      price .table .product .size
+  pub under : 2 * (price * t .product .size) ≤ 2 * (measureCall t p q price .price * measureCall t p q price .table .product .size) + measureCall t p q
+      price .table .product .size
   -- 'A measure changes no month, day or number'
   pub untouched : measureCall t p q price .table ≡ resized t (measureCall t p q price .table .product .size)
   -- the table is sound again: its size is 1 ten-thousandth to 65,535.9999 shares

@@ -59,11 +59,13 @@ module _ (a : List Maturity) (n i : ℕ) (fits : n ≤ length a) where
 
   module _ (others : List Maturity) where
     -- the count of those that are missing elsewhere
-    pub missing-next : i < n → length (missing (drop i (take n a)) others) ≡ cond (isListed others (getD a i unused .key)) 0 1 + length (missing (drop (i + 1) (take n a)) others)
+    pub missing-next : i < n → length (missing (drop i (take n a)) others)
+        ≡ cond (isListed others (getD a i unused .key)) 0 1 + length (missing (drop (i + 1) (take n a)) others)
     unfolding missing
     missing-next h = rw (part-next h) (go (isListed others (getD a i unused .key)))
       where
-        go : (b : Bool) → length (cond b (missing (drop (i + 1) (take n a)) others) (getD a i unused ∷ missing (drop (i + 1) (take n a)) others)) ≡ cond b 0 1 + length (missing (drop (i + 1) (take n a)) others)
+        go : (b : Bool) → length (cond b (missing (drop (i + 1) (take n a)) others) (getD a i unused ∷ missing (drop (i + 1) (take n a)) others))
+            ≡ cond b 0 1 + length (missing (drop (i + 1) (take n a)) others)
         go true = omega arith
         go false = omega arith
 
@@ -78,7 +80,8 @@ cond-most true = omega arith
 cond-most false = omega arith
 
 -- a store to the first place that is unused
-put-place : (done : List Maturity) (m : Maturity) (out : List Maturity) (i : ℕ) → length done ≡ i → i < 15 → out ≡ places15 done → set out i m ≡ places15 (done ++ (m ∷ []))
+put-place : (done : List Maturity) (m : Maturity) (out : List Maturity) (i : ℕ) → length done ≡ i → i < 15 → out ≡ places15 done
+    → set out i m ≡ places15 (done ++ (m ∷ []))
 unfolding places15
 put-place done m out i e l q =
     let r : 15 - length done ≡ suc (15 - suc i) = omega arith in
@@ -143,7 +146,8 @@ module _ (old : List Maturity) where
         grown : (s .done ++ (m ∷ [])) ++ renumbered old h (drop (i + 1) (take n fresh)) ≡ renumbered old given (take n fresh)
         grown =
             append-snoc (s .done) m (renumbered old h (drop (i + 1) (take n fresh))) ∙
-            (rw (p, q) (ap (λ (zs : List Maturity). s .done ++ zs) (sym (rw (part-next fresh n i fits l) (renumber-cons g (getD fresh i unused) (drop (i + 1) (take n fresh))))) ∙ s .whole))
+            (rw (p, q) (ap (λ (zs : List Maturity). s .done ++ zs)
+            (sym (rw (part-next fresh n i fits l) (renumber-cons g (getD fresh i unused) (drop (i + 1) (take n fresh))))) ∙ s .whole))
 
     -- after the last place the array holds the renumbered fresh listing
     pub ends : (out : List Maturity) (g i : ℕ) → Numbering fresh n given out g i → n ≤ i → out ≡ places15 (renumbered old given (take n fresh))

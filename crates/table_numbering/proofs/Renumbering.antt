@@ -54,7 +54,8 @@ module _ (old : List Maturity) (m : Maturity) (ms : List Maturity) (rises : Risi
   unfolding isListed
   apart k = go (eqb (m .key) k) refl
     where
-      go : (b : Bool) → eqb (m .key) k ≡ b → bit ((b || isListed ms k) && not (isListed old k)) + bit false ≡ bit (b && not (isListed old k)) + bit (isListed ms k && not (isListed old k))
+      go : (b : Bool) → eqb (m .key) k ≡ b → bit ((b || isListed ms k) && not (isListed old k)) + bit false
+          ≡ bit (b && not (isListed old k)) + bit (isListed ms k && not (isListed old k))
       go true e = rw (← eqb-true (m .key) k e, rising-once m ms rises)
       go false e = omega arith
 
@@ -95,11 +96,13 @@ module _ (old : List Maturity) where
         where
           each : (k : ℕ) → isListed ms k ≡ true → number-in g ms k ≡ number-in given (m ∷ ms) k
           each k t =
-              let c : g + countFrom (only ms old) (suc k) 0 ≡ given + countFrom (only (m ∷ ms) old) (suc k) 0 = omega (arith, count-cons old m ms rises (suc k) (omega (arith, rising-above m ms rises k t))) in
+              let c : g + countFrom (only ms old) (suc k) 0 ≡ given + countFrom (only (m ∷ ms) old) (suc k) 0 =
+              omega (arith, count-cons old m ms rises (suc k) (omega (arith, rising-above m ms rises k t))) in
               rw c
 
       go : (b : Bool) → isListed old (m .key) ≡ b → ((g : ℕ) → renumbered old g ms ≡ with-numbers (number-in g ms) ms)
-          → cond b (withNumber m (numberOf old (m .key)) ∷ renumbered old given ms) (withNumber m (suc given) ∷ renumbered old (suc given) ms) ≡ with-numbers (number-in given (m ∷ ms)) (m ∷ ms)
+          → cond b (withNumber m (numberOf old (m .key)) ∷ renumbered old given ms) (withNumber m (suc given) ∷ renumbered old (suc given) ms)
+          ≡ with-numbers (number-in given (m ∷ ms)) (m ∷ ms)
       go true e ih = rw (e, ih given) (ap (_∷_ (withNumber m (numberOf old (m .key)))) (rest given (omega (arith, ap (λ (x : Bool). bit (not x)) e))))
       go false e ih =
           let c : given + countFrom (only (m ∷ ms) old) (suc (m .key)) 0 ≡ suc given = omega (arith, first, ap (λ (x : Bool). bit (not x)) e) in
@@ -147,7 +150,8 @@ module _ (others : List Maturity) where
           rising-cons m (missing ms others)
           (λ k t. rising-above m ms rises k (and-fst (isListed ms k) (not (isListed others k)) (sym (missing-holds ms k) ∙ t))) ih
 
-  missing-count : (ms : List Maturity) → Rising ms → (n : ℕ) → ((k : ℕ) → isListed ms k ≡ true → k < n) → length (missing ms others) ≡ countFrom (only ms others) n 0
+  missing-count : (ms : List Maturity) → Rising ms → (n : ℕ) → ((k : ℕ) → isListed ms k ≡ true → k < n)
+      → length (missing ms others) ≡ countFrom (only ms others) n 0
   unfolding missing isListed
   missing-count [] rises n h = sym (count-zero (only [] others) n 0 (λ k x y. refl))
   missing-count (m ∷ ms) rises n h =

@@ -55,7 +55,8 @@ same-months (m ∷ ms) (n ∷ ns) r s h = ap₂ _∷_ same (same-months ms ns (r
         go false e = rw (same, e) at (h k)
 
 -- a list with what the law of the missing says has the months of the missing ones
-pub missing-only : (ms others result : List Maturity) → Rising ms → MissingLaw ms others result → map (λ m. m .key) result ≡ map (λ m. m .key) (missing ms others)
+pub missing-only : (ms others result : List Maturity) → Rising ms → MissingLaw ms others result
+    → map (λ m. m .key) result ≡ map (λ m. m .key) (missing ms others)
 missing-only ms others result rises l =
     let s = missing-law others ms rises in
     same-months result (missing ms others) (l .rising) (s .rising) (λ k. l .holds k ∙ sym (s .holds k))
@@ -91,7 +92,8 @@ same-numbers [] [] r e h = refl
 same-numbers [] (n ∷ ns) r e h = absurd (omega (arith, ap length e))
 same-numbers (m ∷ ms) [] r e h = absurd (omega (arith, ap length e))
 same-numbers (m ∷ ms) (n ∷ ns) r e h =
-    ap₂ _∷_ (same-maturity m n a (ap (λ (ls : List Maturity). getD ls 0 unused .day) e) (ap (λ (ls : List Maturity). getD ls 0 unused .back) e) (rw (eq-eqb (m .key) (n .key) a, eq-eqb (n .key) (n .key) refl) at (h (n .key) (here n ns))))
+    ap₂ _∷_ (same-maturity m n a (ap (λ (ls : List Maturity). getD ls 0 unused .day) e) (ap (λ (ls : List Maturity). getD ls 0 unused .back) e)
+    (rw (eq-eqb (m .key) (n .key) a, eq-eqb (n .key) (n .key) refl) at (h (n .key) (here n ns))))
     (same-numbers ms ns (rising-tail n ns r) (ap (drop 1) e) rest)
   where
     a : m .key ≡ n .key
@@ -101,7 +103,8 @@ same-numbers (m ∷ ms) (n ∷ ns) r e h =
     rest k t = rw (a, ne-eqb (n .key) k (λ q. absurd (omega (arith, rising-above n ns r k t)))) at (h k (or-right (eqb (n .key) k) t))
 
 -- a list with what the law of renumbering says is the renumbered fresh listing
-pub renumbered-only : (old : List Maturity) (given : ℕ) (fresh result : List Maturity) → Rising fresh → RenumberedLaw old given fresh result → result ≡ renumbered old given fresh
+pub renumbered-only : (old : List Maturity) (given : ℕ) (fresh result : List Maturity) → Rising fresh → RenumberedLaw old given fresh result
+    → result ≡ renumbered old given fresh
 renumbered-only old given fresh result rises l =
     same-numbers result (renumbered old given fresh) (rising-same (renumbered old given fresh) fresh (s .replaces) rises) (l .replaces ∙ sym (s .replaces))
     (λ k t. go k (sym (listed-same k) ∙ t) (isListed old k) refl)
@@ -110,7 +113,8 @@ renumbered-only old given fresh result rises l =
     s = renumbered-law old given fresh rises
 
     listed-same : (k : ℕ) → isListed (renumbered old given fresh) k ≡ isListed fresh k
-    listed-same k = sym (listed-unnumbered (renumbered old given fresh) k) ∙ ap (λ (ms : List Maturity). isListed ms k) (s .replaces) ∙ listed-unnumbered fresh k
+    listed-same k = sym (listed-unnumbered (renumbered old given fresh) k) ∙ ap (λ (ms : List Maturity). isListed ms k) (s .replaces) ∙
+        listed-unnumbered fresh k
 
     go : (k : ℕ) → isListed fresh k ≡ true → (b : Bool) → isListed old k ≡ b → numberOf result k ≡ numberOf (renumbered old given fresh) k
     go k t true e = l .keeps k t e ∙ sym (s .keeps k t e)

@@ -69,7 +69,8 @@ unfolding productByHalves findFrom foundByHalves placeByHalves
 find-product f id block place e =
     let t = find-there f id block place e in
     let p = placeByHalves f id in
-    let q = ap (λ (a : Answer Place). a .value) (e ∙ accepted (ask 9 (foundByHalves f id) ∷ []) _ (placeOf p) (first-yes 9 {b = foundByHalves f id} [] t ∙ no-asks)) in
+    let q = ap (λ (a : Answer Place). a .value)
+    (e ∙ accepted (ask 9 (foundByHalves f id) ∷ []) _ (placeOf p) (first-yes 9 {b = foundByHalves f id} [] t ∙ no-asks)) in
     let x : block ≡ p / 15 = ap (λ (p : Place). p .block) q in
     let y : place ≡ p % 15 = ap (λ (p : Place). p .«record») q in
     rw (x, y)
@@ -97,7 +98,9 @@ module _ (verdict : Answer Calendar) (f id : List ℕ) (date : ℕ) where
   module _ (a : verdict .refusal ≡ 0) where
     -- the questions after those of load
     rest-in : firstNo (asksIn verdict f id date)
-        ≡ firstNo (ask 9 (foundByHalves f id) ∷ ask 11 (inCover (verdict .value .cover) date) ∷ ask 24 (weekIntoCover (productByHalves f id .kind) (verdict .value .cover) date) ∷ ask 16 (allInCover (verdict .value) (productByHalves f id .kind) (productByHalves f id .group) date) ∷ [])
+        ≡ firstNo (ask 9 (foundByHalves f id) ∷ ask 11 (inCover (verdict .value .cover) date)
+        ∷ ask 24 (weekIntoCover (productByHalves f id .kind) (verdict .value .cover) date)
+        ∷ ask 16 (allInCover (verdict .value) (productByHalves f id .kind) (productByHalves f id .group) date) ∷ [])
     unfolding asksIn firstNo
     rest-in = rw a refl
 
@@ -158,8 +161,14 @@ module _ (f id : List ℕ) (date : ℕ) where
   verdict-no n e = (rw (e, eqb·suc-zero n) refl, append-no (loadAsks f) _ n e)
 
   -- an accepted file's verdict is its calendar, and the first question answered no by it is that of open
-  pub verdict-yes : firstNo (loadAsks f) ≡ 0 → (judgeCall f ≡ record { refusal = 0; value = calendarOf f }) × (firstNo (asksIn (record { refusal = 0; value = calendarOf f }) f id date) ≡ firstNo (openAsks f id date))
-  verdict-yes e = (judge-accepted f e, rest-in (record { refusal = 0; value = calendarOf f }) f id date refl ∙ rw (halves-found f id e, halves-product f id e) (sym (rest-is e)))
+  pub verdict-yes : firstNo (loadAsks f) ≡ 0
+      → (judgeCall f ≡ record { refusal = 0; value = calendarOf f })
+      × (firstNo (asksIn (record { refusal = 0; value = calendarOf f }) f id date) ≡ firstNo (openAsks f id date))
+  verdict-yes e = (
+    judge-accepted f e,
+    rest-in (record { refusal = 0; value = calendarOf f }) f id date refl ∙
+        rw (halves-found f id e, halves-product f id e) (sym (rest-is e)),
+  )
 
   -- an opening by the file's own verdict
   pub opening-is : openingIn (judgeCall f) f id date ≡ openingOf f id date

@@ -64,7 +64,8 @@ module _ (t : Table) (contracts agreed final : ℕ) where
   cash-yes e amount q = rw (q, cash-numbers e) (sym (accepted (cashAsks t contracts agreed final) _ _ e))
 
   -- 'whole sizes give the old amount and rest 0'
-  pub whole-cash : (shares : ℕ) → t .product .size ≡ 10000 * shares → firstNo (cashAsks t contracts agreed final) ≡ 0 → WholeCash t contracts agreed final shares
+  pub whole-cash : (shares : ℕ) → t .product .size ≡ 10000 * shares → firstNo (cashAsks t contracts agreed final) ≡ 0
+      → WholeCash t contracts agreed final shares
   unfolding cashCall
   whole-cash shares e asked =
       let w = whole-size contracts shares agreed final in

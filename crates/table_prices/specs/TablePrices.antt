@@ -49,5 +49,6 @@ cashCall t contracts agreed final =
 -- 'whole sizes give the old amount and rest 0' (02, note 11):
 -- of an accepted call on a table whose size is so many shares
 pub record WholeCash (t : Table) (contracts agreed final shares : ℕ) : Type 0 where
-  pub amount : signed (cashCall t contracts agreed final .value .negative) (cashCall t contracts agreed final .value .amount) ≡ cashAmount contracts shares agreed final
+  pub amount : signed (cashCall t contracts agreed final .value .negative) (cashCall t contracts agreed final .value .amount)
+      ≡ cashAmount contracts shares agreed final
   pub rest : cashCall t contracts agreed final .value .rest ≡ 0

@@ -1,4 +1,5 @@
--- Due compared with what it answered before notes 4 and 5: a day that was answered passes 10, 11 and 17 still, and with a second map of zeros the exchange days are the trading days.
+-- Due compared with what it answered before notes 4 and 5: a day that was answered passes 10, 11 and 17 still, and with a second map of zeros the
+-- exchange days are the trading days.
 -- Assumes nothing.
 use mathlib.Core.Path.{_≡_, refl, sym}
 use mathlib.Core.Bool.{Bool, true, false}

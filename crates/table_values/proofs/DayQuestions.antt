@@ -28,7 +28,8 @@ module _ (t : Table) (key : ℕ) where
     last-day-18 b = refused (lastDayAsks t key) _ _ 17 (rw (a, b))
 
     -- the last day of a listed maturity is the one worked out by the rules
-    pub last-day-yes : isListed (listedIn t) key ≡ true → (last : LastDay) → last ≡ workedOut (t .calendar) (t .product .kind) (t .product .group) key → lastDayCall t key ≡ record { refusal = 0; value = last }
+    pub last-day-yes : isListed (listedIn t) key ≡ true → (last : LastDay) → last ≡ workedOut (t .calendar) (t .product .kind) (t .product .group) key
+        → lastDayCall t key ≡ record { refusal = 0; value = last }
     unfolding lastDayCall firstNo
     last-day-yes b last q = rw q (accepted (lastDayAsks t key) _ _ (rw (a, b)))
 

@@ -24,7 +24,8 @@ use Rattle.table.specs.Table.{listedIn, sound, ruleIn, freshIn}
 use Rattle.table.proofs.Staying.{listed-fresh}
 use Rattle.table_vendor.proofs.Judging.{judged}
 use Rattle.table_vendor.proofs.VendorPasses.{listed-none, passes-find, passes-most}
-use Rattle.table_vendor.specs.Vendor.{VendorEntry, vendorEntryOf, entriesOf, freshEntries, times, smallest, Judgement, yesSaid, nothingSaid, judgement, vendorCall, Reordered, Short, Judged, Vendors}
+use Rattle.table_vendor.specs.Vendor.{VendorEntry, vendorEntryOf, entriesOf, freshEntries, times, smallest, Judgement, yesSaid, nothingSaid, judgement}
+use Rattle.table_vendor.specs.Vendor.{vendorCall, Reordered, Short, Judged, Vendors}
 use Rattle.table_vendor.specs.VendorPasses.{leastListed, leastOther, said}
 
 -- a key stands at most once in a listing whose keys rise
@@ -62,8 +63,16 @@ module _ (t : Table) where
   key-below k e =
       let p = place-of fresh k e in
       let h : p .place < length keys = omega (arith, p .below, length-map keys (maturity rule (t .calendar) (λ j. 0))) in
-      let q : getD fresh (p .place) unused .key ≡ getD keys (p .place) 0 = ap (λ (m : Maturity). m .key) (at-map (maturity rule (t .calendar) (λ j. 0)) unused keys (p .place) h) in
-      omega (arith, p .key, q, key-at rule (rule-lawful (t .calendar .cover) (t .product .kind) (t .product .group)) (t .calendar) (t .date) (p .place) h .below, rule-beyond (t .calendar .cover) (t .product .kind) (t .product .group))
+      let q : getD fresh (p .place) unused .key ≡ getD keys (p .place) 0 =
+      ap (λ (m : Maturity). m .key) (at-map (maturity rule (t .calendar) (λ j. 0)) unused keys (p .place) h) in
+      omega (
+        arith,
+        p .key,
+        q,
+        key-at rule (rule-lawful (t .calendar .cover) (t .product .kind) (t .product .group)) (t .calendar) (t .date)
+            (p .place) h .below,
+        rule-beyond (t .calendar .cover) (t .product .kind) (t .product .group),
+      )
 
   -- the keys of the fresh entries of a table fit 16 bits
   pub fresh-short : Short (freshEntries t)
@@ -81,7 +90,8 @@ module _ (t : Table) (e : sound t ≡ true) (long : length (t .maturities) ≡ 1
   listed-once k = rw (← listed-entries) (fresh-once t k)
 
   -- what the code finds
-  module _ (list : List ℕ) (n first least : ℕ) (i : n ≡ placesOfKind (t .product .kind)) (p : first ≡ leastListed (entriesOf list) (take n (t .maturities)) 65536)
+  module _ (list : List ℕ) (n first least : ℕ) (i : n ≡ placesOfKind (t .product .kind))
+      (p : first ≡ leastListed (entriesOf list) (take n (t .maturities)) 65536)
       (q : least ≡ leastOther (listedIn t) (entriesOf list) first) where
     least-is : least ≡ leastOther (listedIn t) (entriesOf list) (leastListed (entriesOf list) (listedIn t) 65536)
     least-is = q ∙ ap (leastOther (listedIn t) (entriesOf list)) (p ∙ ap (λ (k : ℕ). leastListed (entriesOf list) (take k (t .maturities)) 65536) i)

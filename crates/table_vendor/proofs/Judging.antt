@@ -34,7 +34,8 @@ with-day (x ∷ es) m d e = go (eqb (x .key) m) e (λ z. with-day es m d z)
     alone : (b : Bool) → times es m ≡ 0 → cond b 1 0 + timesWith es m d ≡ cond b 1 0
     alone b z = let w : timesWith es m d ≡ 0 = omega (arith, with-most es m d) in rw w (omega arith)
 
-    go : (a : Bool) → cond a 1 0 + times es m ≡ 1 → (times es m ≡ 1 → timesWith es m d ≡ cond (eqb (vendorDayIn es m) d) 1 0) → cond (a && eqb (x .day) d) 1 0 + timesWith es m d ≡ cond (eqb (cond a (x .day) (vendorDayIn es m)) d) 1 0
+    go : (a : Bool) → cond a 1 0 + times es m ≡ 1 → (times es m ≡ 1 → timesWith es m d ≡ cond (eqb (vendorDayIn es m) d) 1 0)
+        → cond (a && eqb (x .day) d) 1 0 + timesWith es m d ≡ cond (eqb (cond a (x .day) (vendorDayIn es m)) d) 1 0
     go true z ih = alone (eqb (x .day) d) (omega arith)
     go false z ih = rw (zero-add (timesWith es m d)) (ih (omega arith))
 
@@ -73,7 +74,8 @@ only-day (x ∷ es) m d h = go (eqb (x .key) m) refl (eqb (x .day) d) refl (only
         less : 1 + timesWith es m (x .day) ≡ 0 → ⊥
         less z = omega arith
 
-    go : (a : Bool) → eqb (x .key) m ≡ a → (b : Bool) → eqb (x .day) d ≡ b → times es m ≡ timesWith es m d → cond a 1 0 + times es m ≡ cond (a && b) 1 0 + timesWith es m d
+    go : (a : Bool) → eqb (x .key) m ≡ a → (b : Bool) → eqb (x .day) d ≡ b → times es m ≡ timesWith es m d
+        → cond a 1 0 + times es m ≡ cond (a && b) 1 0 + timesWith es m d
     go true e true q ih = ap (λ (n : ℕ). 1 + n) ih
     go true e false q ih = absurd (there e (h (x .day) (eqb-false _ _ q)))
     go false e b q ih = ap (λ (n : ℕ). 0 + n) ih
@@ -152,7 +154,8 @@ module _ (fresh list : List VendorEntry) (once : (m : ℕ) → times fresh m ≤
       same : times fresh m ≡ 1 → (b : Bool) → eqb (vendorDayIn fresh m) (vendorDayIn list m) ≡ b → vendorDayIn fresh m ≡ vendorDayIn list m
       same p true q = eqb-true _ _ q
       same p false q =
-          let z = sym (with-day list m (vendorDayIn list m) (one p)) ∙ other p (vendorDayIn list m) (λ s. eqb-false (vendorDayIn fresh m) (vendorDayIn list m) q (sym s)) in
+          let z = sym (with-day list m (vendorDayIn list m) (one p)) ∙
+          other p (vendorDayIn list m) (λ s. eqb-false (vendorDayIn fresh m) (vendorDayIn list m) q (sym s)) in
           absurd (differ (rw (eq-eqb (vendorDayIn list m) (vendorDayIn list m) refl) at z))
         where
           differ : _≡_ {A = ℕ} 1 0 → ⊥
@@ -217,7 +220,8 @@ module _ (fresh list : List VendorEntry) (once : (m : ℕ) → times fresh m ≤
             record {
               yes = ((λ s. clash s (ap (λ (j : Judgement). j .same) (judge-no e))), (λ r. different r least-differs));
               named = λ s. ap (λ (j : Judgement). differs fresh list (j .key)) (judge-no e) ∙ wrong least-differs;
-              none-smaller = λ s m l. before-least m (omega (arith, least-in (eqb-false _ _ e), ap (λ (j : Judgement). j .key) (judge-no e))) (omega (arith, ap (λ (j : Judgement). j .key) (judge-no e)));
+              none-smaller = λ s m l. before-least m (omega (arith, least-in (eqb-false _ _ e), ap (λ (j : Judgement). j .key) (judge-no e)))
+                  (omega (arith, ap (λ (j : Judgement). j .key) (judge-no e)));
             }
           where
             wrong : (least ≡ 65536) ⊎ (differs fresh list least ≡ true) → differs fresh list least ≡ true

@@ -16,7 +16,8 @@ use Rattle.table_vendor.specs.Vendor.{VendorEntry, entriesOf, times, ven
 use Rattle.table_vendor.specs.VendorPasses.{entryCount, standsOnce, lesser, leastListed, leastOther}
 
 -- entry j is the numbers 2 j and 2 j + 1
-entry-next : (l : List ℕ) (j : ℕ) → j < entryCount l → drop j (entriesOf l) ≡ record { key = getD l (2 * j) 0; day = getD l (2 * j + 1) 0 } ∷ drop (j + 1) (entriesOf l)
+entry-next : (l : List ℕ) (j : ℕ) → j < entryCount l
+    → drop j (entriesOf l) ≡ record { key = getD l (2 * j) 0; day = getD l (2 * j + 1) 0 } ∷ drop (j + 1) (entriesOf l)
 unfolding entriesOf
 entry-next [] j h = absurd (omega arith)
 entry-next (m ∷ []) zero h = refl
@@ -88,11 +89,13 @@ module _ (l : List ℕ) (j : ℕ) (m : ℕ) where
         never false = refl
 
     -- a key whose first entry has the day stands once with it exactly where it is gone from the rest
-    pub once-if : j < entryCount l → getD l (2 * j) 0 ≡ m → getD l (2 * j + 1) 0 ≡ d → (b : Bool) → b ≡ eqb (times (drop (j + 1) es) m) 0 → b ≡ standsOnce es m d
+    pub once-if : j < entryCount l → getD l (2 * j) 0 ≡ m → getD l (2 * j + 1) 0 ≡ d → (b : Bool) → b ≡ eqb (times (drop (j + 1) es) m) 0
+        → b ≡ standsOnce es m d
     unfolding standsOnce
     once-if h e q b w =
         let z : eqb (vendorDayIn es m) d ≡ true = eq-eqb (vendorDayIn es m) d (sym r ∙ day-here h e ∙ q) in
-        w ∙ one (times (drop (j + 1) es) m) (times es m) (sym s ∙ times-here h e) ∙ always (eqb (times es m) 1) ∙ ap (λ (b : Bool). eqb (times es m) 1 && b) (sym z)
+        w ∙ one (times (drop (j + 1) es) m) (times es m) (sym s ∙ times-here h e) ∙ always (eqb (times es m) 1) ∙
+        ap (λ (b : Bool). eqb (times es m) 1 && b) (sym z)
       where
         one : (x y : ℕ) → y ≡ suc x → eqb x 0 ≡ eqb y 1
         one zero y e = sym (eq-eqb y 1 e)
@@ -112,7 +115,8 @@ module _ (l : List ℕ) (j : ℕ) (m : ℕ) where
 -- the pass over the list
 module _ (places : List Maturity) (l : List ℕ) (j least : ℕ) where
   -- the pass over the list, after the next entry, goes on with the lesser key over the rest
-  pub other-next : j < entryCount l → (now : ℕ) → now ≡ lesser (isListed places (getD l (2 * j) 0)) (getD l (2 * j) 0) least → leastOther places (drop (j + 1) (entriesOf l)) now ≡ leastOther places (drop j (entriesOf l)) least
+  pub other-next : j < entryCount l → (now : ℕ) → now ≡ lesser (isListed places (getD l (2 * j) 0)) (getD l (2 * j) 0) least
+      → leastOther places (drop (j + 1) (entriesOf l)) now ≡ leastOther places (drop j (entriesOf l)) least
   unfolding leastOther
   other-next h now e = sym (rw (entry-next l j h, e))
 
@@ -124,7 +128,8 @@ module _ (places : List Maturity) (l : List ℕ) (j least : ℕ) where
 -- the pass over the places
 module _ (es : List VendorEntry) (a : List Maturity) (n i : ℕ) (fits : n ≤ length a) (least : ℕ) where
   -- the pass over the places, after the next place, goes on with the lesser key over the rest
-  pub place-next : i < n → (now : ℕ) → now ≡ lesser (standsOnce es (getD a i unused .key) (getD a i unused .day)) (getD a i unused .key) least → leastListed es (drop (i + 1) (take n a)) now ≡ leastListed es (drop i (take n a)) least
+  pub place-next : i < n → (now : ℕ) → now ≡ lesser (standsOnce es (getD a i unused .key) (getD a i unused .day)) (getD a i unused .key) least
+      → leastListed es (drop (i + 1) (take n a)) now ≡ leastListed es (drop i (take n a)) least
   unfolding leastListed
   place-next h now e = sym (rw (part-next a n i fits h, e))
 

@@ -68,9 +68,16 @@ module _ (test : VendorEntry → Bool) where
       here : (b : Bool) → test e ≡ b → (eqb (e .key) m ≡ true) → not b ≡ true → leastOf test es (lesser (test e) (e .key) least) ≤ m
       here true q s n = clash n refl
       here false q s n =
-          omega (arith, pass-most es (lesser (test e) (e .key) least), ap (λ (b : Bool). lesser b (e .key) least) q, lesser-no (e .key) least, eqb-true (e .key) m s)
+          omega (
+            arith,
+            pass-most es (lesser (test e) (e .key) least),
+            ap (λ (b : Bool). lesser b (e .key) least) q,
+            lesser-no (e .key) least,
+            eqb-true (e .key) m s,
+          )
 
-      go : ((eqb (e .key) m && not (test e)) ≡ true) ⊎ (fails test es m ≡ true) → (fails test es m ≡ true → leastOf test es (lesser (test e) (e .key) least) ≤ m) → leastOf test es (lesser (test e) (e .key) least) ≤ m
+      go : ((eqb (e .key) m && not (test e)) ≡ true) ⊎ (fails test es m ≡ true)
+          → (fails test es m ≡ true → leastOf test es (lesser (test e) (e .key) least) ≤ m) → leastOf test es (lesser (test e) (e .key) least) ≤ m
       go (inl p) ih = let (s, n) = both (eqb (e .key) m) (not (test e)) p in here (test e) refl s n
       go (inr p) ih = ih p
 
@@ -79,13 +86,17 @@ module _ (test : VendorEntry → Bool) where
   pass-is [] least = inl refl
   pass-is (e ∷ es) least = go (pass-is es (lesser (test e) (e .key) least)) (lesser-is (test e) (e .key) least)
     where
-      go : (leastOf test es (lesser (test e) (e .key) least) ≡ lesser (test e) (e .key) least) ⊎ (fails test es (leastOf test es (lesser (test e) (e .key) least)) ≡ true)
+      go : (leastOf test es (lesser (test e) (e .key) least) ≡ lesser (test e) (e .key) least)
+          ⊎ (fails test es (leastOf test es (lesser (test e) (e .key) least)) ≡ true)
           → (lesser (test e) (e .key) least ≡ least) ⊎ ((test e ≡ false) × (lesser (test e) (e .key) least ≡ e .key))
-          → (leastOf test es (lesser (test e) (e .key) least) ≡ least) ⊎ ((eqb (e .key) (leastOf test es (lesser (test e) (e .key) least)) && not (test e) || fails test es (leastOf test es (lesser (test e) (e .key) least))) ≡ true)
+          → (leastOf test es (lesser (test e) (e .key) least) ≡ least)
+          ⊎ ((eqb (e .key) (leastOf test es (lesser (test e) (e .key) least))
+          && not (test e) || fails test es (leastOf test es (lesser (test e) (e .key) least))) ≡ true)
       go (inr p) s = inr (or-right (eqb (e .key) (leastOf test es (lesser (test e) (e .key) least)) && not (test e)) p)
       go (inl p) (inl s) = inl (p ∙ s)
       go (inl p) (inr s) =
-          inr (or-left (fails test es (leastOf test es (lesser (test e) (e .key) least))) (and-both (eq-eqb (e .key) (leastOf test es (lesser (test e) (e .key) least)) (sym (p ∙ s .1))) (ap not (s .0))))
+          inr (or-left (fails test es (leastOf test es (lesser (test e) (e .key) least)))
+          (and-both (eq-eqb (e .key) (leastOf test es (lesser (test e) (e .key) least)) (sym (p ∙ s .1))) (ap not (s .0))))
 
 -- the passes of the code
 other-is : (places : List Maturity) (es : List VendorEntry) (least : ℕ) → leastOther places es least ≡ leastOf (λ e. isListed places (e .key)) es least
@@ -93,7 +104,8 @@ unfolding leastOther
 other-is places [] least = refl
 other-is places (e ∷ es) least = other-is places es (lesser (isListed places (e .key)) (e .key) least)
 
-place-is : (list : List VendorEntry) (ms : List Maturity) (least : ℕ) → leastListed list ms least ≡ leastOf (λ e. standsOnce list (e .key) (e .day)) (map vendorEntryOf ms) least
+place-is : (list : List VendorEntry) (ms : List Maturity) (least : ℕ)
+    → leastListed list ms least ≡ leastOf (λ e. standsOnce list (e .key) (e .day)) (map vendorEntryOf ms) least
 unfolding leastListed
 place-is list [] least = refl
 place-is list (m ∷ ms) least = place-is list ms (lesser (standsOnce list (m .key) (m .day)) (m .key) least)
@@ -104,7 +116,8 @@ unfolding isListed times
 listed-stands [] m e = clash e refl
 listed-stands (x ∷ ms) m e = go (eqb (x .key) m) e (listed-stands ms m)
   where
-    go : (b : Bool) → (b || isListed ms m) ≡ true → (isListed ms m ≡ true → 1 ≤ times (map vendorEntryOf ms) m) → 1 ≤ cond b 1 0 + times (map vendorEntryOf ms) m
+    go : (b : Bool) → (b || isListed ms m) ≡ true → (isListed ms m ≡ true → 1 ≤ times (map vendorEntryOf ms) m)
+        → 1 ≤ cond b 1 0 + times (map vendorEntryOf ms) m
     go true e ih = omega arith
     go false e ih = omega (arith, ih e)
 
@@ -114,7 +127,8 @@ unfolding isListed times
 listed-none [] m e = refl
 listed-none (x ∷ ms) m e = go (eqb (x .key) m) e (listed-none ms m)
   where
-    go : (b : Bool) → (b || isListed ms m) ≡ false → (isListed ms m ≡ false → times (map vendorEntryOf ms) m ≡ 0) → cond b 1 0 + times (map vendorEntryOf ms) m ≡ 0
+    go : (b : Bool) → (b || isListed ms m) ≡ false → (isListed ms m ≡ false → times (map vendorEntryOf ms) m ≡ 0)
+        → cond b 1 0 + times (map vendorEntryOf ms) m ≡ 0
     go true e ih = clash refl e
     go false e ih = omega (arith, ih e)
 
@@ -125,7 +139,8 @@ module _ (listed : ℕ → Bool) (m : ℕ) where
   other-fails [] a h = absurd (omega arith)
   other-fails (e ∷ es) a h = go (eqb (e .key) m) refl h (other-fails es a)
     where
-      go : (b : Bool) → eqb (e .key) m ≡ b → 1 ≤ cond b 1 0 + times es m → (1 ≤ times es m → fails (λ e. listed (e .key)) es m ≡ true) → (b && not (listed (e .key)) || fails (λ e. listed (e .key)) es m) ≡ true
+      go : (b : Bool) → eqb (e .key) m ≡ b → 1 ≤ cond b 1 0 + times es m → (1 ≤ times es m → fails (λ e. listed (e .key)) es m ≡ true)
+          → (b && not (listed (e .key)) || fails (λ e. listed (e .key)) es m) ≡ true
       go true q h ih = or-left (fails (λ e. listed (e .key)) es m) (ap not (ap listed (eqb-true (e .key) m q) ∙ a))
       go false q h ih = ih (omega arith)
 
@@ -138,11 +153,13 @@ module _ (listed : ℕ → Bool) (m : ℕ) where
       more true s = (s .0, omega arith)
       more false s = (s .0, omega (arith, s .1))
 
-      here : eqb (e .key) m ≡ true → (not (listed (e .key)) ≡ true) ⊎ (fails (λ e. listed (e .key)) es m ≡ true) → (fails (λ e. listed (e .key)) es m ≡ true → (listed m ≡ false) × (1 ≤ times es m)) → (listed m ≡ false) × (1 ≤ 1 + times es m)
+      here : eqb (e .key) m ≡ true → (not (listed (e .key)) ≡ true) ⊎ (fails (λ e. listed (e .key)) es m ≡ true)
+          → (fails (λ e. listed (e .key)) es m ≡ true → (listed m ≡ false) × (1 ≤ times es m)) → (listed m ≡ false) × (1 ≤ 1 + times es m)
       here q (inl n) ih = (ap listed (sym (eqb-true (e .key) m q)) ∙ not-true (listed (e .key)) n, omega arith)
       here q (inr n) ih = more true (ih n)
 
-      go : (b : Bool) → eqb (e .key) m ≡ b → (b && not (listed (e .key)) || fails (λ e. listed (e .key)) es m) ≡ true → (fails (λ e. listed (e .key)) es m ≡ true → (listed m ≡ false) × (1 ≤ times es m)) → (listed m ≡ false) × (1 ≤ cond b 1 0 + times es m)
+      go : (b : Bool) → eqb (e .key) m ≡ b → (b && not (listed (e .key)) || fails (λ e. listed (e .key)) es m) ≡ true
+          → (fails (λ e. listed (e .key)) es m ≡ true → (listed m ≡ false) × (1 ≤ times es m)) → (listed m ≡ false) × (1 ≤ cond b 1 0 + times es m)
       go true q f ih = here q (or-either (not (listed (e .key))) (fails (λ e. listed (e .key)) es m) f) ih
       go false q f ih = more false (ih f)
 
@@ -159,7 +176,8 @@ module _ (good : ℕ → ℕ → Bool) (m : ℕ) where
       go true s t q ih = or-left (fails (λ e. good (e .key) (e .day)) es m) (ap not (ap (λ (k : ℕ). good k (e .day)) (eqb-true (e .key) m s) ∙ q))
       go false s t q ih = ih (omega arith) q
 
-  place-why : (es : List VendorEntry) → times es m ≤ 1 → fails (λ e. good (e .key) (e .day)) es m ≡ true → (1 ≤ times es m) × (good m (vendorDayIn es m) ≡ false)
+  place-why : (es : List VendorEntry) → times es m ≤ 1 → fails (λ e. good (e .key) (e .day)) es m ≡ true
+      → (1 ≤ times es m) × (good m (vendorDayIn es m) ≡ false)
   unfolding times vendorDayIn
   place-why [] t f = clash f refl
   place-why (e ∷ es) t f = go (eqb (e .key) m) refl t f (place-why es)
@@ -173,7 +191,8 @@ module _ (good : ℕ → ℕ → Bool) (m : ℕ) where
       less : (1 ≤ times es m) × (good m (vendorDayIn es m) ≡ false) → (1 ≤ 0 + times es m) × (good m (vendorDayIn es m) ≡ false)
       less s = (omega (arith, s .0), s .1)
 
-      go : (b : Bool) → eqb (e .key) m ≡ b → cond b 1 0 + times es m ≤ 1 → (b && not (good (e .key) (e .day)) || fails (λ e. good (e .key) (e .day)) es m) ≡ true
+      go : (b : Bool) → eqb (e .key) m ≡ b → cond b 1 0 + times es m ≤ 1
+          → (b && not (good (e .key) (e .day)) || fails (λ e. good (e .key) (e .day)) es m) ≡ true
           → (times es m ≤ 1 → fails (λ e. good (e .key) (e .day)) es m ≡ true → (1 ≤ times es m) × (good m (vendorDayIn es m) ≡ false))
           → (1 ≤ cond b 1 0 + times es m) × (good m (cond b (e .day) (vendorDayIn es m)) ≡ false)
       go true s t f ih = here s t (or-either (not (good (e .key) (e .day))) (fails (λ e. good (e .key) (e .day)) es m) f) ih
@@ -243,7 +262,11 @@ module _ (places : List Maturity) (list : List VendorEntry) (once : (m : ℕ) �
 
       one : times fresh m ≡ 1 → (b : Bool) → standsOnce list m (vendorDayIn fresh m) ≡ b → differs fresh list m ≡ false
       one p true e = once-alike m p e
-      one p false e = absurd (omega (arith, least-first, pass-below (λ e. standsOnce list (e .key) (e .day)) fresh 65536 m (place-fails (standsOnce list) m fresh p e)))
+      one p false e = absurd (omega (
+        arith,
+        least-first,
+        pass-below (λ e. standsOnce list (e .key) (e .day)) fresh 65536 m (place-fails (standsOnce list) m fresh p e),
+      ))
 
       none : times fresh m ≡ 0 → (n : ℕ) → times list m ≡ n → differs fresh list m ≡ false
       none p zero q = alike-not fresh list once m (neither p q)
@@ -259,7 +282,8 @@ module _ (places : List Maturity) (list : List VendorEntry) (once : (m : ℕ) �
   least-differs : (least ≡ 65536) ⊎ (differs fresh list least ≡ true)
   least-differs = go (pass-is (λ e. isListed places (e .key)) list first) (pass-is (λ e. standsOnce list (e .key) (e .day)) fresh 65536)
     where
-      go : (least ≡ first) ⊎ (fails (λ e. isListed places (e .key)) list least ≡ true) → (first ≡ 65536) ⊎ (fails (λ e. standsOnce list (e .key) (e .day)) fresh first ≡ true) → (least ≡ 65536) ⊎ (differs fresh list least ≡ true)
+      go : (least ≡ first) ⊎ (fails (λ e. isListed places (e .key)) list least ≡ true)
+          → (first ≡ 65536) ⊎ (fails (λ e. standsOnce list (e .key) (e .day)) fresh first ≡ true) → (least ≡ 65536) ⊎ (differs fresh list least ≡ true)
       go (inr f) s =
           let (a, b) = other-why (isListed places) least list f in
           inr (other-not least (listed-none places least a) b)
@@ -279,7 +303,8 @@ module _ (places : List Maturity) (list : List VendorEntry) (once : (m : ℕ) �
       go (inr l) s = none (omega (arith, least-most))
       go (inl l) (inl e) = none e
       go (inl l) (inr d) =
-          sym (zero-add least) ∙ sym (first-is (differs fresh list) 65536 65536 0 least l (λ i h. ap (differs fresh list) (zero-add i) ∙ below-least i h) (ap (differs fresh list) (zero-add least) ∙ d))
+          sym (zero-add least) ∙ sym (first-is (differs fresh list) 65536 65536 0 least l (λ i h. ap (differs fresh list) (zero-add i) ∙ below-least i h)
+          (ap (differs fresh list) (zero-add least) ∙ d))
 
   -- the two passes find the smallest key that differs
   pub passes-find : leastOther places list (leastListed list places 65536) ≡ smallest (map vendorEntryOf places) list

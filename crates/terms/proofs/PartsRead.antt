@@ -46,7 +46,8 @@ far-more opening h h′ l l′ n n′ m m′ k part c s d e =
     record {
       parts = c .parts ++ (take k part ∷ []);
       text = c .text ++ d .text;
-      on = λ later t n″ r. rw (append-assoc (c .parts) (take k part ∷ []) later, append-assoc (c .text) (d .text) t) (c .on (take k part ∷ later) (d .text ++ t) n″ (goes-on d r));
+      on = λ later t n″ r. rw (append-assoc (c .parts) (take k part ∷ []) later, append-assoc (c .text) (d .text) t)
+          (c .on (take k part ∷ later) (d .text ++ t) n″ (goes-on d r));
       count = omega (arith, e, c .count, one-longer (c .parts) (take k part), length-take-le k part s);
     }
 

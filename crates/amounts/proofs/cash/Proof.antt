@@ -17,7 +17,8 @@ cast-change : tie.Need-cast-change
 cast-change c = search needs
 
 -- ---- the products fit
-in-bounds : (c : tie.After-apart) → Bounds (c .before .before .before .args .contracts) (c .before .before .before .args .size) (c .before .before .before .args .agreed) (c .before .before .before .args .final-price)
+in-bounds : (c : tie.After-apart) → Bounds (c .before .before .before .args .contracts) (c .before .before .before .args .size)
+    (c .before .before .before .args .agreed) (c .before .before .before .args .final-price)
 in-bounds c = bounds _ _ _ _ (said-yes (c .before .before .cash-admitted .ensures) (c .before .if1 .left))
 
 mul-change : tie.Need-mul-change

@@ -7,7 +7,8 @@ use Rattle.amounts.proofs.cash_admitted.Tie as tie
 
 returns : tie.Need-returns
 unfolding cashAdmitted
-returns c = ap₂ _&&_ (ap₂ _&&_ (ap₂ _&&_ (c .before .before .before .price-right .ensures) (c .before .before .final-right .ensures)) (c .before .contracts-right .ensures)) (c .size-right .ensures)
+returns c = ap₂ _&&_ (ap₂ _&&_ (ap₂ _&&_ (c .before .before .before .price-right .ensures) (c .before .before .final-right .ensures))
+    (c .before .contracts-right .ensures)) (c .size-right .ensures)
 
 pub cash-admitted-spec : {M : Type 1} → statement M
 cash-admitted-spec =

@@ -15,7 +15,8 @@ returns-2 c =
     let at-kind-of = c .before in
     let at-if1 = at-kind-of .before .before .before .before .before in
     let start = at-if1 .before .before in
-    rw (c .kind-or-future .ensures, kind-value (at-kind-of .kind-of .result) (start .args .p .kind) (at-kind-of .kind-of .ensures)) (product-yes _ (said-yes (at-if1 .before .kind-right .ensures) (at-if1 .if1 .left)))
+    rw (c .kind-or-future .ensures, kind-value (at-kind-of .kind-of .result) (start .args .p .kind) (at-kind-of .kind-of .ensures))
+    (product-yes _ (said-yes (at-if1 .before .kind-right .ensures) (at-if1 .if1 .left)))
 
 pub unflat-product-spec : {M : Type 1} → statement M
 unflat-product-spec =

@@ -34,7 +34,8 @@ element-write-next : tie.Need-element-write-next
 element-write-next c = search needs
 
 returns-3 : tie.Need-returns-3
-returns-3 c = close-store _ _ _ (c .before .before .slot-of .ensures) (said-yes (c .before .before .before .before .in-cover .ensures) (c .before .before .before .if1 .left))
+returns-3 c = close-store _ _ _ (c .before .before .slot-of .ensures)
+    (said-yes (c .before .before .before .before .in-cover .ensures) (c .before .before .before .if1 .left))
 
 pub close-day-spec : {M : Type 1} → statement M
 close-day-spec =

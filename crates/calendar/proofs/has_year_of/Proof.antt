@@ -19,7 +19,8 @@ returns-3 c =
     let at-year-of = at-if2 .before in
     let at-if1 = at-year-of .before in
     let v = at-if1 .before .args .cover in
-    ap (λ (y : ℕ). ltb (y - v .«first_year») (v .years)) (at-year-of .year-of .ensures) ∙ covers-is _ _ (at-if1 .if1 .left) (rw (at-year-of .year-of .ensures) at (at-if2 .if2 .left))
+    ap (λ (y : ℕ). ltb (y - v .«first_year») (v .years)) (at-year-of .year-of .ensures) ∙
+    covers-is _ _ (at-if1 .if1 .left) (rw (at-year-of .year-of .ensures) at (at-if2 .if2 .left))
 
 pub has-year-of-spec : {M : Type 1} → statement M
 has-year-of-spec = tie.close (tie.spec returns (λ c κs. tt) returns-2 returns-3)

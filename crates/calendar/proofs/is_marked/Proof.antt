@@ -33,7 +33,10 @@ shr-result c = search needs
 
 returns-3 : tie.Need-returns-3
 unfolding bitAt
-returns-3 c = simp (said-yes (c .before .before .before .before .has-year-of .ensures) (c .before .before .before .if1 .left), sym (c .before .before .slot-of .ensures))
+returns-3 c = simp (
+  said-yes (c .before .before .before .before .has-year-of .ensures) (c .before .before .before .if1 .left),
+  sym (c .before .before .slot-of .ensures),
+)
 
 pub is-marked-spec : {M : Type 1} → statement M
 is-marked-spec =

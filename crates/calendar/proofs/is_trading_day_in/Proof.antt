@@ -18,7 +18,10 @@ returns c = simp (said-no (c .before .has-year-of .ensures) (c .if1 .taken))
 
 returns-2 : tie.Need-returns-2
 unfolding tradingDay
-returns-2 c = simp (said-yes (c .before .before .before .has-year-of .ensures) (c .before .before .if1 .left), le-ltb _ _ (rw (c .before .weekday .ensures) at (c .if2 .taken)))
+returns-2 c = simp (
+  said-yes (c .before .before .before .has-year-of .ensures) (c .before .before .if1 .left),
+  le-ltb _ _ (rw (c .before .weekday .ensures) at (c .if2 .taken)),
+)
 
 -- ---- a slot past the map's end
 returns-3 : tie.Need-returns-3
@@ -51,7 +54,11 @@ unfolding tradingDay closedOn bitAt
 returns-4 c =
     let at-if2 = c .before .before .before in
     let at-if1 = at-if2 .before .before in
-    simp (said-yes (at-if1 .before .has-year-of .ensures) (at-if1 .if1 .left), lt-ltb _ _ (rw (at-if2 .before .weekday .ensures) at (at-if2 .if2 .left)), sym (c .before .before .slot-of .ensures))
+    simp (
+      said-yes (at-if1 .before .has-year-of .ensures) (at-if1 .if1 .left),
+      lt-ltb _ _ (rw (at-if2 .before .weekday .ensures) at (at-if2 .if2 .left)),
+      sym (c .before .before .slot-of .ensures),
+    )
 
 pub is-trading-day-in-spec : {M : Type 1} → statement M
 is-trading-day-in-spec =

@@ -11,7 +11,8 @@ use Rattle.calendar.proofs.next_exchange_day_in.Statement.{statement}
 use Rattle.calendar.proofs.next_exchange_day_in.Tie as tie
 
 abbrev Inv-loop : tie.InvT-loop
-Inv-loop cover closed exchange day end d₀ d = (d ≤ end) × (firstFrom (exchangeDay (calendarOfMaps cover closed exchange)) 36525 (end - d) d ≡ nextExchangeDay (calendarOfMaps cover closed exchange) day)
+Inv-loop cover closed exchange day end d₀ d =
+    (d ≤ end) × (firstFrom (exchangeDay (calendarOfMaps cover closed exchange)) 36525 (end - d) d ≡ nextExchangeDay (calendarOfMaps cover closed exchange) day)
 
 abbrev μ-loop : tie.MeasureT-loop
 μ-loop cover closed exchange day end d₀ d = end - d
@@ -37,7 +38,8 @@ is-exchange-day-in-requires c κs = tt
 
 -- ---- the loop: a day found, or the next one
 returns-2 : tie.Need-returns-2 Inv-loop μ-loop
-returns-2 c = sym (search-here _ _ _ _ (c .before .before .loop-test .taken) (sym (c .before .is-exchange-day-in .ensures) ∙ c .if2 .taken)) ∙ c .before .before .before .loop .inv .1
+returns-2 c = sym (search-here _ _ _ _ (c .before .before .loop-test .taken) (sym (c .before .is-exchange-day-in .ensures) ∙ c .if2 .taken)) ∙
+    c .before .before .before .loop .inv .1
 
 add-d-2 : tie.Need-add-d-2 Inv-loop μ-loop
 add-d-2 c = omega arith
@@ -46,7 +48,11 @@ loop-less : tie.Need-loop-less Inv-loop μ-loop
 loop-less c = omega arith
 
 loop-again : tie.Need-loop-again Inv-loop μ-loop
-loop-again c = (omega arith, search-next _ _ _ _ (c .before .before .loop-test .taken) (sym (c .before .is-exchange-day-in .ensures) ∙ c .if2 .left) ∙ c .before .before .before .loop .inv .1)
+loop-again c = (
+  omega arith,
+  search-next _ _ _ _ (c .before .before .loop-test .taken) (sym (c .before .is-exchange-day-in .ensures) ∙ c .if2 .left) ∙
+      c .before .before .before .loop .inv .1,
+)
 
 -- ---- after the loop: none is left
 returns-3 : tie.Need-returns-3 Inv-loop μ-loop

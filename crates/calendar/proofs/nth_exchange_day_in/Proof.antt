@@ -34,7 +34,8 @@ returns : tie.Need-returns Inv-loop μ-loop
 returns c =
     let start = c .before .before .before .before in
     let e : c .before .loop .i ≡ start .args .n = omega arith in
-    c .before .loop .inv .1 ∙ ap (λ (k : ℕ). nthExchangeDay (calendarOfMaps (start .args .cover) (start .args .closed .now) (start .args .exchange .now)) k (start .args .day)) e
+    c .before .loop .inv .1 ∙ ap (λ (k : ℕ).
+    nthExchangeDay (calendarOfMaps (start .args .cover) (start .args .closed .now) (start .args .exchange .now)) k (start .args .day)) e
 
 pub nth-exchange-day-in-spec : {M : Type 1} → statement M
 nth-exchange-day-in-spec =

@@ -51,7 +51,8 @@ element-write-next-2 c = search needs
 
 -- ---- both maps
 returns-3 : tie.Need-returns-3
-returns-3 c = reopen-store _ _ _ (c .before .before .before .slot-of .ensures) (said-yes (c .before .before .before .before .before .in-cover .ensures) (c .before .before .before .before .if1 .left))
+returns-3 c = reopen-store _ _ _ (c .before .before .before .slot-of .ensures)
+    (said-yes (c .before .before .before .before .before .in-cover .ensures) (c .before .before .before .before .if1 .left))
 
 pub reopen-day-spec : {M : Type 1} → statement M
 reopen-day-spec =

@@ -45,7 +45,8 @@ returns-2 c =
     let k = start .args .k - 1 in
     let l = c .before .rest-length .ensures in
     let e : cal .cover .«first_year» + k + 1 ≡ cal .cover .«first_year» + start .args .k = omega arith in
-    rw (← ap yearStart e) (last-eight cal k (start .pre .1) (omega arith) (c .before .rest-length .result) (c .rest-days .result) (l .0) (l .1) (l .2) (c .rest-days .ensures .0))
+    rw (← ap yearStart e) (last-eight cal k (start .pre .1) (omega arith) (c .before .rest-length .result) (c .rest-days .result) (l .0) (l .1) (l .2)
+    (c .rest-days .ensures .0))
 
 pub days-before-spec : {M : Type 1} → statement M
 days-before-spec =

@@ -42,7 +42,9 @@ returns c =
     let start = at-used .before in
     let map = start .args .closed .now in
     let k = at-loop .loop .k in
-    sym (every-fails (slotDay map (start .args .cover)) (368 * k) 368 5888 (slots-year map (start .args .cover) _ (at-used .maps-used .ensures) k (c .before .before .before .loop-test .taken) ∙ said-no (c .before .year-is-clean .ensures) (c .if1 .taken)) (omega (arith, at-used .maps-used .ensures .most)))
+    sym (every-fails (slotDay map (start .args .cover)) (368 * k) 368 5888
+    (slots-year map (start .args .cover) _ (at-used .maps-used .ensures) k (c .before .before .before .loop-test .taken) ∙
+    said-no (c .before .year-is-clean .ensures) (c .if1 .taken)) (omega (arith, at-used .maps-used .ensures .most)))
 
 -- ---- a year that passes
 add-k : tie.Need-add-k Inv-loop μ-loop
@@ -58,8 +60,13 @@ loop-again c =
     let start = at-used .before in
     let map = start .args .closed .now in
     let k = at-loop .loop .k in
-    let e : 368 * (k + 1) ≡ 368 * k + 368 = omega arith in
-    (omega arith, ap (λ (n : ℕ). every n (slotDay map (start .args .cover))) e ∙ every-add (slotDay map (start .args .cover)) (368 * k) 368 (at-loop .loop .inv .1) (slots-year map (start .args .cover) _ (at-used .maps-used .ensures) k (c .before .before .before .loop-test .taken) ∙ said-yes (c .before .year-is-clean .ensures) (c .if1 .left)))
+    let e : 368 * (k + 1) ≡ 368 * k + 368 = omega arith in (
+      omega arith,
+      ap (λ (n : ℕ). every n (slotDay map (start .args .cover))) e ∙
+          every-add (slotDay map (start .args .cover)) (368 * k) 368 (at-loop .loop .inv .1)
+          (slots-year map (start .args .cover) _ (at-used .maps-used .ensures) k (c .before .before .before .loop-test .taken) ∙
+          said-yes (c .before .year-is-clean .ensures) (c .if1 .left)),
+    )
 
 is-empty-after-requires : tie.Need-is-empty-after-requires Inv-loop μ-loop
 is-empty-after-requires c κs = tt
@@ -71,7 +78,8 @@ returns-2 c =
     let at-used = at-loop .before in
     let start = at-used .before in
     let e : at-loop .loop .k ≡ at-used .maps-used .result = omega arith in
-    c .is-empty-after .ensures ∙ sym (slots-after (start .args .closed .now) (start .args .cover) _ (at-used .maps-used .ensures) (rw e at (at-loop .loop .inv .1)))
+    c .is-empty-after .ensures ∙ sym (slots-after (start .args .closed .now) (start .args .cover) _ (at-used .maps-used .ensures)
+    (rw e at (at-loop .loop .inv .1)))
 
 pub first-is-clean-spec : {M : Type 1} → statement M
 first-is-clean-spec =

@@ -20,7 +20,13 @@ sub-if3 : tie.Need-sub-if3
 sub-if3 c = search needs
 
 returns-3 : tie.Need-returns-3
-returns-3 c = sym (may-not _ _ (omega (arith, c .before .before .year-start2 .ensures .0, c .before .before .before .year-start .ensures .0, c .before .if2 .left, c .if3 .taken)))
+returns-3 c = sym (may-not _ _ (omega (
+  arith,
+  c .before .before .year-start2 .ensures .0,
+  c .before .before .before .year-start .ensures .0,
+  c .before .if2 .left,
+  c .if3 .taken,
+)))
 
 add-weekday : tie.Need-add-weekday
 add-weekday c = search needs

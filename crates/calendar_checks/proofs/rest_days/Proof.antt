@@ -17,8 +17,10 @@ shr-result c = search needs
 
 returns : tie.Need-returns
 returns c =
-    let start = c .before in
-    (shows-part _ _ _ _ (start .pre .1) (rest-shows _ _ _ (c .rest-of .ensures) (start .pre .0)), part-below _ _ (start .pre .1) (rest-below _ _ _ (c .rest-of .ensures)))
+    let start = c .before in (
+      shows-part _ _ _ _ (start .pre .1) (rest-shows _ _ _ (c .rest-of .ensures) (start .pre .0)),
+      part-below _ _ (start .pre .1) (rest-below _ _ _ (c .rest-of .ensures)),
+    )
 
 pub rest-days-spec : {M : Type 1} → statement M
 rest-days-spec = tie.close (tie.spec rest-of-requires sub-result shr-result returns)

@@ -25,7 +25,9 @@ rest-days-requires c κs =
     (omega (arith, years (start .args .cover) (start .pre .1), start .pre .0), omega (arith, c .rest-length .ensures))
 
 add-year-start : tie.Need-add-year-start
-add-year-start c = omega (arith, year-in-cover (c .before .before .before .args .cover) (c .before .before .before .args .k) (c .before .before .before .pre .1) (c .before .before .before .pre .0))
+add-year-start c =
+    let args = c .before .before .before .args in
+    omega (arith, year-in-cover (args .cover) (args .k) (c .before .before .before .pre .1) (c .before .before .before .pre .0))
 
 year-start-requires : tie.Need-year-start-requires
 year-start-requires c κs = search needs
@@ -54,8 +56,11 @@ returns c = λ e u.
     let start = at-length .before .before in
     let cal = calendarWith (start .args .cover) (start .args .closed .now) in
     let l = at-length .rest-length .ensures in
-    next-year cal (start .args .k) (start .pre .1) (start .pre .0) (at-length .rest-length .result) (start .args .window) (at-rest .rest-days .result) (at-moved .moved-on .result) (at-weekends .weekends-from .result)
-    (l .0) (l .2) (start .pre .2) (at-rest .rest-days .ensures .0) (moved _ _ _ (omega (arith, l)) (at-rest .rest-days .ensures .1) _ (at-moved .moved-on .ensures)) (rw (at-end .year-start .ensures .0) at (weekends-are _ _ (at-weekends .weekends-from .ensures))) (sym (c .no-seven .ensures) ∙ e) u
+    next-year cal (start .args .k) (start .pre .1) (start .pre .0) (at-length .rest-length .result) (start .args .window) (at-rest .rest-days .result)
+    (at-moved .moved-on .result) (at-weekends .weekends-from .result)
+    (l .0) (l .2) (start .pre .2) (at-rest .rest-days .ensures .0)
+    (moved _ _ _ (omega (arith, l)) (at-rest .rest-days .ensures .1) _ (at-moved .moved-on .ensures))
+    (rw (at-end .year-start .ensures .0) at (weekends-are _ _ (at-weekends .weekends-from .ensures))) (sym (c .no-seven .ensures) ∙ e) u
 
 pub rest-trades-spec : {M : Type 1} → statement M
 rest-trades-spec =

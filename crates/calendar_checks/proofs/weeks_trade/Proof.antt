@@ -37,7 +37,8 @@ covered c =
     let h = c .before .loop .inv in
     let v = start .args .cover in
     let d = c .before .loop .day in
-    and-both (le-leb (coverStart v) d (omega (arith, start .pre, h .from, h .near))) (lt-ltb d (coverEnd v) (omega (arith, start .pre, h .within, c .loop-test .taken)))
+    and-both (le-leb (coverStart v) d (omega (arith, start .pre, h .from, h .near)))
+    (lt-ltb d (coverEnd v) (omega (arith, start .pre, h .within, c .loop-test .taken)))
 
 slot-of-requires : tie.Need-slot-of-requires Inv-loop μ-loop
 slot-of-requires c κs = tt
@@ -49,7 +50,9 @@ trades-on-requires : tie.Need-trades-on-requires Inv-loop μ-loop
 trades-on-requires c κs = tt
 
 -- the code's test is whether the day trades
-trading : (c : tie.After-trades-on Inv-loop μ-loop) → c .trades-on .result ≡ tradingDay (calendarWith (c .before .before .before .before .before .before .args .cover) (c .before .before .before .before .before .before .args .closed .now)) (c .before .before .before .before .loop .day)
+trading : (c : tie.After-trades-on Inv-loop μ-loop)
+    → c .trades-on .result ≡ tradingDay (calendarWith (c .before .before .before .before .before .before .args .cover)
+    (c .before .before .before .before .before .before .args .closed .now)) (c .before .before .before .before .loop .day)
 unfolding tradingDay closedOn bitAt
 trading c =
     let at-slot-of = c .before .before in
@@ -82,14 +85,16 @@ loop-less c =
     let at-loop-test = at-trades-on .before .before .before in
     let at-loop = at-loop-test .before in
     rw (c .before .next-first .ensures, c .next-day .ensures)
-    (passed-less _ _ _ _ _ (at-loop .loop .inv) (at-loop-test .loop-test .taken) (at-trades-on .trades-on .result) (not-idle-first _ _ _ (c .before .before .if1 .left)))
+    (passed-less _ _ _ _ _ (at-loop .loop .inv) (at-loop-test .loop-test .taken) (at-trades-on .trades-on .result)
+    (not-idle-first _ _ _ (c .before .before .if1 .left)))
 
 loop-again : tie.Need-loop-again Inv-loop μ-loop
 loop-again c =
     let at-loop-test = c .before .before .before .before .before .before in
     let at-loop = at-loop-test .before in
     rw (c .before .next-first .ensures, c .next-day .ensures)
-    (passed-step _ _ _ _ _ (at-loop .loop .inv) (at-loop-test .loop-test .taken) _ (trading (c .before .before .before)) (not-idle-first _ _ _ (c .before .before .if1 .left)))
+    (passed-step _ _ _ _ _ (at-loop .loop .inv) (at-loop-test .loop-test .taken) _ (trading (c .before .before .before))
+    (not-idle-first _ _ _ (c .before .before .if1 .left)))
 
 -- ---- after the loop: every run has passed
 returns-2 : tie.Need-returns-2 Inv-loop μ-loop

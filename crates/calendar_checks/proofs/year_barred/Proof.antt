@@ -15,8 +15,10 @@ returns c = (λ h. absurd (omega (arith, h, c .if1 .taken)), λ h. all-days)
 
 returns-2 : tie.Need-returns-2
 returns-2 c =
-    let s = c .before .before .before .year-start .ensures .0 in
-    (λ h. rw s at (weekends-are _ _ (c .weekends-from .ensures)), λ h. absurd (omega (arith, h, s, c .before .before .year-start2 .ensures .0, c .before .if1 .left)))
+    let s = c .before .before .before .year-start .ensures .0 in (
+      λ h. rw s at (weekends-are _ _ (c .weekends-from .ensures)),
+      λ h. absurd (omega (arith, h, s, c .before .before .year-start2 .ensures .0, c .before .if1 .left)),
+    )
 
 pub year-barred-spec : {M : Type 1} → statement M
 year-barred-spec =

@@ -53,7 +53,8 @@ weeks-clean c =
     let l = at-weeks .before .loop-test .taken in
     let barred = at-barred .year-barred .result in
     c .is-apart .ensures ∙
-    word-clean (start .args .closed .now) (mayClose (start .args .year)) (368 * start .args .k) (56 * at-loop .loop .j) 56 (at-weeks .weeks-of .result) (barred / 2 ^ 8) (weeks-below _ _ _ _ (at-weeks .weeks-of .ensures)) (weeks-shows _ _ _ _ (at-weeks .weeks-of .ensures) (start .pre .0) l)
+    word-clean (start .args .closed .now) (mayClose (start .args .year)) (368 * start .args .k) (56 * at-loop .loop .j) 56 (at-weeks .weeks-of .result)
+    (barred / 2 ^ 8) (weeks-below _ _ _ _ (at-weeks .weeks-of .ensures)) (weeks-shows _ _ _ _ (at-weeks .weeks-of .ensures) (start .pre .0) l)
     (λ p h. weeks-barred (start .args .year) barred (at-barred .year-barred .ensures) (at-loop .loop .j) p l h)
 
 -- ---- eight weeks that fail
@@ -71,8 +72,11 @@ loop-again : tie.Need-loop-again Inv-loop μ-loop
 loop-again c =
     let at-loop = c .before .before .before .before in
     let j = at-loop .loop .j in
-    let e : 56 * (j + 1) ≡ 56 * j + 56 = omega arith in
-    (omega arith, ap (λ (n : ℕ). every n (day-clean (c .before))) e ∙ every-add (day-clean (c .before)) (56 * j) 56 (at-loop .loop .inv .1) (said-yes (weeks-clean (c .before)) (c .if1 .left)))
+    let e : 56 * (j + 1) ≡ 56 * j + 56 = omega arith in (
+      omega arith,
+      ap (λ (n : ℕ). every n (day-clean (c .before))) e ∙
+          every-add (day-clean (c .before)) (56 * j) 56 (at-loop .loop .inv .1) (said-yes (weeks-clean (c .before)) (c .if1 .left)),
+    )
 
 rest-of-requires : tie.Need-rest-of-requires Inv-loop μ-loop
 rest-of-requires c κs = tt
@@ -95,7 +99,8 @@ returns-2 c =
     let y = start .args .year in
     let e : 56 * at-loop .loop .j ≡ 336 = omega (arith, at-rest .before .loop-test .left) in
     c .is-apart2 .ensures ∙
-    word-clean map (mayClose y) (368 * k) 336 32 (at-rest .rest-of .result) (at-barred .rest-barred .result) (rest-below _ _ _ (at-rest .rest-of .ensures)) (rest-shows _ _ _ (at-rest .rest-of .ensures) (start .pre .0)) (at-barred .rest-barred .ensures) ∙
+    word-clean map (mayClose y) (368 * k) 336 32 (at-rest .rest-of .result) (at-barred .rest-barred .result) (rest-below _ _ _ (at-rest .rest-of .ensures))
+    (rest-shows _ _ _ (at-rest .rest-of .ensures) (start .pre .0)) (at-barred .rest-barred .ensures) ∙
     sym (every-split (mapDay map k y) 336 32 (rw e at (at-loop .loop .inv .1)))
 
 pub year-is-clean-spec : {M : Type 1} → statement M

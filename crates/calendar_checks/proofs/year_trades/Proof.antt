@@ -68,9 +68,12 @@ loop-again c =
     let l = at-weeks .before .loop-test .taken in
     let k : start .args .k < 16 = omega (arith, years (start .args .cover) (start .pre .1), start .pre .0) in (
       omega arith,
-      next-weeks cal (start .args .k) (start .pre .1) (start .pre .0) (at-loop .loop .j) (at-loop .loop .window) (at-weeks .weeks-of .result) (at-moved .moved-on .result) (at-weekends .weekends-from .result) l
-          (at-loop .loop .inv .1) (weeks-shows _ _ _ _ (at-weeks .weeks-of .ensures) k l) (moved _ _ _ (omega arith) (weeks-below _ _ _ _ (at-weeks .weeks-of .ensures)) _ (at-moved .moved-on .ensures))
-          (rw (at-weekends .before .year-start .ensures .0) at (weekends-are _ _ (at-weekends .weekends-from .ensures))) (said-yes (c .before .no-seven .ensures) (c .if1 .left)),
+      next-weeks cal (start .args .k) (start .pre .1) (start .pre .0) (at-loop .loop .j) (at-loop .loop .window) (at-weeks .weeks-of .result)
+          (at-moved .moved-on .result) (at-weekends .weekends-from .result) l
+          (at-loop .loop .inv .1) (weeks-shows _ _ _ _ (at-weeks .weeks-of .ensures) k l)
+          (moved _ _ _ (omega arith) (weeks-below _ _ _ _ (at-weeks .weeks-of .ensures)) _ (at-moved .moved-on .ensures))
+          (rw (at-weekends .before .year-start .ensures .0) at (weekends-are _ _ (at-weekends .weekends-from .ensures)))
+          (said-yes (c .before .no-seven .ensures) (c .if1 .left)),
     )
 
 -- ---- after the loop: the rest of the year

@@ -37,8 +37,11 @@ loop-less c = omega arith
 loop-again : tie.Need-loop-again Inv-loop μ-loop
 loop-again c =
     let at-loop = c .before .before .before .before in
-    let start = at-loop .before in
-    (omega arith, bytes-more (withinIn (start .args .first .now) (start .args .second .now)) (at-loop .loop .i) (at-loop .loop .days) (c .days-beyond .result) (at-loop .loop .inv .1) (c .days-beyond .ensures))
+    let start = at-loop .before in (
+      omega arith,
+      bytes-more (withinIn (start .args .first .now) (start .args .second .now)) (at-loop .loop .i) (at-loop .loop .days) (c .days-beyond .result)
+          (at-loop .loop .inv .1) (c .days-beyond .ensures),
+    )
 
 returns : tie.Need-returns Inv-loop μ-loop
 returns c =

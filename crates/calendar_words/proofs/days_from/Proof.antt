@@ -46,8 +46,12 @@ loop-again c =
     let i = at-loop .loop .i in
     let e : i + 1 - at ≡ i - at + 1 = omega arith in
     let q : i ≡ at + (i - at) = omega arith in
-    let b = noneIn (start .args .map .now) at in
-    (omega arith, omega arith, bytes-more b (i - at) (at-loop .loop .days) (c .days-of .result) (at-loop .loop .inv .2) (c .days-of .ensures ∙ ap (λ (k : ℕ). every 8 (λ p. not (byteBit (getD (start .args .map .now) k 0) p))) q) ∙ sym (ap (λ (n : ℕ). every n b) e))
+    let b = noneIn (start .args .map .now) at in (
+      omega arith,
+      omega arith,
+      bytes-more b (i - at) (at-loop .loop .days) (c .days-of .result) (at-loop .loop .inv .2)
+          (c .days-of .ensures ∙ ap (λ (k : ℕ). every 8 (λ p. not (byteBit (getD (start .args .map .now) k 0) p))) q) ∙ sym (ap (λ (n : ℕ). every n b) e),
+    )
 
 -- ---- after the loop: all bytes
 returns : tie.Need-returns Inv-loop μ-loop

@@ -35,7 +35,8 @@ returns-3 c =
     let b = start .args .maps .now in
     let at = 46 * start .args .k + 7 * start .args .j in
     let e : 8 * at ≡ 368 * start .args .k + 56 * start .args .j = omega arith in
-    weeks-is b (start .args .k) (start .args .j) _ (omega arith) (omega arith) (omega arith) (λ p q. rw (c .seven-at .ensures .0) (bytes-show b at 7 p q ∙ ap (λ (s : ℕ). bitAt b (s + p)) e))
+    weeks-is b (start .args .k) (start .args .j) _ (omega arith) (omega arith) (omega arith)
+    (λ p q. rw (c .seven-at .ensures .0) (bytes-show b at 7 p q ∙ ap (λ (s : ℕ). bitAt b (s + p)) e))
 
 pub weeks-of-spec : {M : Type 1} → statement M
 weeks-of-spec =

@@ -34,7 +34,17 @@ digit-requires-8 c κs = search needs
 
 returns : tie.Need-returns
 unfolding dayText dateText yearMonth inFourDigits inTwoDigits
-returns c = simp (c .digit8 .ensures, c .before .digit7 .ensures, c .before .before .digit6 .ensures, c .before .before .before .digit5 .ensures, c .before .before .before .before .digit4 .ensures, c .before .before .before .before .before .digit3 .ensures, c .before .before .before .before .before .before .digit2 .ensures, c .before .before .before .before .before .before .before .digit .ensures, c .before .before .before .before .before .before .before .before .date-or-zeros .ensures)
+returns c = simp (
+  c .digit8 .ensures,
+  c .before .digit7 .ensures,
+  c .before .before .digit6 .ensures,
+  c .before .before .before .digit5 .ensures,
+  c .before .before .before .before .digit4 .ensures,
+  c .before .before .before .before .before .digit3 .ensures,
+  c .before .before .before .before .before .before .digit2 .ensures,
+  c .before .before .before .before .before .before .before .digit .ensures,
+  c .before .before .before .before .before .before .before .before .date-or-zeros .ensures,
+)
 
 pub day-name-spec : {M : Type 1} → statement M
 day-name-spec =

@@ -27,7 +27,8 @@ returns-2 c = c .no-entry2 .ensures ∙ sym (friday-unspaced _ (c .before .befor
 
 -- ---- the two dates and the entry
 slice-aggregate-date-in : tie.Need-slice-aggregate-date-in
-slice-aggregate-date-in c = sym (length-take-le 10 (now (c .before .before .before .before .before .args .line)) (omega (arith, c .before .before .before .if1 .left)))
+slice-aggregate-date-in c = sym (length-take-le 10 (now (c .before .before .before .before .before .args .line))
+    (omega (arith, c .before .before .before .if1 .left)))
 
 date-in-requires : tie.Need-date-in-requires
 date-in-requires c κs = search needs

@@ -29,7 +29,8 @@ returns-2 c = c .no-entry2 .ensures ∙ sym (month-unspaced _ (c .before .before
 
 -- ---- the month, the date and the entry
 slice-aggregate-month-in : tie.Need-slice-aggregate-month-in
-slice-aggregate-month-in c = sym (length-take-le 7 (now (c .before .before .before .before .before .args .line)) (omega (arith, c .before .before .before .if1 .left)))
+slice-aggregate-month-in c = sym (length-take-le 7 (now (c .before .before .before .before .before .args .line))
+    (omega (arith, c .before .before .before .if1 .left)))
 
 month-in-requires : tie.Need-month-in-requires
 month-in-requires c κs = search needs
@@ -57,7 +58,8 @@ returns-3 c =
     let at-last = c .before .before in
     let at-name = at-last .before .before in
     let at-if2 = at-name .before .before in
-    c .entry-from .ensures ∙ ap (λ (k : ℕ). entryFrom (at-name .month-in .result .letter) k (at-last .date-in .result)) (c .before .month-of .ensures) ∙ month-there _ (at-if2 .before .before .if1 .left) (at-if2 .if2 .left) _ _ (at-name .month-in .ensures) (at-last .date-in .ensures)
+    c .entry-from .ensures ∙ ap (λ (k : ℕ). entryFrom (at-name .month-in .result .letter) k (at-last .date-in .result)) (c .before .month-of .ensures) ∙
+    month-there _ (at-if2 .before .before .if1 .left) (at-if2 .if2 .left) _ _ (at-name .month-in .ensures) (at-last .date-in .ensures)
 
 pub month-entry-spec : {M : Type 1} → statement M
 month-entry-spec =

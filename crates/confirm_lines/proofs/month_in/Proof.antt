@@ -26,7 +26,13 @@ command-of-requires c κs = search needs
 
 returns : tie.Need-returns
 returns c =
-    c .command-of .ensures ∙ rw (c .before .extend3 .ensures, c .before .before .extend2 .ensures, c .before .before .before .extend .ensures, c .before .before .before .before .feed .ensures, c .before .before .before .before .before .roll-begun .ensures) (month-read _)
+    c .command-of .ensures ∙ rw (
+      c .before .extend3 .ensures,
+      c .before .before .extend2 .ensures,
+      c .before .before .before .extend .ensures,
+      c .before .before .before .before .feed .ensures,
+      c .before .before .before .before .before .roll-begun .ensures,
+    ) (month-read _)
 
 pub month-in-spec : {M : Type 1} → statement M
 month-in-spec =

@@ -31,7 +31,14 @@ digit-requires-6 c κs = search needs
 
 returns : tie.Need-returns
 unfolding monthText yearMonth inFourDigits inTwoDigits
-returns c = simp (c .digit6 .ensures, c .before .digit5 .ensures, c .before .before .digit4 .ensures, c .before .before .before .digit3 .ensures, c .before .before .before .before .digit2 .ensures, c .before .before .before .before .before .digit .ensures)
+returns c = simp (
+  c .digit6 .ensures,
+  c .before .digit5 .ensures,
+  c .before .before .digit4 .ensures,
+  c .before .before .before .digit3 .ensures,
+  c .before .before .before .before .digit2 .ensures,
+  c .before .before .before .before .before .digit .ensures,
+)
 
 pub month-name-spec : {M : Type 1} → statement M
 month-name-spec =

@@ -19,7 +19,8 @@ sub-i c = omega (arith, in-year _ (c .before .if1 .left))
 
 month-in-year-requires : tie.Need-month-in-year-requires
 month-in-year-requires c κs =
-    days-from-march _ _ _ _ (c .before .before .before .if1 .left) (ap (λ (y : ℕ). y - 2000) (c .before .before .year-of .ensures)) (c .march-in .ensures .0) (c .before .day-in-year .ensures)
+    days-from-march _ _ _ _ (c .before .before .before .if1 .left) (ap (λ (y : ℕ). y - 2000) (c .before .before .year-of .ensures)) (c .march-in .ensures .0)
+    (c .before .day-in-year .ensures)
 
 -- ---- the fields of the date
 add-t7 : tie.Need-add-t7
@@ -40,8 +41,10 @@ add-t11 c = omega (arith, in-year-below _ (c .before .before .before .before .be
 -- ---- the date
 returns-2 : tie.Need-returns-2
 returns-2 c =
-    let d = date-by-rule _ _ _ _ (c .before .before .before .before .before .if1 .left) (ap (λ (y : ℕ). y - 2000) (c .before .before .before .before .year-of .ensures)) (c .before .before .march-in .ensures .0) (c .before .before .before .day-in-year .ensures) _ (c .before .month-in-year .ensures) in
-    sym (date-accepted _ (c .before .before .before .before .before .if1 .left) ∙ simp (d, sym (c .start-in-year .ensures .0)))
+    let before-5 = c .before .before .before .before .before in
+    let d = date-by-rule _ _ _ _ (before-5 .if1 .left) (ap (λ (y : ℕ). y - 2000) (c .before .before .before .before .year-of .ensures))
+    (c .before .before .march-in .ensures .0) (c .before .before .before .day-in-year .ensures) _ (c .before .month-in-year .ensures) in
+    sym (date-accepted _ (before-5 .if1 .left) ∙ simp (d, sym (c .start-in-year .ensures .0)))
 
 pub date-of-day-spec : {M : Type 1} → statement M
 date-of-day-spec =

@@ -12,7 +12,8 @@ use Rattle.days.proofs.day_of_date.Tie as tie
 ok : (c : tie.Then1) → Valid (c .before .before .args .year) (c .before .before .args .month) (c .before .before .args .day)
 ok c = valid-facts _ _ _ (sym (c .before .is-date .ensures) ∙ c .if1 .taken)
 
-first : (c : tie.After-first-day) → c .first-day .result ≡ firstDay (monthNumber (c .before .before .before .args .year) (c .before .before .before .args .month))
+first : (c : tie.After-first-day) → c .first-day .result
+    ≡ firstDay (monthNumber (c .before .before .before .args .year) (c .before .before .before .args .month))
 first c = c .first-day .ensures ∙ first-in _ (omega (arith, ok (c .before)))
 
 sub-first-day : tie.Need-sub-first-day

@@ -19,14 +19,16 @@ mul-result c = omega (arith, in-year _ (c .before .if1 .left))
 
 month-in-year-requires : tie.Need-month-in-year-requires
 month-in-year-requires c κs =
-    days-from-march _ _ _ _ (c .before .before .before .if1 .left) (ap (λ (y : ℕ). y - 2000) (c .before .before .year-of .ensures)) (c .before .march-in .ensures .0) (c .day-in-year .ensures)
+    days-from-march _ _ _ _ (c .before .before .before .if1 .left) (ap (λ (y : ℕ). y - 2000) (c .before .before .year-of .ensures))
+    (c .before .march-in .ensures .0) (c .day-in-year .ensures)
 
 add-result : tie.Need-add-result
 add-result c = omega (arith, in-year _ (c .before .before .before .before .if1 .left))
 
 returns-2 : tie.Need-returns-2
 returns-2 c =
-    month-by-rule _ _ _ _ (c .before .before .before .before .if1 .left) (ap (λ (y : ℕ). y - 2000) (c .before .before .before .year-of .ensures)) (c .before .before .march-in .ensures .0) (c .before .day-in-year .ensures) _ (c .month-in-year .ensures)
+    month-by-rule _ _ _ _ (c .before .before .before .before .if1 .left) (ap (λ (y : ℕ). y - 2000) (c .before .before .before .year-of .ensures))
+    (c .before .before .march-in .ensures .0) (c .before .day-in-year .ensures) _ (c .month-in-year .ensures)
 
 pub month-of-spec : {M : Type 1} → statement M
 month-of-spec =

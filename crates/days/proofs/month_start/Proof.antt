@@ -29,7 +29,8 @@ add-result-3 : tie.Need-add-result-3
 add-result-3 c = omega arith
 
 returns-2 : tie.Need-returns-2
-returns-2 c = sym (first-in _ (c .before .before .if1 .left) ∙ first-rule _ (c .before .before .if1 .left) ∙ simp (sym (c .start-in-year .ensures .0), sym (c .before .march-in .ensures .0)))
+returns-2 c = sym (first-in _ (c .before .before .if1 .left) ∙ first-rule _ (c .before .before .if1 .left) ∙
+    simp (sym (c .start-in-year .ensures .0), sym (c .before .march-in .ensures .0)))
 
 pub month-start-spec : {M : Type 1} → statement M
 month-start-spec =

@@ -5,7 +5,8 @@ use native.Mathlib.Omega.{arith}
 use lib.ListN.{length}
 use borrow.Author.Needs.{needs}
 use Rattle.streams.specs.declared.output.Sent.{Sent}
-use Rattle.delivery_parts.proofs.Handing.{line-long, line-few, line-next, master-short, bad-short, lists-fit, refused-rows, refused-told, next-refused, bad-rows, bad-told, next-bad}
+use Rattle.delivery_parts.proofs.Handing.{line-long, line-few, line-next, master-short, bad-short, lists-fit, refused-rows, refused-told, next-refused}
+use Rattle.delivery_parts.proofs.Handing.{bad-rows, bad-told, next-bad}
 use Rattle.deliver.proofs.answer.Statement.{statement}
 use Rattle.deliver.proofs.answer.Tie as tie
 

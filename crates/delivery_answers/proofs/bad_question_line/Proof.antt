@@ -11,7 +11,8 @@ slice-aggregate-feed c = refl
 
 returns : tie.Need-returns
 unfolding badQuestionText
-returns c = first (c .before .before .before .before .empty-line .ensures) (then (bytes _ _ _ (c .before .before .feed .ensures)) (then (c .before .with-number .ensures) (one _ _ _ (c .extend .ensures))))
+returns c = first (c .before .before .before .before .empty-line .ensures)
+    (then (bytes _ _ _ (c .before .before .feed .ensures)) (then (c .before .with-number .ensures) (one _ _ _ (c .extend .ensures))))
 
 pub bad-question-line-spec : {M : Type 1} → statement M
 bad-question-line-spec = tie.close (tie.spec (λ c κs. tt) slice-aggregate-feed (λ c κs. tt) (λ c κs. tt) (λ c κs. tt) returns)

@@ -10,7 +10,9 @@ cast-with-four c = omega arith
 
 returns : tie.Need-returns
 unfolding amountText
-returns c = then (c .before .before .before .before .before .before .with-sign .ensures) (then (c .before .before .before .before .with-number .ensures) (then (one _ _ _ (c .before .before .before .extend .ensures)) (then (c .before .with-four .ensures) (c .with-four2 .ensures))))
+returns c = then (c .before .before .before .before .before .before .with-sign .ensures)
+    (then (c .before .before .before .before .with-number .ensures)
+    (then (one _ _ _ (c .before .before .before .extend .ensures)) (then (c .before .with-four .ensures) (c .with-four2 .ensures))))
 
 pub with-amount-spec : {M : Type 1} → statement M
 with-amount-spec = tie.close (tie.spec (λ c κs. tt) (λ c κs. tt) (λ c κs. tt) cast-with-four (λ c κs. tt) (λ c κs. tt) returns)

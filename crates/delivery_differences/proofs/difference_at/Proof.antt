@@ -16,7 +16,12 @@ told-of-requires : tie.Need-told-of-requires
 told-of-requires c κs = search needs
 
 returns : tie.Need-returns
-returns c = c .told-of .ensures ∙ ap (λ (ms : List Maturity). differenceOf ms (rowsAt (c .before .before .before .before .before .before .before .before .args .keys .now) (c .before .before .before .before .before .before .before .before .args .days .now) (c .before .before .before .before .before .before .before .before .args .fulls .now) (c .before .before .before .before .before .before .before .before .args .numbers .now) (c .before .before .before .before .before .before .before .before .args .backs .now) (c .before .before .before .before .before .before .before .before .args .places .now)) (c .before .before .before .before .before .before .before .before .args .key)) (up-to-15 (c .before .before .before .before .before .before .before .before .args .maturities) (c .before .before .before .before .before .before .before .before .args .n) _ (c .before .before .before .before .before .before .before .before .good .0 .1 .0 .1) (c .before .within .ensures .1))
+returns c =
+    let args = c .before .before .before .before .before .before .before .before .args in
+    c .told-of .ensures ∙ ap (λ (ms : List Maturity).
+    differenceOf ms (rowsAt (args .keys .now) (args .days .now) (args .fulls .now) (args .numbers .now) (args .backs .now) (args .places .now)) (args .key))
+    (up-to-15 (args .maturities) (args .n) _ (c .before .before .before .before .before .before .before .before .good .0 .1 .0 .1)
+    (c .before .within .ensures .1))
 
 pub difference-at-spec : {M : Type 1} → statement M
 difference-at-spec = tie.close (tie.spec within-requires told-of-requires returns)

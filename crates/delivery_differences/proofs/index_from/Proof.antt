@@ -28,7 +28,9 @@ returns c =
     let at-test = c .before .before in
     let start = at-test .before .before .before .before in
     let ks = rowKeysAt (start .args .keys .now) (start .args .places .now) in
-    index-here (start .args .key) ks (at-test .before .loop .j) (omega (arith, keys-long (start .args .keys .now) (start .args .places .now), at-test .loop-test .taken)) (sym (c .before .key-at .ensures) ∙ c .if1 .taken) ∙ at-test .before .loop .inv
+    index-here (start .args .key) ks (at-test .before .loop .j)
+    (omega (arith, keys-long (start .args .keys .now) (start .args .places .now), at-test .loop-test .taken))
+    (sym (c .before .key-at .ensures) ∙ c .if1 .taken) ∙ at-test .before .loop .inv
 
 add-j : tie.Need-add-j Inv-loop μ-loop
 add-j c = omega arith
@@ -41,14 +43,17 @@ loop-again c =
     let at-test = c .before .before in
     let start = at-test .before .before .before .before in
     let ks = rowKeysAt (start .args .keys .now) (start .args .places .now) in
-    index-next (start .args .key) ks (at-test .before .loop .j) (omega (arith, keys-long (start .args .keys .now) (start .args .places .now), at-test .loop-test .taken)) (λ e. c .if1 .left (c .before .key-at .ensures ∙ e)) ∙ at-test .before .loop .inv
+    index-next (start .args .key) ks (at-test .before .loop .j)
+    (omega (arith, keys-long (start .args .keys .now) (start .args .places .now), at-test .loop-test .taken))
+    (λ e. c .if1 .left (c .before .key-at .ensures ∙ e)) ∙ at-test .before .loop .inv
 
 -- ---- the end
 returns-2 : tie.Need-returns-2 Inv-loop μ-loop
 returns-2 c =
     let start = c .before .before .before .before in
     let ks = rowKeysAt (start .args .keys .now) (start .args .places .now) in
-    index-end (start .args .key) ks (c .before .loop .j) (omega (arith, keys-long (start .args .keys .now) (start .args .places .now), c .loop-test .left)) ∙ c .before .loop .inv
+    index-end (start .args .key) ks (c .before .loop .j) (omega (arith, keys-long (start .args .keys .now) (start .args .places .now), c .loop-test .left)) ∙
+    c .before .loop .inv
 
 pub index-from-spec : {M : Type 1} → statement M
 index-from-spec =

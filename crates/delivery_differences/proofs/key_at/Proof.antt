@@ -27,7 +27,8 @@ returns c = c .list-number .ensures ∙ sym (key-of _ _ _ (c .before .before .if
 returns-2 : tie.Need-returns-2
 returns-2 c =
     let start = c .before .before .before in
-    sym (List·getD-eq-default (rowKeysAt (now (start .args .keys)) (now (start .args .places))) 0 (omega (arith, keys-long (now (start .args .keys)) (now (start .args .places)), c .if1 .left)))
+    sym (List·getD-eq-default (rowKeysAt (now (start .args .keys)) (now (start .args .places))) 0
+    (omega (arith, keys-long (now (start .args .keys)) (now (start .args .places)), c .if1 .left)))
 
 pub key-at-spec : {M : Type 1} → statement M
 key-at-spec =

@@ -13,7 +13,10 @@ use Rattle.delivery_differences.proofs.least_listed.Tie as tie
 
 -- ---- the loop's invariant and its measure
 abbrev Inv-loop : tie.InvT-loop
-Inv-loop n places keys days fulls numbers backs from found maturities least₀ i₀ least i = (n ≤ length maturities) × (n ≤ 15) × (leastOf (differsIn (take n maturities) (rowsAt keys days fulls numbers backs places)) from (drop i (maturityKeys (take n maturities))) least ≡ leastOf (differsIn (take n maturities) (rowsAt keys days fulls numbers backs places)) from (maturityKeys (take n maturities)) found)
+Inv-loop n places keys days fulls numbers backs from found maturities least₀ i₀ least i =
+    (n ≤ length maturities) × (n ≤ 15) × (leastOf (differsIn (take n maturities) (rowsAt keys days fulls numbers backs places)) from
+    (drop i (maturityKeys (take n maturities))) least
+    ≡ leastOf (differsIn (take n maturities) (rowsAt keys days fulls numbers backs places)) from (maturityKeys (take n maturities)) found)
 
 abbrev μ-loop : tie.MeasureT-loop
 μ-loop n places keys days fulls numbers backs from found maturities least₀ i₀ least i = n - i
@@ -39,17 +42,29 @@ loop-less c = omega arith
 
 loop-again : tie.Need-loop-again Inv-loop μ-loop
 loop-again c =
+    let args = c .before .before .before .before .before .before .before .before .before .before .args in
     let v = c .before .before .before .loop .inv in
-    let ms = c .before .before .before .before .before .before .before .before .before .before .args .t1 in
-    let ks = maturityKeys (take (c .before .before .before .before .before .before .before .before .before .before .args .n) ms) in
-    (v .0, v .1, least-next (differsIn (take (c .before .before .before .before .before .before .before .before .before .before .args .n) ms) (rowsAt (c .before .before .before .before .before .before .before .before .before .before .args .keys .now) (c .before .before .before .before .before .before .before .before .before .before .args .days .now) (c .before .before .before .before .before .before .before .before .before .before .args .fulls .now) (c .before .before .before .before .before .before .before .before .before .before .args .numbers .now) (c .before .before .before .before .before .before .before .before .before .before .args .backs .now) (c .before .before .before .before .before .before .before .before .before .before .args .places .now))) (c .before .before .before .before .before .before .before .before .before .before .args .from) ks (c .before .before .before .loop .i) (c .before .before .before .loop .least) (c .lesser-listed .result) (omega (arith, first-long ms (c .before .before .before .before .before .before .before .before .before .before .args .n) (v .0), c .before .before .loop-test .taken)) (rw (first-key ms (c .before .before .before .before .before .before .before .before .before .before .args .n) (v .0) (c .before .before .before .loop .i) (c .before .before .loop-test .taken)) (c .lesser-listed .ensures)) ∙ v .2)
+    let ms = args .t1 in
+    let ks = maturityKeys (take (args .n) ms) in (
+      v .0,
+      v .1,
+      least-next (differsIn (take (args .n) ms)
+          (rowsAt (args .keys .now) (args .days .now) (args .fulls .now) (args .numbers .now) (args .backs .now) (args .places .now))) (args .from) ks
+          (c .before .before .before .loop .i) (c .before .before .before .loop .least) (c .lesser-listed .result)
+          (omega (arith, first-long ms (args .n) (v .0), c .before .before .loop-test .taken))
+          (rw (first-key ms (args .n) (v .0) (c .before .before .before .loop .i) (c .before .before .loop-test .taken)) (c .lesser-listed .ensures)) ∙ v .2,
+    )
 
 -- ---- the end
 returns : tie.Need-returns Inv-loop μ-loop
 returns c =
+    let args = c .before .before .before .before .before .before .before .before .args in
     let v = c .before .loop .inv in
-    let ms = c .before .before .before .before .before .before .before .before .args .t1 in
-    sym (least-done (differsIn (take (c .before .before .before .before .before .before .before .before .args .n) ms) (rowsAt (c .before .before .before .before .before .before .before .before .args .keys .now) (c .before .before .before .before .before .before .before .before .args .days .now) (c .before .before .before .before .before .before .before .before .args .fulls .now) (c .before .before .before .before .before .before .before .before .args .numbers .now) (c .before .before .before .before .before .before .before .before .args .backs .now) (c .before .before .before .before .before .before .before .before .args .places .now))) (c .before .before .before .before .before .before .before .before .args .from) (maturityKeys (take (c .before .before .before .before .before .before .before .before .args .n) ms)) (c .before .loop .i) (c .before .loop .least) (omega (arith, first-long ms (c .before .before .before .before .before .before .before .before .args .n) (v .0), c .loop-test .left))) ∙ v .2
+    let ms = args .t1 in
+    sym (least-done (differsIn (take (args .n) ms)
+    (rowsAt (args .keys .now) (args .days .now) (args .fulls .now) (args .numbers .now) (args .backs .now) (args .places .now))) (args .from)
+    (maturityKeys (take (args .n) ms)) (c .before .loop .i) (c .before .loop .least) (omega (arith, first-long ms (args .n) (v .0), c .loop-test .left))) ∙
+    v .2
 
 pub least-listed-spec : {M : Type 1} → statement M
 least-listed-spec =

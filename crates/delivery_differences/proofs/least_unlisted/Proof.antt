@@ -11,7 +11,9 @@ use Rattle.delivery_differences.proofs.least_unlisted.Statement.{statem
 use Rattle.delivery_differences.proofs.least_unlisted.Tie as tie
 
 abbrev Inv-loop : tie.InvT-loop
-Inv-loop maturities n places keys from least₀ j₀ least j = (n ≤ 15) × (leastOf (unlisted (take n maturities)) from (drop j (rowKeysAt keys places)) least ≡ leastOf (unlisted (take n maturities)) from (rowKeysAt keys places) 65536)
+Inv-loop maturities n places keys from least₀ j₀ least j =
+    (n ≤ 15) × (leastOf (unlisted (take n maturities)) from (drop j (rowKeysAt keys places)) least
+    ≡ leastOf (unlisted (take n maturities)) from (rowKeysAt keys places) 65536)
 
 abbrev μ-loop : tie.MeasureT-loop
 μ-loop maturities n places keys from least₀ j₀ least j = length places - j
@@ -33,15 +35,23 @@ loop-less c = omega arith
 
 loop-again : tie.Need-loop-again Inv-loop μ-loop
 loop-again c =
+    let args = c .before .before .before .before .before .before .args in
     let v = c .before .before .before .loop .inv in
-    let ks = rowKeysAt (c .before .before .before .before .before .before .args .keys .now) (c .before .before .before .before .before .before .args .places .now) in
-    (v .0, least-next (unlisted (take (c .before .before .before .before .before .before .args .n) (c .before .before .before .before .before .before .args .maturities))) (c .before .before .before .before .before .before .args .from) ks (c .before .before .before .loop .j) (c .before .before .before .loop .least) (c .lesser-unlisted .result) (omega (arith, keys-long (c .before .before .before .before .before .before .args .keys .now) (c .before .before .before .before .before .before .args .places .now), c .before .before .loop-test .taken)) (rw (← c .before .key-at .ensures) (c .lesser-unlisted .ensures)) ∙ v .1)
+    let ks = rowKeysAt (args .keys .now) (args .places .now) in (
+      v .0,
+      least-next (unlisted (take (args .n) (args .maturities))) (args .from) ks (c .before .before .before .loop .j)
+          (c .before .before .before .loop .least) (c .lesser-unlisted .result)
+          (omega (arith, keys-long (args .keys .now) (args .places .now), c .before .before .loop-test .taken))
+          (rw (← c .before .key-at .ensures) (c .lesser-unlisted .ensures)) ∙ v .1,
+    )
 
 returns : tie.Need-returns Inv-loop μ-loop
 returns c =
+    let args = c .before .before .before .before .args in
     let v = c .before .loop .inv in
-    let ks = rowKeysAt (c .before .before .before .before .args .keys .now) (c .before .before .before .before .args .places .now) in
-    sym (least-done (unlisted (take (c .before .before .before .before .args .n) (c .before .before .before .before .args .maturities))) (c .before .before .before .before .args .from) ks (c .before .loop .j) (c .before .loop .least) (omega (arith, keys-long (c .before .before .before .before .args .keys .now) (c .before .before .before .before .args .places .now), c .loop-test .left))) ∙ v .1
+    let ks = rowKeysAt (args .keys .now) (args .places .now) in
+    sym (least-done (unlisted (take (args .n) (args .maturities))) (args .from) ks (c .before .loop .j) (c .before .loop .least)
+    (omega (arith, keys-long (args .keys .now) (args .places .now), c .loop-test .left))) ∙ v .1
 
 pub least-unlisted-spec : {M : Type 1} → statement M
 least-unlisted-spec =

@@ -23,11 +23,13 @@ is-same-requires c κs = search needs
 
 returns-3 : tie.Need-returns-3
 unfolding differsIn differenceOf
-returns-3 c = passing _ _ _ _ (ap (λ (d : Difference). not (isSame (d .why))) (sym (c .before .before .told-of .ensures)) ∙ ap not (sym (c .before .is-same .ensures) ∙ c .if3 .taken))
+returns-3 c = passing _ _ _ _ (ap (λ (d : Difference). not (isSame (d .why))) (sym (c .before .before .told-of .ensures)) ∙
+    ap not (sym (c .before .is-same .ensures) ∙ c .if3 .taken))
 
 returns-4 : tie.Need-returns-4
 unfolding differsIn differenceOf
-returns-4 c = failing _ _ _ _ (c .before .before .before .before .if1 .left) (c .before .before .before .if2 .left) (ap (λ (d : Difference). not (isSame (d .why))) (sym (c .before .before .told-of .ensures)) ∙ ap not (sym (c .before .is-same .ensures) ∙ c .if3 .left))
+returns-4 c = failing _ _ _ _ (c .before .before .before .before .if1 .left) (c .before .before .before .if2 .left)
+    (ap (λ (d : Difference). not (isSame (d .why))) (sym (c .before .before .told-of .ensures)) ∙ ap not (sym (c .before .is-same .ensures) ∙ c .if3 .left))
 
 pub lesser-listed-spec : {M : Type 1} → statement M
 lesser-listed-spec =

@@ -24,7 +24,8 @@ returns-3 c = passing _ _ _ _ (ap (λ (r : Right). not (r .listed)) (sym (c .bef
 
 returns-4 : tie.Need-returns-4
 unfolding unlisted
-returns-4 c = failing _ _ _ _ (c .before .before .before .if1 .left) (c .before .before .if2 .left) (ap (λ (r : Right). not (r .listed)) (sym (c .before .right-of .ensures)) ∙ ap not (c .if3 .left))
+returns-4 c = failing _ _ _ _ (c .before .before .before .if1 .left) (c .before .before .if2 .left)
+    (ap (λ (r : Right). not (r .listed)) (sym (c .before .right-of .ensures)) ∙ ap not (c .if3 .left))
 
 pub lesser-unlisted-spec : {M : Type 1} → statement M
 lesser-unlisted-spec = tie.close (tie.spec returns returns-2 right-of-requires returns-3 returns-4)

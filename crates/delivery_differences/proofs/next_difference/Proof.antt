@@ -24,12 +24,17 @@ least-listed-requires c κs = search needs
 
 returns : tie.Need-returns
 returns c =
-    let rows = (rowsAt (c .before .before .before .before .before .before .before .before .before .args .keys .now) (c .before .before .before .before .before .before .before .before .before .args .days .now) (c .before .before .before .before .before .before .before .before .before .args .fulls .now) (c .before .before .before .before .before .before .before .before .before .args .numbers .now) (c .before .before .before .before .before .before .before .before .before .args .backs .now) (c .before .before .before .before .before .before .before .before .before .args .places .now)) in
-    let ms = take (c .before .before .within .result) (c .before .before .before .before .before .before .before .before .before .args .maturities) in
+    let args = c .before .before .before .before .before .before .before .before .before .args in
+    let rows = (rowsAt (args .keys .now) (args .days .now) (args .fulls .now) (args .numbers .now) (args .backs .now) (args .places .now)) in
+    let ms = take (c .before .before .within .result) (args .maturities) in
     c .least-listed .ensures
-    ∙ ap (leastOf (differsIn ms rows) (c .before .before .before .before .before .before .before .before .before .args .from) (maturityKeys ms)) (c .before .least-unlisted .ensures ∙ ap (λ (ks : List ℕ). leastOf (unlisted ms) (c .before .before .before .before .before .before .before .before .before .args .from) ks 65536) (sym (places-keys (c .before .before .before .before .before .before .before .before .before .args .keys .now) (c .before .before .before .before .before .before .before .before .before .args .days .now) (c .before .before .before .before .before .before .before .before .before .args .fulls .now) (c .before .before .before .before .before .before .before .before .before .args .numbers .now) (c .before .before .before .before .before .before .before .before .before .args .backs .now) (c .before .before .before .before .before .before .before .before .before .args .places .now))))
-    ∙ passes-find ms rows (c .before .before .before .before .before .before .before .before .before .args .from)
-    ∙ ap (λ (ms : List Maturity). nextDifference ms rows (c .before .before .before .before .before .before .before .before .before .args .from)) (up-to-15 (c .before .before .before .before .before .before .before .before .before .args .maturities) (c .before .before .before .before .before .before .before .before .before .args .n) _ (c .before .before .before .before .before .before .before .before .before .good .0 .1 .0 .1) (c .before .before .within .ensures .1))
+    ∙ ap (leastOf (differsIn ms rows) (args .from) (maturityKeys ms))
+    (c .before .least-unlisted .ensures ∙ ap (λ (ks : List ℕ). leastOf (unlisted ms) (args .from) ks 65536)
+    (sym (places-keys (args .keys .now) (args .days .now) (args .fulls .now) (args .numbers .now) (args .backs .now) (args .places .now))))
+    ∙ passes-find ms rows (args .from)
+    ∙ ap (λ (ms : List Maturity). nextDifference ms rows (args .from))
+    (up-to-15 (args .maturities) (args .n) _ (c .before .before .before .before .before .before .before .before .before .good .0 .1 .0 .1)
+    (c .before .before .within .ensures .1))
 
 pub next-difference-spec : {M : Type 1} → statement M
 next-difference-spec =

@@ -20,7 +20,13 @@ list-number-requires-4 : tie.Need-list-number-requires-4
 list-number-requires-4 c κs = search needs
 
 returns : tie.Need-returns
-returns c = rw (c .list-number4 .ensures, c .before .list-number3 .ensures, c .before .before .byte-at .ensures, c .before .before .before .list-number2 .ensures, c .before .before .before .before .list-number .ensures) refl
+returns c = rw (
+  c .list-number4 .ensures,
+  c .before .list-number3 .ensures,
+  c .before .before .byte-at .ensures,
+  c .before .before .before .list-number2 .ensures,
+  c .before .before .before .before .list-number .ensures,
+) refl
 
 pub row-at-spec : {M : Type 1} → statement M
 row-at-spec =

@@ -13,7 +13,10 @@ index-from-requires c κs = search needs
 
 -- ---- none
 returns : tie.Need-returns
-returns c = none-stands (now (c .before .before .before .before .before .before .before .before .args .keys)) (now (c .before .before .before .before .before .before .before .before .args .days)) (now (c .before .before .before .before .before .before .before .before .args .fulls)) (now (c .before .before .before .before .before .before .before .before .args .numbers)) (now (c .before .before .before .before .before .before .before .before .args .backs)) (now (c .before .before .before .before .before .before .before .before .args .places)) (c .before .before .before .before .before .before .before .before .args .key) _ (c .before .index-from .ensures) (c .if1 .taken)
+returns c =
+    let args = c .before .before .before .before .before .before .before .before .args in
+    none-stands (now (args .keys)) (now (args .days)) (now (args .fulls)) (now (args .numbers)) (now (args .backs)) (now (args .places)) (args .key) _
+    (c .before .index-from .ensures) (c .if1 .taken)
 
 mul-row-at : tie.Need-mul-row-at
 mul-row-at c = search needs
@@ -36,16 +39,26 @@ index-from-requires-2 c κs = search needs
 
 returns-2 : tie.Need-returns-2
 returns-2 c =
+    let args = c .before .before .before .before .before .before .before .before .before .before .before .before .args in
     let e = c .before .before .before .before .before .index-from .ensures in
-    let h = c .before .before .before .before .if1 .left in
-    (one-stands (now (c .before .before .before .before .before .before .before .before .before .before .before .before .args .keys)) (now (c .before .before .before .before .before .before .before .before .before .before .before .before .args .days)) (now (c .before .before .before .before .before .before .before .before .before .before .before .before .args .fulls)) (now (c .before .before .before .before .before .before .before .before .before .before .before .before .args .numbers)) (now (c .before .before .before .before .before .before .before .before .before .before .before .before .args .backs)) (now (c .before .before .before .before .before .before .before .before .before .before .before .before .args .places)) (c .before .before .before .before .before .before .before .before .before .before .before .before .args .key) _ e h _ (c .before .index-from2 .ensures) (c .if2 .taken), c .before .before .row-at .ensures ∙ row-is (now (c .before .before .before .before .before .before .before .before .before .before .before .before .args .keys)) (now (c .before .before .before .before .before .before .before .before .before .before .before .before .args .days)) (now (c .before .before .before .before .before .before .before .before .before .before .before .before .args .fulls)) (now (c .before .before .before .before .before .before .before .before .before .before .before .before .args .numbers)) (now (c .before .before .before .before .before .before .before .before .before .before .before .before .args .backs)) (now (c .before .before .before .before .before .before .before .before .before .before .before .before .args .places)) (c .before .before .before .before .before .before .before .before .before .before .before .before .args .key) _ e h)
+    let h = c .before .before .before .before .if1 .left in (
+      one-stands (now (args .keys)) (now (args .days)) (now (args .fulls)) (now (args .numbers)) (now (args .backs)) (now (args .places)) (args .key) _ e h _
+          (c .before .index-from2 .ensures) (c .if2 .taken),
+      c .before .before .row-at .ensures ∙
+          row-is (now (args .keys)) (now (args .days)) (now (args .fulls)) (now (args .numbers)) (now (args .backs)) (now (args .places)) (args .key) _ e h,
+    )
 
 -- ---- two or more
 returns-3 : tie.Need-returns-3
 returns-3 c =
+    let args = c .before .before .before .before .before .before .before .before .before .before .before .before .args in
     let e = c .before .before .before .before .before .index-from .ensures in
-    let h = c .before .before .before .before .if1 .left in
-    (more-stand (now (c .before .before .before .before .before .before .before .before .before .before .before .before .args .keys)) (now (c .before .before .before .before .before .before .before .before .before .before .before .before .args .days)) (now (c .before .before .before .before .before .before .before .before .before .before .before .before .args .fulls)) (now (c .before .before .before .before .before .before .before .before .before .before .before .before .args .numbers)) (now (c .before .before .before .before .before .before .before .before .before .before .before .before .args .backs)) (now (c .before .before .before .before .before .before .before .before .before .before .before .before .args .places)) (c .before .before .before .before .before .before .before .before .before .before .before .before .args .key) _ e h _ (c .before .index-from2 .ensures) (c .if2 .left), c .before .before .row-at .ensures ∙ row-is (now (c .before .before .before .before .before .before .before .before .before .before .before .before .args .keys)) (now (c .before .before .before .before .before .before .before .before .before .before .before .before .args .days)) (now (c .before .before .before .before .before .before .before .before .before .before .before .before .args .fulls)) (now (c .before .before .before .before .before .before .before .before .before .before .before .before .args .numbers)) (now (c .before .before .before .before .before .before .before .before .before .before .before .before .args .backs)) (now (c .before .before .before .before .before .before .before .before .before .before .before .before .args .places)) (c .before .before .before .before .before .before .before .before .before .before .before .before .args .key) _ e h)
+    let h = c .before .before .before .before .if1 .left in (
+      more-stand (now (args .keys)) (now (args .days)) (now (args .fulls)) (now (args .numbers)) (now (args .backs)) (now (args .places)) (args .key) _ e h _
+          (c .before .index-from2 .ensures) (c .if2 .left),
+      c .before .before .row-at .ensures ∙
+          row-is (now (args .keys)) (now (args .days)) (now (args .fulls)) (now (args .numbers)) (now (args .backs)) (now (args .places)) (args .key) _ e h,
+    )
 
 pub standing-of-spec : {M : Type 1} → statement M
 standing-of-spec =

@@ -19,19 +19,46 @@ returns-3 c = sym (rw (c .before .before .before .if1 .left, c .before .if2 .lef
 
 returns-4 : tie.Need-returns-4
 unfolding whyFrom
-returns-4 c = sym (rw (c .before .before .before .before .before .before .if1 .left, c .before .before .before .before .if2 .left, lt-leb _ _ (c .before .before .before .if3 .left), ne-eqb _ _ (c .if4 .taken)) refl)
+returns-4 c = sym (rw (
+  c .before .before .before .before .before .before .if1 .left,
+  c .before .before .before .before .if2 .left,
+  lt-leb _ _ (c .before .before .before .if3 .left),
+  ne-eqb _ _ (c .if4 .taken),
+) refl)
 
 returns-5 : tie.Need-returns-5
 unfolding whyFrom
-returns-5 c = sym (rw (c .before .before .before .before .before .before .before .before .before .before .if1 .left, c .before .before .before .before .before .before .before .before .if2 .left, lt-leb _ _ (c .before .before .before .before .before .before .before .if3 .left), eq-eqb _ _ (c .before .before .before .before .if4 .left), c .if5 .taken) refl)
+returns-5 c = sym (rw (
+  c .before .before .before .before .before .before .before .before .before .before .if1 .left,
+  c .before .before .before .before .before .before .before .before .if2 .left,
+  lt-leb _ _ (c .before .before .before .before .before .before .before .if3 .left),
+  eq-eqb _ _ (c .before .before .before .before .if4 .left),
+  c .if5 .taken,
+)
+    refl)
 
 returns-6 : tie.Need-returns-6
 unfolding whyFrom
-returns-6 c = sym (rw (c .before .before .before .before .before .before .before .before .before .before .before .before .before .before .if1 .left, c .before .before .before .before .before .before .before .before .before .before .before .before .if2 .left, lt-leb _ _ (c .before .before .before .before .before .before .before .before .before .before .before .if3 .left), eq-eqb _ _ (c .before .before .before .before .before .before .before .before .if4 .left), c .before .before .before .before .if5 .left, c .if6 .taken) refl)
+returns-6 c = sym (rw (
+  c .before .before .before .before .before .before .before .before .before .before .before .before .before .before .if1 .left,
+  c .before .before .before .before .before .before .before .before .before .before .before .before .if2 .left,
+  lt-leb _ _ (c .before .before .before .before .before .before .before .before .before .before .before .if3 .left),
+  eq-eqb _ _ (c .before .before .before .before .before .before .before .before .if4 .left),
+  c .before .before .before .before .if5 .left,
+  c .if6 .taken,
+)
+    refl)
 
 returns-7 : tie.Need-returns-7
 unfolding whyFrom
-returns-7 c = sym (rw (c .before .before .before .before .before .before .before .before .before .before .before .before .before .before .if1 .left, c .before .before .before .before .before .before .before .before .before .before .before .before .if2 .left, lt-leb _ _ (c .before .before .before .before .before .before .before .before .before .before .before .if3 .left), eq-eqb _ _ (c .before .before .before .before .before .before .before .before .if4 .left), c .before .before .before .before .if5 .left, c .if6 .left) refl)
+returns-7 c = sym (rw (
+  c .before .before .before .before .before .before .before .before .before .before .before .before .before .before .if1 .left,
+  c .before .before .before .before .before .before .before .before .before .before .before .before .if2 .left,
+  lt-leb _ _ (c .before .before .before .before .before .before .before .before .before .before .before .if3 .left),
+  eq-eqb _ _ (c .before .before .before .before .before .before .before .before .if4 .left),
+  c .before .before .before .before .if5 .left,
+  c .if6 .left,
+) refl)
 
 pub why-from-spec : {M : Type 1} → statement M
 why-from-spec =

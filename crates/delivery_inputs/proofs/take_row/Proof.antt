@@ -23,7 +23,15 @@ same-length-6 : tie.Need-same-length-6
 same-length-6 c = search needs
 
 returns : tie.Need-returns
-returns c = record { is = c .before .before .before .before .before .before .before .before .before .before .before .before .before .before .take-line .ensures .is; text = c .before .told-line .ensures; count = λ n e. count-is _ _ _ n (c .bad-count .ensures) e; lengths = c .before .before .before .before .before .before .before .before .before .before .before .before .before .before .take-line .ensures .lengths }
+returns c =
+    let before-14 = c .before .before .before .before .before .before .before .before .before .before .before .before .before .before in
+    record {
+      is = before-14 .take-line .ensures .is;
+      text = c .before .told-line .ensures;
+      count = λ n e. count-is _ _ _ n (c .bad-count .ensures) e;
+      lengths =
+          before-14 .take-line .ensures .lengths;
+    }
 
 pub take-row-spec : {M : Type 1} → statement M
 take-row-spec =

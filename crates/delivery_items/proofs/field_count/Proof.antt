@@ -42,8 +42,16 @@ loop-again : tie.Need-loop-again Inv-loop μ-loop
 loop-again c =
     let v = c .before .before .loop .inv in
     let s = c .separator-from2 .ensures in
-    let line = c .before .before .before .before .before .args .line .now in
-    (s .within, omega (arith, s .on, v .1), omega (arith, v .2, some-left line (c .before .before .loop .from) (c .before .loop-test .taken), fields-counted line (c .before .before .loop .from + 1) (c .separator-from2 .result) s))
+    let line = c .before .before .before .before .before .args .line .now in (
+      s .within,
+      omega (arith, s .on, v .1),
+      omega (
+        arith,
+        v .2,
+        some-left line (c .before .before .loop .from) (c .before .loop-test .taken),
+        fields-counted line (c .before .before .loop .from + 1) (c .separator-from2 .result) s,
+      ),
+    )
 
 returns : tie.Need-returns Inv-loop μ-loop
 returns c =

@@ -27,7 +27,8 @@ short-item-requires c κs = search needs
 
 -- ---- three fields
 returns : tie.Need-returns
-returns c = three-fields _ _ (c .before .before .before .before .before .field-count .ensures) _ _ _ (c .before .before .before .before .line-field .ensures) (c .before .before .before .if1 .taken) (c .before .before .line-field2 .ensures) (c .before .line-field3 .ensures) _ (c .short-item .ensures)
+returns c = three-fields _ _ (c .before .before .before .before .before .field-count .ensures) _ _ _ (c .before .before .before .before .line-field .ensures)
+    (c .before .before .before .if1 .taken) (c .before .before .line-field2 .ensures) (c .before .line-field3 .ensures) _ (c .short-item .ensures)
 
 line-field-requires-4 : tie.Need-line-field-requires-4
 line-field-requires-4 c κs = search needs
@@ -55,14 +56,21 @@ full-item-requires : tie.Need-full-item-requires
 full-item-requires c κs = (at-most _ _ _ (c .before .before .word-number .ensures), at-most _ _ _ (c .word-number2 .ensures))
 
 returns-2 : tie.Need-returns-2
-returns-2 c = five-fields _ _ (c .before .before .before .before .before .before .before .before .before .before .before .field-count .ensures) _ _ _ (c .before .before .before .before .before .before .before .before .before .before .line-field .ensures) (c .before .before .before .before .before .before .before .before .if2 .taken) (c .before .before .before .before .before .before .before .line-field4 .ensures) (c .before .before .before .before .before .before .line-field5 .ensures) _ (c .before .before .before .before .before .short-item2 .ensures) _ _ (c .before .before .before .word-number .ensures ∙ ap (λ (w : List ℕ). wordNumber w 65535) (c .before .before .before .before .line-field6 .ensures)) (c .before .word-number2 .ensures ∙ ap (λ (w : List ℕ). wordNumber w 65535) (c .before .before .line-field7 .ensures)) _ (c .full-item .ensures)
+returns-2 c = five-fields _ _ (c .before .before .before .before .before .before .before .before .before .before .before .field-count .ensures) _ _ _
+    (c .before .before .before .before .before .before .before .before .before .before .line-field .ensures)
+    (c .before .before .before .before .before .before .before .before .if2 .taken)
+    (c .before .before .before .before .before .before .before .line-field4 .ensures)
+    (c .before .before .before .before .before .before .line-field5 .ensures) _ (c .before .before .before .before .before .short-item2 .ensures) _ _
+    (c .before .before .before .word-number .ensures ∙ ap (λ (w : List ℕ). wordNumber w 65535) (c .before .before .before .before .line-field6 .ensures))
+    (c .before .word-number2 .ensures ∙ ap (λ (w : List ℕ). wordNumber w 65535) (c .before .before .line-field7 .ensures)) _ (c .full-item .ensures)
 
 no-item-requires : tie.Need-no-item-requires
 no-item-requires c κs = search needs
 
 -- ---- another number of fields
 returns-3 : tie.Need-returns-3
-returns-3 c = c .no-item .ensures ∙ other-fields _ _ (c .before .before .before .before .field-count .ensures) (c .before .before .if1 .left) (c .before .if2 .left)
+returns-3 c = c .no-item .ensures ∙ other-fields _ _ (c .before .before .before .before .field-count .ensures) (c .before .before .if1 .left)
+    (c .before .if2 .left)
 
 pub fields-item-spec : {M : Type 1} → statement M
 fields-item-spec =

@@ -8,8 +8,12 @@ use Rattle.delivery_items.proofs.held_length.Tie as tie
 
 returns : tie.Need-returns
 returns c =
-    let l : length (c .before .before .args .line .bytes) ≡ 255 = simp length-map at (c .before .before .good .0 .1 .1 .0 .1 .0 .1) in
-    (omega arith, take-all 255 (c .before .before .args .line .bytes) (omega (arith, l)) ∙ sym (take-all (c .before .before .args .line .length) (c .before .before .args .line .bytes) (omega (arith, l, c .if1 .taken))))
+    let args = c .before .before .args in
+    let l : length (args .line .bytes) ≡ 255 = simp length-map at (c .before .before .good .0 .1 .1 .0 .1 .0 .1) in (
+      omega arith,
+      take-all 255 (args .line .bytes) (omega (arith, l)) ∙
+          sym (take-all (args .line .length) (args .line .bytes) (omega (arith, l, c .if1 .taken))),
+    )
 
 returns-2 : tie.Need-returns-2
 returns-2 c = (omega arith, refl)

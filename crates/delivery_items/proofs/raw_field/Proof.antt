@@ -50,8 +50,12 @@ loop-less c = omega arith
 
 loop-again : tie.Need-loop-again Inv-loop μ-loop
 loop-again c =
-    let v = c .before .before .before .loop .inv in
-    (omega arith, omega arith, fields-next (c .before .before .before .before .before .args .line .now) (c .before .before .before .loop .i) _ _ (v .2) (c .before .separator-from .ensures) (c .if1 .left))
+    let v = c .before .before .before .loop .inv in (
+      omega arith,
+      omega arith,
+      fields-next (c .before .before .before .before .before .args .line .now) (c .before .before .before .loop .i) _ _ (v .2)
+          (c .before .separator-from .ensures) (c .if1 .left),
+    )
 
 separator-from-requires-2 : tie.Need-separator-from-requires-2 Inv-loop μ-loop
 separator-from-requires-2 c κs = omega arith
@@ -68,9 +72,10 @@ part-result-end-2 c = omega (arith, c .separator-from2 .ensures .within)
 
 returns-2 : tie.Need-returns-2 Inv-loop μ-loop
 returns-2 c =
+    let args = c .before .before .before .before .before .args in
     let v = c .before .before .before .loop .inv in
-    let e : c .before .before .before .loop .i ≡ c .before .before .before .before .before .args .k = omega (arith, v .1) in
-    field-here (c .before .before .before .before .before .args .line .now) (c .before .before .before .loop .i) _ _ (v .2) (c .before .separator-from2 .ensures) ∙ ap (rawField (c .before .before .before .before .before .args .line .now)) e
+    let e : c .before .before .before .loop .i ≡ args .k = omega (arith, v .1) in
+    field-here (args .line .now) (c .before .before .before .loop .i) _ _ (v .2) (c .before .separator-from2 .ensures) ∙ ap (rawField (args .line .now)) e
 
 pub raw-field-spec : {M : Type 1} → statement M
 raw-field-spec =

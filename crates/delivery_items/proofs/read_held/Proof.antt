@@ -20,8 +20,10 @@ array-share-prefix-bytes c =
 
 slice-aggregate-is-headed : tie.Need-slice-aggregate-is-headed
 slice-aggregate-is-headed c =
-    let l : length (c .before .before .before .before .args .line .bytes) ≡ 255 = simp length-map at (c .before .before .before .before .good .0 .1 .1 .0 .1 .0 .1) in
-    sym (length-take-le (c .before .before .before .held-length .result) (c .before .before .before .before .args .line .bytes) (omega (arith, c .before .before .before .held-length .ensures .0, l)))
+    let args = c .before .before .before .before .args in
+    let l : length (args .line .bytes) ≡ 255 = simp length-map at (c .before .before .before .before .good .0 .1 .1 .0 .1 .0 .1) in
+    sym (length-take-le (c .before .before .before .held-length .result) (args .line .bytes)
+    (omega (arith, c .before .before .before .held-length .ensures .0, l)))
 
 is-headed-requires : tie.Need-is-headed-requires
 is-headed-requires c κs = search needs
@@ -30,7 +32,10 @@ no-item-requires : tie.Need-no-item-requires
 no-item-requires c κs = search needs
 
 returns : tie.Need-returns
-returns c = held-over (c .before .before .before .before .before .before .args .line) (c .before .before .before .before .before .held-length .result) (c .before .before .before .before .before .held-length .ensures .1) (c .before .before .before .if1 .taken) _ _ (c .before .is-headed .ensures) (c .no-item .ensures)
+returns c =
+    let before-5 = c .before .before .before .before .before in
+    held-over (c .before .before .before .before .before .before .args .line) (before-5 .held-length .result) (before-5 .held-length .ensures .1)
+    (c .before .before .before .if1 .taken) _ _ (c .before .is-headed .ensures) (c .no-item .ensures)
 
 -- ---- a line that is held whole
 array-share-prefix-bytes-2 : tie.Need-array-share-prefix-bytes-2
@@ -40,14 +45,19 @@ array-share-prefix-bytes-2 c =
 
 slice-aggregate-read-line : tie.Need-slice-aggregate-read-line
 slice-aggregate-read-line c =
-    let l : length (c .before .before .before .before .args .line .bytes) ≡ 255 = simp length-map at (c .before .before .before .before .good .0 .1 .1 .0 .1 .0 .1) in
-    sym (length-take-le (c .before .before .before .held-length .result) (c .before .before .before .before .args .line .bytes) (omega (arith, c .before .before .before .held-length .ensures .0, l)))
+    let args = c .before .before .before .before .args in
+    let l : length (args .line .bytes) ≡ 255 = simp length-map at (c .before .before .before .before .good .0 .1 .1 .0 .1 .0 .1) in
+    sym (length-take-le (c .before .before .before .held-length .result) (args .line .bytes)
+    (omega (arith, c .before .before .before .held-length .ensures .0, l)))
 
 read-line-requires : tie.Need-read-line-requires
 read-line-requires c κs = search needs
 
 returns-2 : tie.Need-returns-2
-returns-2 c = held-whole (c .before .before .before .before .before .args .line) (c .before .before .before .before .held-length .result) (c .before .before .before .before .held-length .ensures .1) (c .before .before .if1 .left) _ (c .read-line .ensures)
+returns-2 c =
+    let before-4 = c .before .before .before .before in
+    held-whole (c .before .before .before .before .before .args .line) (before-4 .held-length .result) (before-4 .held-length .ensures .1)
+    (c .before .before .if1 .left) _ (c .read-line .ensures)
 
 pub read-held-spec : {M : Type 1} → statement M
 read-held-spec =

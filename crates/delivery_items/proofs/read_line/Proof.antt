@@ -17,7 +17,8 @@ read-trimmed-requires : tie.Need-read-trimmed-requires
 read-trimmed-requires c κs = search needs
 
 returns : tie.Need-returns
-returns c = line-is _ _ _ (c .before .before .trimmed-length .ensures .0) (c .read-trimmed .ensures .0) (c .read-trimmed .ensures .1) (c .read-trimmed .ensures .2)
+returns c = line-is _ _ _ (c .before .before .trimmed-length .ensures .0) (c .read-trimmed .ensures .0) (c .read-trimmed .ensures .1)
+    (c .read-trimmed .ensures .2)
 
 pub read-line-spec : {M : Type 1} → statement M
 read-line-spec =

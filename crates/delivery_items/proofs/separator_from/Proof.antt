@@ -41,8 +41,12 @@ loop-less c = omega arith
 
 loop-again : tie.Need-loop-again Inv-loop μ-loop
 loop-again c =
-    let v = c .before .before .before .before .loop .inv in
-    (omega arith, omega arith, none-more (c .before .before .before .before .before .before .args .line .now) _ _ (v .2) (λ e. clash (c .before .is-separator .ensures ∙ e) (c .if1 .left)))
+    let v = c .before .before .before .before .loop .inv in (
+      omega arith,
+      omega arith,
+      none-more (c .before .before .before .before .before .before .args .line .now) _ _ (v .2)
+          (λ e. clash (c .before .is-separator .ensures ∙ e) (c .if1 .left)),
+    )
 
 -- ---- the end
 returns-2 : tie.Need-returns-2 Inv-loop μ-loop

@@ -20,7 +20,9 @@ no-item-requires : tie.Need-no-item-requires
 no-item-requires c κs = search needs
 
 returns : tie.Need-returns
-returns c = c .no-item .ensures ∙ item-none _ _ _ _ _ _ (c .before .before .before .before .is-id .ensures) (c .before .before .before .before .before .before .maturity-read .ensures) (c .before .before .before .before .before .date-in .ensures) (not-true _ (c .before .if1 .taken))
+returns c = c .no-item .ensures ∙ item-none _ _ _ _ _ _ (c .before .before .before .before .is-id .ensures)
+    (c .before .before .before .before .before .before .maturity-read .ensures) (c .before .before .before .before .before .date-in .ensures)
+    (not-true _ (c .before .if1 .taken))
 
 id-bytes-requires : tie.Need-id-bytes-requires
 id-bytes-requires c κs = search needs
@@ -29,7 +31,9 @@ key-read-requires : tie.Need-key-read-requires
 key-read-requires c κs = search needs
 
 returns-2 : tie.Need-returns-2
-returns-2 c = item-is _ _ _ _ _ _ (c .before .before .before .before .before .is-id .ensures) (c .before .before .before .before .before .before .before .maturity-read .ensures) (c .before .before .before .before .before .before .date-in .ensures) (not-false _ (c .before .before .if1 .left)) _ _ (c .before .id-bytes .ensures) (c .key-read .ensures)
+returns-2 c = item-is _ _ _ _ _ _ (c .before .before .before .before .before .is-id .ensures)
+    (c .before .before .before .before .before .before .before .maturity-read .ensures) (c .before .before .before .before .before .before .date-in .ensures)
+    (not-false _ (c .before .before .if1 .left)) _ _ (c .before .id-bytes .ensures) (c .key-read .ensures)
 
 pub short-item-spec : {M : Type 1} → statement M
 short-item-spec =

@@ -20,7 +20,11 @@ same-length : tie.Need-same-length
 same-length c = c .before .before .before .before .places-of .ensures .long
 
 returns-2 : tie.Need-returns-2
-returns-2 c = place-some _ _ _ _ _ _ _ _ _ _ _ (c .before .before .before .before .before .before .before .before .before .listed-of .result) (c .before .before .before .before .before .before .before .before .before .listed-of .ensures) (not-false _ (c .before .before .before .before .before .before .before .if1 .left)) _ _ refl _ (c .before .before .before .before .places-of .ensures) _ (c .print-keys .ensures)
+returns-2 c =
+    let before-9 = c .before .before .before .before .before .before .before .before .before in
+    place-some _ _ _ _ _ _ _ _ _ _ _ (before-9 .listed-of .result) (before-9 .listed-of .ensures)
+    (not-false _ (c .before .before .before .before .before .before .before .if1 .left)) _ _ refl _
+    (c .before .before .before .before .places-of .ensures) _ (c .print-keys .ensures)
 
 pub print-place-spec : {M : Type 1} → statement M
 print-place-spec =

@@ -13,7 +13,9 @@ use Rattle.delivery_judging.proofs.print_places.Tie as tie
 
 abbrev Inv-loop : tie.InvT-loop
 Inv-loop file judged t calls of rows ids keys days fulls numbers backs places₀ so-far₀ lines₀ count p₀ places so-far lines p =
-    PlacesOut (openIn (calendarAnswer judged) file) file (t .date) (t .count) calls of (record { ids = ids; keys = keys; days = days; fulls = fulls; numbers = numbers; backs = backs }) rows (length places₀) p so-far₀ (record { sent = so-far; lines = lines }) × (length places ≡ length places₀) × (p ≤ placeCount file)
+    PlacesOut (openIn (calendarAnswer judged) file) file (t .date) (t .count) calls of
+    (record { ids = ids; keys = keys; days = days; fulls = fulls; numbers = numbers; backs = backs }) rows (length places₀) p so-far₀
+    (record { sent = so-far; lines = lines }) × (length places ≡ length places₀) × (p ≤ placeCount file)
 
 abbrev μ-loop : tie.MeasureT-loop
 μ-loop file judged t calls of rows ids keys days fulls numbers backs places₀ so-far₀ lines₀ count p₀ places so-far lines p = count - p
@@ -31,7 +33,13 @@ print-place-requires : tie.Need-print-place-requires Inv-loop μ-loop
 print-place-requires c κs = tt
 
 add-lines : tie.Need-add-lines Inv-loop μ-loop
-add-lines c = omega (arith, c .before .before .before .before .before .before .before .loop .inv .0 .few, c .before .before .before .before .print-place .ensures .few, c .before .before .before .before .before .before .loop-test .taken, c .before .before .before .before .before .before .before .before .if1 .left)
+add-lines c = omega (
+  arith,
+  c .before .before .before .before .before .before .before .loop .inv .0 .few,
+  c .before .before .before .before .print-place .ensures .few,
+  c .before .before .before .before .before .before .loop-test .taken,
+  c .before .before .before .before .before .before .before .before .if1 .left,
+)
 
 add-p : tie.Need-add-p Inv-loop μ-loop
 add-p c = omega (arith, c .before .before .before .before .before .before .loop-test .taken)
@@ -40,7 +48,13 @@ loop-less : tie.Need-loop-less Inv-loop μ-loop
 loop-less c = omega (arith, c .before .before .before .before .before .before .loop-test .taken)
 
 loop-again : tie.Need-loop-again Inv-loop μ-loop
-loop-again c = let v = c .before .before .before .before .before .before .before .loop .inv in let k = c .before .before .before .before .print-place .kept in (places-more _ _ _ _ _ _ _ _ _ _ _ _ _ (v .0) _ (place-at _ _ _ _ _ _ _ _ _ _ (v .1) _ _ _ (c .before .before .before .before .print-place .ensures)), omega (arith, v .1), omega (arith, c .before .before .before .before .before .before .loop-test .taken))
+loop-again c =
+    let before-4 = c .before .before .before .before in
+    let v = c .before .before .before .before .before .before .before .loop .inv in let k = before-4 .print-place .kept in (
+      places-more _ _ _ _ _ _ _ _ _ _ _ _ _ (v .0) _ (place-at _ _ _ _ _ _ _ _ _ _ (v .1) _ _ _ (before-4 .print-place .ensures)),
+      omega (arith, v .1),
+      omega (arith, c .before .before .before .before .before .before .loop-test .taken),
+    )
 
 same-length : tie.Need-same-length Inv-loop μ-loop
 same-length c = c .before .loop .inv .1

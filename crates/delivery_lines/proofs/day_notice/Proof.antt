@@ -11,11 +11,13 @@ returns c = c .notice-day-held .ensures ∙ day-dateless _ _ (c .before .if1 .ta
 
 returns-2 : tie.Need-returns-2
 returns-2 c =
-    c .notice-day-held2 .ensures ∙ day-letterless _ _ (c .before .before .before .if1 .left) (said-no (c .before .before .is-date-letter .ensures) (c .before .if2 .taken))
+    c .notice-day-held2 .ensures ∙ day-letterless _ _ (c .before .before .before .if1 .left)
+    (said-no (c .before .before .is-date-letter .ensures) (c .before .if2 .taken))
 
 returns-3 : tie.Need-returns-3
 returns-3 c =
-    c .notice-day-held3 .ensures ∙ day-is _ _ (c .before .before .before .if1 .left) (said-yes (c .before .before .is-date-letter .ensures) (c .before .if2 .left))
+    c .notice-day-held3 .ensures ∙ day-is _ _ (c .before .before .before .if1 .left)
+    (said-yes (c .before .before .is-date-letter .ensures) (c .before .if2 .left))
 
 pub day-notice-spec : {M : Type 1} → statement M
 day-notice-spec =

@@ -31,7 +31,8 @@ returns c = rw (lt-leb 1 (length (c .before .before .args .word .now)) (omega ar
 returns-2 : tie.Need-returns-2 Inv-loop μ-loop
 unfolding isId
 returns-2 c =
-    rw (lt-leb (length (c .before .before .before .args .word .now)) 4 (omega arith), and-false (leb 1 (length (c .before .before .before .args .word .now)))) refl
+    let args = c .before .before .before .args in
+    rw (lt-leb (length (args .word .now)) 4 (omega arith), and-false (leb 1 (length (args .word .now)))) refl
 
 -- ---- the loop
 loop-holds : tie.Need-loop-holds Inv-loop μ-loop

@@ -12,15 +12,27 @@ returns c = c .notice-day-held .ensures ∙ measure-letterless _ (λ z. c .befor
 
 returns-2 : tie.Need-returns-2
 returns-2 c =
-    c .notice-day-held2 .ensures ∙ measure-idless _ (sym (c .before .before .before .before .byte-at .ensures) ∙ c .before .before .before .if1 .left) (said-no (c .before .before .is-id-in .ensures) (c .before .if2 .taken))
+    c .notice-day-held2 .ensures ∙ measure-idless _ (sym (c .before .before .before .before .byte-at .ensures) ∙ c .before .before .before .if1 .left)
+    (said-no (c .before .before .is-id-in .ensures) (c .before .if2 .taken))
 
 returns-3 : tie.Need-returns-3
 returns-3 c =
-    c .notice-day-held3 .ensures ∙ measure-none _ (sym (c .before .before .before .before .before .before .before .before .before .before .before .byte-at .ensures) ∙ c .before .before .before .before .before .before .before .before .before .before .if1 .left) (said-yes (c .before .before .before .before .before .before .before .before .before .is-id-in .ensures) (c .before .before .before .before .before .before .before .before .if2 .left)) _ _ _ (c .before .before .before .before .before .before .before .number-in .ensures) (c .before .before .before .before .before .before .number-in2 .ensures) (c .before .before .before .before .before .price-in .ensures) (not-true _ (c .before .if3 .taken))
+    c .notice-day-held3 .ensures ∙ measure-none _
+    (sym (c .before .before .before .before .before .before .before .before .before .before .before .byte-at .ensures) ∙
+    c .before .before .before .before .before .before .before .before .before .before .if1 .left)
+    (said-yes (c .before .before .before .before .before .before .before .before .before .is-id-in .ensures)
+    (c .before .before .before .before .before .before .before .before .if2 .left)) _ _ _
+    (c .before .before .before .before .before .before .before .number-in .ensures) (c .before .before .before .before .before .before .number-in2 .ensures)
+    (c .before .before .before .before .before .price-in .ensures) (not-true _ (c .before .if3 .taken))
 
 returns-4 : tie.Need-returns-4
 returns-4 c =
-    measure-is _ (sym (c .before .before .before .before .before .before .before .before .before .before .before .byte-at .ensures) ∙ c .before .before .before .before .before .before .before .before .before .before .if1 .left) (said-yes (c .before .before .before .before .before .before .before .before .before .is-id-in .ensures) (c .before .before .before .before .before .before .before .before .if2 .left)) _ _ _ (c .before .before .before .before .before .before .before .number-in .ensures) (c .before .before .before .before .before .before .number-in2 .ensures) (c .before .before .before .before .before .price-in .ensures) (not-false _ (c .before .if3 .left)) _ (c .id-word .ensures)
+    measure-is _ (sym (c .before .before .before .before .before .before .before .before .before .before .before .byte-at .ensures) ∙
+    c .before .before .before .before .before .before .before .before .before .before .if1 .left)
+    (said-yes (c .before .before .before .before .before .before .before .before .before .is-id-in .ensures)
+    (c .before .before .before .before .before .before .before .before .if2 .left)) _ _ _
+    (c .before .before .before .before .before .before .before .number-in .ensures) (c .before .before .before .before .before .before .number-in2 .ensures)
+    (c .before .before .before .before .before .price-in .ensures) (not-false _ (c .before .if3 .left)) _ (c .id-word .ensures)
 
 pub measure-line-spec : {M : Type 1} → statement M
 measure-line-spec =

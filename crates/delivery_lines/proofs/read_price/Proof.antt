@@ -15,19 +15,23 @@ returns c =
 
 returns-2 : tie.Need-returns-2
 returns-2 c =
-    price-large _ _ _ (c .before .before .before .before .before .before .read-whole .ensures) (c .before .before .before .before .before .part-read .ensures) (not-false _ (c .before .before .if1 .left)) (c .if2 .taken)
+    price-large _ _ _ (c .before .before .before .before .before .before .read-whole .ensures) (c .before .before .before .before .before .part-read .ensures)
+    (not-false _ (c .before .before .if1 .left)) (c .if2 .taken)
 
 mul-t6 : tie.Need-mul-t6
 mul-t6 c = search needs
 
 add-t7 : tie.Need-add-t7
 add-t7 c =
-    let g : c .before .before .before .before .before .before .before .part-read .result .value ≤ 9999 = part-most _ _ (c .before .before .before .before .before .before .before .part-read .ensures) in
+    let before-7 = c .before .before .before .before .before .before .before in
+    let g : before-7 .part-read .result .value ≤ 9999 = part-most _ _ (before-7 .part-read .ensures) in
     omega arith
 
 returns-3 : tie.Need-returns-3
 returns-3 c =
-    price-small _ _ _ (c .before .before .before .before .before .before .before .before .read-whole .ensures) (c .before .before .before .before .before .before .before .part-read .ensures) (not-false _ (c .before .before .before .before .if1 .left)) (c .before .before .if2 .left) (part-most _ _ (c .before .before .before .before .before .before .before .part-read .ensures))
+    let before-7 = c .before .before .before .before .before .before .before in
+    price-small _ _ _ (c .before .before .before .before .before .before .before .before .read-whole .ensures) (before-7 .part-read .ensures)
+    (not-false _ (c .before .before .before .before .if1 .left)) (c .before .before .if2 .left) (part-most _ _ (before-7 .part-read .ensures))
 
 pub read-price-spec : {M : Type 1} → statement M
 read-price-spec =

@@ -31,12 +31,16 @@ loop-less c =
     omega arith
 
 loop-again : tie.Need-loop-again Inv-loop μ-loop
-loop-again c =
-    (omega (arith, c .before .before .loop .inv .0), trim-more _ _ (c .before .before .loop .inv .0) (sym (c .before .ends-blank .ensures) ∙ c .if1 .taken) (c .before .before .loop .inv .1))
+loop-again c = (
+  omega (arith, c .before .before .loop .inv .0),
+  trim-more _ _ (c .before .before .loop .inv .0) (sym (c .before .ends-blank .ensures) ∙ c .if1 .taken) (c .before .before .loop .inv .1),
+)
 
 returns : tie.Need-returns Inv-loop μ-loop
-returns c =
-    (trim-done _ _ (c .before .before .loop .inv .0) (sym (c .before .ends-blank .ensures) ∙ c .if1 .left) (c .before .before .loop .inv .1), c .before .before .loop .inv .0)
+returns c = (
+  trim-done _ _ (c .before .before .loop .inv .0) (sym (c .before .ends-blank .ensures) ∙ c .if1 .left) (c .before .before .loop .inv .1),
+  c .before .before .loop .inv .0,
+)
 
 pub trimmed-length-spec : {M : Type 1} → statement M
 trimmed-length-spec =

@@ -7,15 +7,18 @@ use Rattle.delivery_lines.proofs.words_line.Tie as tie
 
 returns : tie.Need-returns
 returns c =
-    c .day-notice .ensures ∙ rw (c .before .byte-at .ensures, c .before .before .date-in .ensures, c .before .before .before .word-at .ensures) (two-words _ (sym (c .before .before .before .before .before .is-letter-form .ensures) ∙ c .before .before .before .before .if1 .taken))
+    c .day-notice .ensures ∙ rw (c .before .byte-at .ensures, c .before .before .date-in .ensures, c .before .before .before .word-at .ensures)
+    (two-words _ (sym (c .before .before .before .before .before .is-letter-form .ensures) ∙ c .before .before .before .before .if1 .taken))
 
 returns-2 : tie.Need-returns-2
 returns-2 c =
-    c .measure-line .ensures ∙ five-words _ (sym (c .before .before .before .before .is-letter-form .ensures) ∙ c .before .before .before .if1 .left) (sym (c .before .before .is-letter-form2 .ensures) ∙ c .before .if2 .taken)
+    c .measure-line .ensures ∙ five-words _ (sym (c .before .before .before .before .is-letter-form .ensures) ∙ c .before .before .before .if1 .left)
+    (sym (c .before .before .is-letter-form2 .ensures) ∙ c .before .if2 .taken)
 
 returns-3 : tie.Need-returns-3
 returns-3 c =
-    c .notice-day-held .ensures ∙ no-words _ (sym (c .before .before .before .before .is-letter-form .ensures) ∙ c .before .before .before .if1 .left) (sym (c .before .before .is-letter-form2 .ensures) ∙ c .before .if2 .left)
+    c .notice-day-held .ensures ∙ no-words _ (sym (c .before .before .before .before .is-letter-form .ensures) ∙ c .before .before .before .if1 .left)
+    (sym (c .before .before .is-letter-form2 .ensures) ∙ c .before .if2 .left)
 
 pub words-line-spec : {M : Type 1} → statement M
 words-line-spec =

@@ -10,7 +10,8 @@ use Rattle.delivery_notices.proofs.read_lines.Tie as tie
 
 -- ---- the loop's invariant and its measure
 abbrev Inv-loop : tie.InvT-loop
-Inv-loop text long calls₀ ids₀ t₀ from₀ calls ids t from = (length text ≤ 65537) × (32770 ≤ length calls₀) × (26216 ≤ length ids₀) × Going text long calls₀ ids₀ t calls ids from
+Inv-loop text long calls₀ ids₀ t₀ from₀ calls ids t from =
+    (length text ≤ 65537) × (32770 ≤ length calls₀) × (26216 ≤ length ids₀) × Going text long calls₀ ids₀ t calls ids from
 
 abbrev μ-loop : tie.MeasureT-loop
 μ-loop text long calls₀ ids₀ t₀ from₀ calls ids t from = length text - from
@@ -21,7 +22,8 @@ no-notices-taken-requires c κs = tt
 -- ---- before the loop
 loop-holds : tie.Need-loop-holds Inv-loop μ-loop
 loop-holds c =
-    (c .before .before .before .before .pre .0, c .before .before .before .before .pre .1, c .before .before .before .before .pre .2, begins _ _ _ _ _ (c .no-notices-taken .ensures))
+    let before-4 = c .before .before .before .before in
+    (before-4 .pre .0, before-4 .pre .1, before-4 .pre .2, begins _ _ _ _ _ (c .no-notices-taken .ensures))
 
 -- ---- a turn: the line, and the room for what it says
 add-cut : tie.Need-add-cut Inv-loop μ-loop
@@ -40,22 +42,43 @@ take-line-requires : tie.Need-take-line-requires Inv-loop μ-loop
 take-line-requires c κs =
     let v = c .before .before .before .before .before .loop .inv in
     let g = v .3 in
-    let h = c .before .before .before .before .loop-test .taken in
-    (omega (arith, g .lines, h, v .0), omega (arith, g .few, h, v .0), omega (arith, g .few, h, v .0, v .1, g .calls-long), omega (arith, g .few, h, v .0, v .2, g .ids-long))
+    let h = c .before .before .before .before .loop-test .taken in (
+      omega (arith, g .lines, h, v .0),
+      omega (arith, g .few, h, v .0),
+      omega (arith, g .few, h, v .0, v .1, g .calls-long),
+      omega (arith, g .few, h, v .0, v .2, g .ids-long),
+    )
 
 add-from : tie.Need-add-from Inv-loop μ-loop
 add-from c =
-    omega (arith, c .before .before .before .before .before .before .before .before .byte-from .ensures .0 (omega (arith, c .before .before .before .before .before .before .before .before .before .loop-test .taken)) .within, c .before .before .before .before .before .before .before .before .before .before .loop .inv .0)
+    omega (
+      arith,
+      c .before .before .before .before .before .before .before .before .byte-from .ensures .0
+          (omega (arith, c .before .before .before .before .before .before .before .before .before .loop-test .taken)) .within,
+      c .before .before .before .before .before .before .before .before .before .before .loop .inv .0,
+    )
 
 -- ---- the invariant after it
 loop-less : tie.Need-loop-less Inv-loop μ-loop
 loop-less c =
-    omega (arith, c .before .before .before .before .before .before .before .before .byte-from .ensures .0 (omega (arith, c .before .before .before .before .before .before .before .before .before .loop-test .taken)) .on, c .before .before .before .before .before .before .before .before .before .loop-test .taken)
+    let before-9 = c .before .before .before .before .before .before .before .before .before in
+    omega (
+      arith,
+      c .before .before .before .before .before .before .before .before .byte-from .ensures .0 (omega (arith, before-9 .loop-test .taken)) .on,
+      before-9 .loop-test .taken,
+    )
 
 loop-again : tie.Need-loop-again Inv-loop μ-loop
 loop-again c =
-    let v = c .before .before .before .before .before .before .before .before .before .before .loop .inv in
-    (v .0, v .1, v .2, goes-on _ _ _ _ _ _ _ _ _ (v .3) (c .before .before .before .before .before .before .before .before .before .loop-test .taken) (c .before .before .before .before .before .before .before .before .byte-from .ensures .0 (omega (arith, c .before .before .before .before .before .before .before .before .before .loop-test .taken))) _ refl _ _ _ (c .before .before .before .before .take-line .ensures))
+    let before-9 = c .before .before .before .before .before .before .before .before .before in
+    let v = c .before .before .before .before .before .before .before .before .before .before .loop .inv in (
+      v .0,
+      v .1,
+      v .2,
+      goes-on _ _ _ _ _ _ _ _ _ (v .3) (before-9 .loop-test .taken)
+          (c .before .before .before .before .before .before .before .before .byte-from .ensures .0 (omega (arith, before-9 .loop-test .taken))) _ refl _ _ _
+          (c .before .before .before .before .take-line .ensures),
+    )
 
 -- ---- the end
 same-length : tie.Need-same-length Inv-loop μ-loop

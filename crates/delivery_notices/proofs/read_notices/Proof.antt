@@ -14,7 +14,8 @@ returns c = text-idle _ _ _ _ (c .no-notices-taken .ensures) _ (c .before .befor
 
 -- ---- the text's lines
 slice-aggregate-part : tie.Need-slice-aggregate-part
-slice-aggregate-part c = sym (length-take-le _ _ (part-few (c .before .before .before .before .before .before .before .args .text .now) _ (c .before .read-length .ensures)))
+slice-aggregate-part c = sym (length-take-le _ _
+    (part-few (c .before .before .before .before .before .before .before .args .text .now) _ (c .before .read-length .ensures)))
 
 sub-read-lines : tie.Need-sub-read-lines
 sub-read-lines c = search needs
@@ -27,8 +28,10 @@ part-read-lines-end c = search needs
 
 read-lines-requires : tie.Need-read-lines-requires
 read-lines-requires c κs =
-    let r = lists-room (c .before .before .before .before .before .before .before .before .before .before .before .args .calls .now) (c .before .before .before .before .before .before .before .before .before .before .before .args .ids .now) _ (c .before .before .before .before .before .before .before .lists-fit .ensures) (not-false _ (c .before .before .before .before .before .before .if1 .left)) in
-    (rest-few (c .before .before .before .before .before .before .before .before .before .before .before .args .text .now) _ _ (c .before .before .before .before .before .read-length .ensures), r .0, r .1)
+    let args = c .before .before .before .before .before .before .before .before .before .before .before .args in
+    let r = lists-room (args .calls .now) (args .ids .now) _ (c .before .before .before .before .before .before .before .lists-fit .ensures)
+    (not-false _ (c .before .before .before .before .before .before .if1 .left)) in
+    (rest-few (args .text .now) _ _ (c .before .before .before .before .before .read-length .ensures), r .0, r .1)
 
 whole-taken-requires : tie.Need-whole-taken-requires
 whole-taken-requires c κs = c .before .before .before .before .read-lines .ensures .lines
@@ -42,7 +45,11 @@ same-length-2 c = search needs
 -- ---- what was read is the text's
 returns-2 : tie.Need-returns-2
 returns-2 c =
-    text-read _ _ _ _ _ _ _ _ _ (c .before .before .before .before .before .before .before .before .before .before .before .read-length .ensures) (c .before .before .before .before .before .before .before .before .before .mark-length .ensures .0) refl (c .before .before .before .before .before .read-lines .ensures) _ (c .whole-taken .ensures) _ (c .before .before .before .before .before .before .before .before .before .before .before .before .before .lists-fit .ensures) (not-false _ (c .before .before .before .before .before .before .before .before .before .before .before .before .if1 .left))
+    text-read _ _ _ _ _ _ _ _ _ (c .before .before .before .before .before .before .before .before .before .before .before .read-length .ensures)
+    (c .before .before .before .before .before .before .before .before .before .mark-length .ensures .0) refl
+    (c .before .before .before .before .before .read-lines .ensures) _ (c .whole-taken .ensures) _
+    (c .before .before .before .before .before .before .before .before .before .before .before .before .before .lists-fit .ensures)
+    (not-false _ (c .before .before .before .before .before .before .before .before .before .before .before .before .if1 .left))
 
 pub read-notices-spec : {M : Type 1} → statement M
 read-notices-spec =

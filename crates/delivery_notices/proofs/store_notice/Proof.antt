@@ -31,7 +31,10 @@ same-length-2 c = search needs
 
 returns : tie.Need-returns
 returns c =
-    stored _ _ _ _ _ _ _ _ _ (c .before .before .before .before .before .before .before .before .before .before .before .before .before .pre .0) (c .before .before .before .before .before .before .before .before .before .before .before .before .before .pre .1) (c .before .before .before .before .before .before .before .before .kind-in .ensures) (c .before .before .before .before .before .before .before .first-in .ensures) (c .before .before .before .before .before .before .put-call .ensures) (c .before .before .put-id .ensures)
+    let before-13 = c .before .before .before .before .before .before .before .before .before .before .before .before .before in
+    stored _ _ _ _ _ _ _ _ _ (before-13 .pre .0) (before-13 .pre .1) (c .before .before .before .before .before .before .before .before .kind-in .ensures)
+    (c .before .before .before .before .before .before .before .first-in .ensures) (c .before .before .before .before .before .before .put-call .ensures)
+    (c .before .before .put-id .ensures)
 
 pub store-notice-spec : {M : Type 1} → statement M
 store-notice-spec =

@@ -15,7 +15,8 @@ returns-2 c = rw (c .bad-taken .ensures) (line-cut _ _ _ _ (c .before .before .i
 
 take-said-requires : tie.Need-take-said-requires
 take-said-requires c κs =
-    (c .before .before .before .before .before .before .before .before .before .pre .0, c .before .before .before .before .before .before .before .before .before .pre .1, c .before .before .before .before .if1 .left, c .before .before .before .before .before .before .before .before .before .pre .2, c .before .before .before .before .before .before .before .before .before .pre .3)
+    let before-9 = c .before .before .before .before .before .before .before .before .before in
+    (before-9 .pre .0, before-9 .pre .1, c .before .before .before .before .if1 .left, before-9 .pre .2, before-9 .pre .3)
 
 same-length : tie.Need-same-length
 same-length c = c .before .before .before .before .take-said .ensures .calls-long
@@ -25,7 +26,9 @@ same-length-2 c = c .before .before .before .before .take-said .ensures .ids-lon
 
 returns-3 : tie.Need-returns-3
 returns-3 c =
-    line-said _ _ _ _ (c .before .before .before .before .before .before .before .before .before .if1 .left) _ (c .before .before .before .before .before .before .before .before .if2 .left) _ (c .before .before .before .before .before .before .before .notice-of .ensures) _ _ _ (c .before .before .before .before .take-said .ensures)
+    line-said _ _ _ _ (c .before .before .before .before .before .before .before .before .before .if1 .left) _
+    (c .before .before .before .before .before .before .before .before .if2 .left) _
+    (c .before .before .before .before .before .before .before .notice-of .ensures) _ _ _ (c .before .before .before .before .take-said .ensures)
 
 pub take-line-spec : {M : Type 1} → statement M
 take-line-spec =

@@ -20,14 +20,17 @@ bad-taken-requires c κs = c .before .before .before .before .before .pre .0
 
 returns-2 : tie.Need-returns-2
 returns-2 c =
-    rw (c .bad-taken .ensures) (said-bad _ _ _ _ (c .before .before .before .before .before .before .pre .2) (c .before .before .if1 .left) (c .before .if2 .taken))
+    rw (c .bad-taken .ensures) (said-bad _ _ _ _ (c .before .before .before .before .before .before .pre .2) (c .before .before .if1 .left)
+    (c .before .if2 .taken))
 
 bad-taken-requires-2 : tie.Need-bad-taken-requires-2
 bad-taken-requires-2 c κs = c .before .before .before .before .before .before .before .pre .0
 
 returns-3 : tie.Need-returns-3
 returns-3 c =
-    rw (c .bad-taken2 .ensures) (said-strayed _ _ _ _ (c .before .before .before .before .before .before .before .before .pre .2) (c .before .before .before .before .if1 .left) (c .before .before .before .if2 .left) (said-no (c .before .before .may-stand .ensures) (c .before .if3 .taken)))
+    rw (c .bad-taken2 .ensures) (said-strayed _ _ _ _ (c .before .before .before .before .before .before .before .before .pre .2)
+    (c .before .before .before .before .if1 .left) (c .before .before .before .if2 .left)
+    (said-no (c .before .before .may-stand .ensures) (c .before .if3 .taken)))
 
 -- ---- the O
 add-r-2 : tie.Need-add-r-2
@@ -35,7 +38,9 @@ add-r-2 c = search needs
 
 returns-4 : tie.Need-returns-4
 returns-4 c =
-    said-open _ _ _ _ (c .before .before .before .before .before .before .before .before .before .pre .2) (c .before .before .before .before .before .if1 .left) (c .before .before .before .before .if2 .left) (said-yes (c .before .before .before .may-stand .ensures) (c .before .before .if3 .left)) (c .before .if4 .taken)
+    said-open _ _ _ _ (c .before .before .before .before .before .before .before .before .before .pre .2) (c .before .before .before .before .before .if1 .left)
+    (c .before .before .before .before .if2 .left) (said-yes (c .before .before .before .may-stand .ensures) (c .before .before .if3 .left))
+    (c .before .if4 .taken)
 
 -- ---- a notice
 add-store-notice : tie.Need-add-store-notice
@@ -46,11 +51,16 @@ cast-store-notice c = search needs
 
 store-notice-requires : tie.Need-store-notice-requires
 store-notice-requires c κs =
-    (c .before .before .before .before .before .before .before .before .before .before .before .before .pre .3, c .before .before .before .before .before .before .before .before .before .before .before .before .pre .4)
+    let before-12 = c .before .before .before .before .before .before .before .before .before .before .before .before in
+    (before-12 .pre .3, before-12 .pre .4)
 
 add-r-3 : tie.Need-add-r-3
 add-r-3 c =
-    omega (arith, c .before .before .before .before .before .before .before .before .before .before .before .before .before .before .before .before .before .before .pre .1)
+    omega (
+      arith,
+      c .before .before .before .before .before .before .before .before .before .before .before .before .before .before .before .before .before
+          .before .pre .1,
+    )
 
 same-length : tie.Need-same-length
 same-length c = c .before .before .before .before .before .store-notice .ensures .calls-long
@@ -60,7 +70,14 @@ same-length-2 c = c .before .before .before .before .before .store-notice .ensur
 
 returns-5 : tie.Need-returns-5
 returns-5 c =
-    said-call _ _ _ _ (c .before .before .before .before .before .before .before .before .before .before .before .before .before .before .before .before .before .before .pre .2) (c .before .before .before .before .before .before .before .before .before .before .before .before .before .before .if1 .left) (c .before .before .before .before .before .before .before .before .before .before .before .before .before .if2 .left) (said-yes (c .before .before .before .before .before .before .before .before .before .before .before .before .may-stand .ensures) (c .before .before .before .before .before .before .before .before .before .before .before .if3 .left)) (c .before .before .before .before .before .before .before .before .before .before .if4 .left) _ _ (c .before .before .before .before .before .store-notice .ensures)
+    said-call _ _ _ _
+    (c .before .before .before .before .before .before .before .before .before .before .before .before .before .before .before .before .before
+    .before .pre .2) (c .before .before .before .before .before .before .before .before .before .before .before .before .before .before .if1 .left)
+    (c .before .before .before .before .before .before .before .before .before .before .before .before .before .if2 .left)
+    (said-yes (c .before .before .before .before .before .before .before .before .before .before .before .before .may-stand .ensures)
+    (c .before .before .before .before .before .before .before .before .before .before .before .if3 .left))
+    (c .before .before .before .before .before .before .before .before .before .before .if4 .left) _ _
+    (c .before .before .before .before .before .store-notice .ensures)
 
 pub take-said-spec : {M : Type 1} → statement M
 take-said-spec =

@@ -11,14 +11,19 @@ returns c = place-idle _ _ _ _ _ _ _ _ _ _ (c .before .before .part-fits .ensure
 
 returns-2 : tie.Need-returns-2
 returns-2 c =
-    place-empty _ _ _ _ _ _ _ _ _ _ (c .before .before .before .before .part-fits .ensures) (not-false _ (c .before .before .before .if1 .left)) (said-no (c .before .before .is-record .ensures) (c .before .if2 .taken)) _ (c .no-part2 .ensures)
+    place-empty _ _ _ _ _ _ _ _ _ _ (c .before .before .before .before .part-fits .ensures) (not-false _ (c .before .before .before .if1 .left))
+    (said-no (c .before .before .is-record .ensures) (c .before .if2 .taken)) _ (c .no-part2 .ensures)
 
 same-length : tie.Need-same-length
 same-length c = c .before .before .before .deliver .ensures .long
 
 returns-3 : tie.Need-returns-3
 returns-3 c =
-    place-refused _ _ _ _ _ _ _ _ _ _ (c .before .before .before .before .before .before .before .before .before .part-fits .ensures) (not-false _ (c .before .before .before .before .before .before .before .before .if1 .left)) (said-yes (c .before .before .before .before .before .before .before .is-record .ensures) (c .before .before .before .before .before .before .if2 .left)) _ (c .before .before .before .before .before .id-at .ensures) _ _ (c .before .before .before .deliver .ensures) (c .if3 .taken)
+    place-refused _ _ _ _ _ _ _ _ _ _ (c .before .before .before .before .before .before .before .before .before .part-fits .ensures)
+    (not-false _ (c .before .before .before .before .before .before .before .before .if1 .left))
+    (said-yes (c .before .before .before .before .before .before .before .is-record .ensures)
+    (c .before .before .before .before .before .before .if2 .left)) _ (c .before .before .before .before .before .id-at .ensures) _ _
+    (c .before .before .before .deliver .ensures) (c .if3 .taken)
 
 same-length-2 : tie.Need-same-length-2
 same-length-2 c = c .before .before .before .before .before .before .before .before .deliver .ensures .long
@@ -28,7 +33,14 @@ same-length-3 c = c .before .before .print-rows .ensures .long
 
 returns-4 : tie.Need-returns-4
 returns-4 c =
-    place-rows _ _ _ _ _ _ _ _ _ _ (c .before .before .before .before .before .before .before .before .before .before .before .before .before .before .part-fits .ensures) (not-false _ (c .before .before .before .before .before .before .before .before .before .before .before .before .before .if1 .left)) (said-yes (c .before .before .before .before .before .before .before .before .before .before .before .before .is-record .ensures) (c .before .before .before .before .before .before .before .before .before .before .before .if2 .left)) _ (c .before .before .before .before .before .before .before .before .before .before .id-at .ensures) _ _ (c .before .before .before .before .before .before .before .before .deliver .ensures) (c .before .before .before .before .before .if3 .left) _ _ (c .before .before .print-rows .ensures)
+    place-rows _ _ _ _ _ _ _ _ _ _
+    (c .before .before .before .before .before .before .before .before .before .before .before .before .before .before .part-fits .ensures)
+    (not-false _ (c .before .before .before .before .before .before .before .before .before .before .before .before .before .if1 .left))
+    (said-yes (c .before .before .before .before .before .before .before .before .before .before .before .before .is-record .ensures)
+    (c .before .before .before .before .before .before .before .before .before .before .before .if2 .left)) _
+    (c .before .before .before .before .before .before .before .before .before .before .id-at .ensures) _ _
+    (c .before .before .before .before .before .before .before .before .deliver .ensures) (c .before .before .before .before .before .if3 .left) _ _
+    (c .before .before .print-rows .ensures)
 
 pub deliver-place-spec : {M : Type 1} → statement M
 deliver-place-spec =

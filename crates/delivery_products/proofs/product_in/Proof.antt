@@ -14,13 +14,15 @@ returns-2 : tie.Need-returns-2
 returns-2 c =
     let at-is-record = c .before .before in
     let at-if1 = at-is-record .before in
-    place-empty _ _ (sym (judged-refusal _ _ (at-if1 .before .judge .ensures)) ∙ at-if1 .if1 .left) _ (said-no (at-is-record .is-record .ensures) (c .before .if2 .taken)) (c .no-product2 .ensures)
+    place-empty _ _ (sym (judged-refusal _ _ (at-if1 .before .judge .ensures)) ∙ at-if1 .if1 .left) _
+    (said-no (at-is-record .is-record .ensures) (c .before .if2 .taken)) (c .no-product2 .ensures)
 
 returns-3 : tie.Need-returns-3
 returns-3 c =
     let at-is-record = c .before .before in
     let at-if1 = at-is-record .before in
-    rw (c .product-at .ensures) (sym (place-holds _ _ (sym (judged-refusal _ _ (at-if1 .before .judge .ensures)) ∙ at-if1 .if1 .left) (said-yes (at-is-record .is-record .ensures) (c .before .if2 .left))))
+    rw (c .product-at .ensures) (sym (place-holds _ _ (sym (judged-refusal _ _ (at-if1 .before .judge .ensures)) ∙ at-if1 .if1 .left)
+    (said-yes (at-is-record .is-record .ensures) (c .before .if2 .left))))
 
 pub product-in-spec : {M : Type 1} → statement M
 product-in-spec =

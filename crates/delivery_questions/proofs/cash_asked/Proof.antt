@@ -12,13 +12,24 @@ slice-aggregate-is-word : tie.Need-slice-aggregate-is-word
 slice-aggregate-is-word c = refl
 
 returns : tie.Need-returns
-returns c = c .bare-held .ensures ∙ cash-nameless _ _ _ _ _ (said-no (c .before .before .is-word .ensures ∙ ap (isWord cashWord) (c .before .before .before .word-at .ensures)) (c .before .if1 .taken))
+returns c = c .bare-held .ensures ∙ cash-nameless _ _ _ _ _
+    (said-no (c .before .before .is-word .ensures ∙ ap (isWord cashWord) (c .before .before .before .word-at .ensures)) (c .before .if1 .taken))
 
 returns-2 : tie.Need-returns-2
-returns-2 c = c .bare-held2 .ensures ∙ cash-none _ _ _ _ _ (said-yes (c .before .before .before .before .before .before .before .before .before .is-word .ensures ∙ ap (isWord cashWord) (c .before .before .before .before .before .before .before .before .before .before .word-at .ensures)) (c .before .before .before .before .before .before .before .before .if1 .left)) _ _ _ (c .before .before .before .before .before .before .before .number-in .ensures) (c .before .before .before .before .before .before .price-in .ensures) (c .before .before .before .before .before .price-in2 .ensures) (not-true _ (c .before .if2 .taken))
+returns-2 c = c .bare-held2 .ensures ∙ cash-none _ _ _ _ _
+    (said-yes (c .before .before .before .before .before .before .before .before .before .is-word .ensures ∙
+    ap (isWord cashWord) (c .before .before .before .before .before .before .before .before .before .before .word-at .ensures))
+    (c .before .before .before .before .before .before .before .before .if1 .left)) _ _ _
+    (c .before .before .before .before .before .before .before .number-in .ensures) (c .before .before .before .before .before .before .price-in .ensures)
+    (c .before .before .before .before .before .price-in2 .ensures) (not-true _ (c .before .if2 .taken))
 
 returns-3 : tie.Need-returns-3
-returns-3 c = cash-is _ _ _ _ _ (said-yes (c .before .before .before .before .before .before .before .before .is-word .ensures ∙ ap (isWord cashWord) (c .before .before .before .before .before .before .before .before .before .word-at .ensures)) (c .before .before .before .before .before .before .before .if1 .left)) _ _ _ (c .before .before .before .before .before .before .number-in .ensures) (c .before .before .before .before .before .price-in .ensures) (c .before .before .before .before .price-in2 .ensures) (not-false _ (c .if2 .left))
+returns-3 c = cash-is _ _ _ _ _ (said-yes
+    (c .before .before .before .before .before .before .before .before .is-word .ensures ∙
+    ap (isWord cashWord) (c .before .before .before .before .before .before .before .before .before .word-at .ensures))
+    (c .before .before .before .before .before .before .before .if1 .left)) _ _ _ (c .before .before .before .before .before .before .number-in .ensures)
+    (c .before .before .before .before .before .price-in .ensures) (c .before .before .before .before .price-in2 .ensures) (not-false _ (c .if2 .left))
 
 pub cash-asked-spec : {M : Type 1} → statement M
-cash-asked-spec = tie.close (tie.spec slice-aggregate-is-word (λ c κs. tt) (λ c κs. tt) (λ c κs. tt) returns (λ c κs. tt) (λ c κs. tt) (λ c κs. tt) (λ c κs. tt) returns-2 returns-3)
+cash-asked-spec = tie.close (tie.spec slice-aggregate-is-word (λ c κs. tt) (λ c κs. tt) (λ c κs. tt) returns (λ c κs. tt) (λ c κs. tt) (λ c κs. tt)
+    (λ c κs. tt) returns-2 returns-3)

@@ -32,7 +32,8 @@ shared-slice-read-if2-2 : tie.Need-shared-slice-read-if2-2 Inv-loop μ-loop
 shared-slice-read-if2-2 c = omega arith
 
 returns-2 : tie.Need-returns-2 Inv-loop μ-loop
-returns-2 c = same-word _ _ (c .before .before .before .before .loop .inv .0) _ (every-not _ _ _ (ne-eqb _ _ (c .if2 .taken)) (c .before .before .before .loop-test .taken))
+returns-2 c = same-word _ _ (c .before .before .before .before .loop .inv .0) _
+    (every-not _ _ _ (ne-eqb _ _ (c .if2 .taken)) (c .before .before .before .loop-test .taken))
 
 add-i : tie.Need-add-i Inv-loop μ-loop
 add-i c = omega arith
@@ -41,10 +42,14 @@ loop-less : tie.Need-loop-less Inv-loop μ-loop
 loop-less c = omega arith
 
 loop-again : tie.Need-loop-again Inv-loop μ-loop
-loop-again c = (c .before .before .before .before .loop .inv .0, omega arith, every-more _ _ (c .before .before .before .before .loop .inv .2) (eq-eqb _ _ (c .if2 .left)))
+loop-again c =
+    let before-4 = c .before .before .before .before in
+    (before-4 .loop .inv .0, omega arith, every-more _ _ (before-4 .loop .inv .2) (eq-eqb _ _ (c .if2 .left)))
 
 returns-3 : tie.Need-returns-3 Inv-loop μ-loop
-returns-3 c = let e : c .before .loop .i ≡ length (c .before .before .before .args .name .now) = omega (arith, c .before .loop .inv .1) in same-word _ _ (c .before .loop .inv .0) true (rw e at (c .before .loop .inv .2))
+returns-3 c = let e : c .before .loop .i ≡ length (c .before .before .before .args .name .now) = omega (arith, c .before .loop .inv .1) in
+    same-word _ _ (c .before .loop .inv .0) true (rw e at (c .before .loop .inv .2))
 
 pub is-word-spec : {M : Type 1} → statement M
-is-word-spec = tie.close (tie.spec Inv-loop μ-loop returns loop-holds shared-slice-read-if2 shared-slice-read-if2-2 returns-2 add-i loop-less loop-again returns-3)
+is-word-spec = tie.close (tie.spec Inv-loop μ-loop returns loop-holds shared-slice-read-if2 shared-slice-read-if2-2 returns-2 add-i loop-less loop-again
+    returns-3)

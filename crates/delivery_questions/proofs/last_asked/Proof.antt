@@ -12,10 +12,12 @@ returns : tie.Need-returns
 returns c = c .day-question-held .ensures ∙ ap (dayQuestionHeld 108 _ true) (c .before .date-in .ensures) ∙ last-friday _ _ (c .before .before .if1 .taken)
 
 returns-2 : tie.Need-returns-2
-returns-2 c = c .bare-held .ensures ∙ last-none _ _ (c .before .before .before .before .if1 .left) (ap (λ (r : Command). r .letter) (sym (c .before .before .before .month-in .ensures)) ∙ c .before .if2 .taken)
+returns-2 c = c .bare-held .ensures ∙ last-none _ _ (c .before .before .before .before .if1 .left)
+    (ap (λ (r : Command). r .letter) (sym (c .before .before .before .month-in .ensures)) ∙ c .before .if2 .taken)
 
 returns-3 : tie.Need-returns-3
-returns-3 c = c .one-held .ensures ∙ last-month _ _ (c .before .before .before .before .before .if1 .left) _ (c .before .before .before .before .month-in .ensures) (c .before .before .if2 .left) _ (c .before .month-of .ensures)
+returns-3 c = c .one-held .ensures ∙ last-month _ _ (c .before .before .before .before .before .if1 .left) _
+    (c .before .before .before .before .month-in .ensures) (c .before .before .if2 .left) _ (c .before .month-of .ensures)
 
 pub last-asked-spec : {M : Type 1} → statement M
 last-asked-spec = tie.close (tie.spec (λ c κs. tt) (λ c κs. tt) returns (λ c κs. tt) (λ c κs. tt) returns-2 (λ c κs. tt) (λ c κs. tt) returns-3)

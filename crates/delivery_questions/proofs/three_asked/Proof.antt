@@ -15,16 +15,27 @@ slice-aggregate-is-word-2 : tie.Need-slice-aggregate-is-word-2
 slice-aggregate-is-word-2 c = refl
 
 returns-2 : tie.Need-returns-2
-returns-2 c = c .due-asked .ensures ∙ three-due _ _ _ (sym (c .before .before .before .before .before .is-word .ensures) ∙ c .before .before .before .before .if1 .left) (sym (c .before .before .is-word2 .ensures) ∙ c .before .if2 .taken)
+returns-2 c = c .due-asked .ensures ∙ three-due _ _ _
+    (sym (c .before .before .before .before .before .is-word .ensures) ∙ c .before .before .before .before .if1 .left)
+    (sym (c .before .before .is-word2 .ensures) ∙ c .before .if2 .taken)
 
 slice-aggregate-is-word-3 : tie.Need-slice-aggregate-is-word-3
 slice-aggregate-is-word-3 c = refl
 
 returns-3 : tie.Need-returns-3
-returns-3 c = c .tick-asked .ensures ∙ three-tick _ _ _ (sym (c .before .before .before .before .before .before .before .before .is-word .ensures) ∙ c .before .before .before .before .before .before .before .if1 .left) (sym (c .before .before .before .before .before .is-word2 .ensures) ∙ c .before .before .before .before .if2 .left) (sym (c .before .before .is-word3 .ensures) ∙ c .before .if3 .taken)
+returns-3 c = c .tick-asked .ensures ∙ three-tick _ _ _
+    (sym (c .before .before .before .before .before .before .before .before .is-word .ensures) ∙
+    c .before .before .before .before .before .before .before .if1 .left)
+    (sym (c .before .before .before .before .before .is-word2 .ensures) ∙ c .before .before .before .before .if2 .left)
+    (sym (c .before .before .is-word3 .ensures) ∙ c .before .if3 .taken)
 
 returns-4 : tie.Need-returns-4
-returns-4 c = c .bare-held .ensures ∙ three-none _ _ _ (sym (c .before .before .before .before .before .before .before .before .is-word .ensures) ∙ c .before .before .before .before .before .before .before .if1 .left) (sym (c .before .before .before .before .before .is-word2 .ensures) ∙ c .before .before .before .before .if2 .left) (sym (c .before .before .is-word3 .ensures) ∙ c .before .if3 .left)
+returns-4 c = c .bare-held .ensures ∙ three-none _ _ _
+    (sym (c .before .before .before .before .before .before .before .before .is-word .ensures) ∙
+    c .before .before .before .before .before .before .before .if1 .left)
+    (sym (c .before .before .before .before .before .is-word2 .ensures) ∙ c .before .before .before .before .if2 .left)
+    (sym (c .before .before .is-word3 .ensures) ∙ c .before .if3 .left)
 
 pub three-asked-spec : {M : Type 1} → statement M
-three-asked-spec = tie.close (tie.spec slice-aggregate-is-word (λ c κs. tt) (λ c κs. tt) returns slice-aggregate-is-word-2 (λ c κs. tt) (λ c κs. tt) returns-2 slice-aggregate-is-word-3 (λ c κs. tt) (λ c κs. tt) returns-3 (λ c κs. tt) returns-4)
+three-asked-spec = tie.close (tie.spec slice-aggregate-is-word (λ c κs. tt) (λ c κs. tt) returns slice-aggregate-is-word-2 (λ c κs. tt)
+    (λ c κs. tt) returns-2 slice-aggregate-is-word-3 (λ c κs. tt) (λ c κs. tt) returns-3 (λ c κs. tt) returns-4)

@@ -13,8 +13,12 @@ use Rattle.delivery_reading.proofs.read_rest.Tie as tie
 
 abbrev Inv-loop : tie.InvT-loop
 Inv-loop part₀ file ids₀ keys₀ days₀ fulls₀ numbers₀ backs₀ input₀ k₀ t14 part ids keys days fulls numbers backs input k =
-    SameLengths (record { ids = ids₀; keys = keys₀; days = days₀; fulls = fulls₀; numbers = numbers₀; backs = backs₀ }) (record { ids = ids; keys = keys; days = days; fulls = fulls; numbers = numbers; backs = backs }) × (length part ≡ length part₀)
-    × ((told : ℕ) → roomIn (record { ids = ids₀; keys = keys₀; days = days₀; fulls = fulls₀; numbers = numbers₀; backs = backs₀ }) ≡ 65536 → ReadTo file told (record { ids = ids₀; keys = keys₀; days = days₀; fulls = fulls₀; numbers = numbers₀; backs = backs₀ }) (input₀ .left) (input₀ .bytes) k₀ → ReadTo file told (record { ids = ids; keys = keys; days = days; fulls = fulls; numbers = numbers; backs = backs }) (input .left) (input .bytes) k)
+    SameLengths (record { ids = ids₀; keys = keys₀; days = days₀; fulls = fulls₀; numbers = numbers₀; backs = backs₀ })
+    (record { ids = ids; keys = keys; days = days; fulls = fulls; numbers = numbers; backs = backs }) × (length part ≡ length part₀)
+    × ((told : ℕ) → roomIn (record { ids = ids₀; keys = keys₀; days = days₀; fulls = fulls₀; numbers = numbers₀; backs = backs₀ }) ≡ 65536
+    → ReadTo file told (record { ids = ids₀; keys = keys₀; days = days₀; fulls = fulls₀; numbers = numbers₀; backs = backs₀ }) (input₀ .left)
+    (input₀ .bytes) k₀ → ReadTo file told (record { ids = ids; keys = keys; days = days; fulls = fulls; numbers = numbers; backs = backs }) (input .left)
+    (input .bytes) k)
 
 abbrev μ-loop : tie.MeasureT-loop
 μ-loop part₀ file ids₀ keys₀ days₀ fulls₀ numbers₀ backs₀ input₀ k₀ t14 part ids keys days fulls numbers backs input k = input .left
@@ -42,18 +46,48 @@ take-part-requires c κs = tt
 
 loop-less : tie.Need-loop-less Inv-loop μ-loop
 loop-less c =
-    c .before .before .before .before .before .before .before .before .before .before .before .before .before .before .before .before .before .before .before .before .before .before .before .read-on-or-tell .ensures .fewer (omega arith)
-    (omega (arith, c .before .before .before .before .before .before .before .before .before .before .before .before .before .before .before .before .before .before .before .before .before .before .before .before .before .before .before .before .before .before .before .before .before .before .before .before .before .before .before .pre, c .before .before .before .before .before .before .before .before .before .before .before .before .before .before .before .before .before .before .before .before .before .before .before .before .before .before .before .before .loop .inv .1, c .before .before .before .before .before .before .before .before .before .before .before .before .before .before .before .before .before .before .before .before .before .before .before .read-on-or-tell .kept .1 .1 .1 .0))
-    (goes (c .before .before .before .before .before .before .before .before .before .before .before .before .before .before .before .before .before .before .before .before .before .before .before .before .before .before .before .before .loop .input .left) (c .before .before .before .before .before .before .before .before .before .before .before .before .before .before .before .before .before .before .before .before .before .before .before .before .before .before .before .before .loop .k .kept .state .over) _ (c .before .before .before .before .before .before .before .before .before .before .before .before .before .before .before .before .before .before .before .before .before .before .before .before .before .before .before .goes-on .ensures) (c .before .before .before .before .before .before .before .before .before .before .before .before .before .before .before .before .before .before .before .before .before .before .before .before .before .before .if1 .taken))
+    let before-18 =
+    c .before .before .before .before .before .before .before .before .before .before .before .before .before .before .before .before .before .before in
+    let before-28 =
+    before-18
+    .before .before .before .before .before .before .before .before .before .before in
+    let before-23 =
+    before-18
+    .before .before .before .before .before in
+    before-23 .read-on-or-tell .ensures .fewer (omega arith)
+    (omega (
+      arith,
+      before-18
+          .before .before .before .before .before .before .before .before .before .before .before .before .before .before .before .before .before .before
+          .before
+          .before .before .pre,
+      before-28 .loop .inv .1,
+      before-23 .read-on-or-tell .kept .1 .1 .1 .0,
+    ))
+    (goes (before-28 .loop .input .left) (before-28 .loop .k .kept .state .over) _
+    (before-18
+    .before .before .before .before .before .before .before .before .before .goes-on .ensures)
+    (before-18
+    .before .before .before .before .before .before .before .before .if1 .taken))
 
 loop-again : tie.Need-loop-again Inv-loop μ-loop
 loop-again c =
-    let v = c .before .before .before .before .before .before .before .before .before .before .before .before .before .before .before .before .before .before .before .before .before .before .before .before .before .before .before .before .loop .inv in
+    let before-28 =
+    c .before .before .before .before .before .before .before .before .before .before .before .before .before .before .before .before .before .before
+    .before .before .before .before .before .before .before .before .before .before in
+    let before-23 =
+    c .before .before .before .before .before .before .before .before .before .before .before .before .before .before .before .before .before .before
+    .before .before .before .before .before in
+    let v = before-28 .loop .inv in
     let x = c .before .before .before .before .before .before .before .before .before .before .before .before .take-part .ensures in
-    let e = c .before .before .before .before .before .before .before .before .before .before .before .before .before .before .before .before .before .before .before .before .before .before .before .read-on-or-tell .ensures in
-    let some = goes (c .before .before .before .before .before .before .before .before .before .before .before .before .before .before .before .before .before .before .before .before .before .before .before .before .before .before .before .before .loop .input .left) (c .before .before .before .before .before .before .before .before .before .before .before .before .before .before .before .before .before .before .before .before .before .before .before .before .before .before .before .before .loop .k .kept .state .over) _ (c .before .before .before .before .before .before .before .before .before .before .before .before .before .before .before .before .before .before .before .before .before .before .before .before .before .before .before .goes-on .ensures) (c .before .before .before .before .before .before .before .before .before .before .before .before .before .before .before .before .before .before .before .before .before .before .before .before .before .before .if1 .taken) in (
+    let e = before-23 .read-on-or-tell .ensures in
+    let some = goes (before-28 .loop .input .left) (before-28 .loop .k .kept .state .over) _
+    (c .before .before .before .before .before .before .before .before .before .before .before .before .before .before .before .before .before .before
+    .before .before .before .before .before .before .before .before .before .goes-on .ensures)
+    (c .before .before .before .before .before .before .before .before .before .before .before .before .before .before .before .before .before .before
+    .before .before .before .before .before .before .before .before .if1 .taken) in (
       then-lists _ _ _ (v .0) (x .lengths),
-      c .before .before .before .before .before .before .before .before .before .before .before .before .before .before .before .before .before .before .before .before .before .before .before .read-on-or-tell .kept .1 .1 .1 .0 ∙ v .1,
+      before-23 .read-on-or-tell .kept .1 .1 .1 .0 ∙ v .1,
       λ told room y. read-on _ told _ (room-same _ _ (v .0) ∙ room) _ _ _ (v .2 told room y) some _ _ (e .within .0) _ _ x _ _ (e .count),
     )
 
@@ -79,7 +113,14 @@ same-length-7 : tie.Need-same-length-7 Inv-loop μ-loop
 same-length-7 c = c .before .before .loop .inv .0 .backs
 
 returns : tie.Need-returns Inv-loop μ-loop
-returns c = let v = c .before .before .loop .inv in (v .0, (v .2, λ o. stops (c .before .before .loop .input .left) (c .before .before .loop .k .kept .state .over) _ (c .before .goes-on .ensures) (c .if1 .left) o))
+returns c = let v = c .before .before .loop .inv in (
+  v .0,
+  (
+    v .2,
+    λ o. stops (c .before .before .loop .input .left) (c .before .before .loop .k .kept .state .over) _ (c .before .goes-on .ensures)
+        (c .if1 .left) o,
+  ),
+)
 
 pub read-rest-spec : {M : Type 1} → statement M
 read-rest-spec =

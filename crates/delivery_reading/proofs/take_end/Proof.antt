@@ -36,8 +36,16 @@ same-length-6 c = search needs
 returns-2 : tie.Need-returns-2
 returns-2 c =
     record {
-      ended = λ y. (c .before .before .before .before .before .before .before .before .before .before .before .before .before .take-told .ensures, c .empty-long-line .ensures);
-      begun = λ n. clash (not-false _ (c .before .before .before .before .before .before .before .before .before .before .before .before .before .before .before .before .before .before .before .before .if1 .left)) n;
+      ended = λ y. (
+        c .before .before .before .before .before .before .before .before .before .before .before .before .before .take-told .ensures,
+        c .empty-long-line .ensures,
+      );
+      begun =
+          λ n.
+          clash
+          (not-false _
+          (c .before .before .before .before .before .before .before .before .before .before .before .before .before .before .before .before .before .before
+          .before .before .if1 .left)) n;
     }
 
 pub take-end-spec : {M : Type 1} → statement M

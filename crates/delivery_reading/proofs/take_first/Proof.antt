@@ -42,8 +42,14 @@ same-length-6 c = search needs
 
 returns : tie.Need-returns
 returns c =
-    let k = c .before .before .before .before .before .before .before .before .before .before .before .before .before .before .before .before .before .before .before .before .before .nothing-kept .ensures in
-    first-told _ _ (c .before .before .before .before .before .before .before .before .before .before .before .before .before .before .before .before .before .before .before .before .before .nothing-kept .result) (k .0) (k .1) (k .2) _ _ (c .before .before .before .before .before .before .before .before .before .before .before .before .before .before .before .before .before .before .before .before .mark-length .ensures .0) _ _ _ (c .before .before .before .before .before .before .before .before .before .before .before .before .take-part .ensures)
+    let before-21 =
+    c .before .before .before .before .before .before .before .before .before .before .before .before .before .before .before .before .before .before
+    .before .before .before in
+    let k = before-21 .nothing-kept .ensures in
+    first-told _ _ (before-21 .nothing-kept .result) (k .0) (k .1) (k .2) _ _
+    (c .before .before .before .before .before .before .before .before .before .before .before .before .before .before .before .before .before .before
+    .before .before .mark-length .ensures .0) _ _ _
+    (c .before .before .before .before .before .before .before .before .before .before .before .before .take-part .ensures)
 
 pub take-first-spec : {M : Type 1} → statement M
 take-first-spec =

@@ -9,7 +9,8 @@ use Rattle.delivery_reading.proofs.take_part.Tie as tie
 
 abbrev Inv-loop : tie.InvT-loop
 Inv-loop part file ids₀ keys₀ days₀ fulls₀ numbers₀ backs₀ s₀ at₀ ids keys days fulls numbers backs s at =
-    PartTold file s₀ (record { ids = ids₀; keys = keys₀; days = days₀; fulls = fulls₀; numbers = numbers₀; backs = backs₀ }) part s (record { ids = ids; keys = keys; days = days; fulls = fulls; numbers = numbers; backs = backs }) (drop at part)
+    PartTold file s₀ (record { ids = ids₀; keys = keys₀; days = days₀; fulls = fulls₀; numbers = numbers₀; backs = backs₀ }) part s
+    (record { ids = ids; keys = keys; days = days; fulls = fulls; numbers = numbers; backs = backs }) (drop at part)
 
 abbrev μ-loop : tie.MeasureT-loop
 μ-loop part file ids₀ keys₀ days₀ fulls₀ numbers₀ backs₀ s₀ at₀ ids keys days fulls numbers backs s at = length part - at
@@ -24,10 +25,24 @@ take-end-requires : tie.Need-take-end-requires Inv-loop μ-loop
 take-end-requires c κs = tt
 
 loop-less : tie.Need-loop-less Inv-loop μ-loop
-loop-less c = omega (arith, c .before .before .before .before .before .before .before .before .before .before .before .before .before .before .before .before .before .before .before .line-from .ensures .on (c .before .before .before .before .before .before .before .before .before .before .before .before .before .before .before .before .before .before .before .before .loop-test .taken), c .before .before .before .before .before .before .before .before .before .before .before .before .before .before .before .before .before .before .before .before .loop-test .taken)
+loop-less c =
+    let before-20 =
+    c .before .before .before .before .before .before .before .before .before .before .before .before .before .before .before .before .before .before
+    .before .before in
+    omega (
+      arith,
+      c .before .before .before .before .before .before .before .before .before .before .before .before .before .before .before .before .before .before
+          .before .line-from .ensures .on (before-20 .loop-test .taken),
+      before-20 .loop-test .taken,
+    )
 
 loop-again : tie.Need-loop-again Inv-loop μ-loop
-loop-again c = part-more _ _ _ _ _ _ _ (c .before .before .before .before .before .before .before .before .before .before .before .before .before .before .before .before .before .before .before .before .before .loop .inv) _ (c .before .before .before .before .before .before .before .before .before .before .before .before .before .before .before .before .before .before .before .line-from .ensures) _ _ (c .before .before .before .before .before .before .before .before .before .before .before .before .take-end .ensures)
+loop-again c =
+    part-more _ _ _ _ _ _ _
+    (c .before .before .before .before .before .before .before .before .before .before .before .before .before .before .before .before .before .before .before
+    .before .before .loop .inv) _
+    (c .before .before .before .before .before .before .before .before .before .before .before .before .before .before .before .before .before .before
+    .before .line-from .ensures) _ _ (c .before .before .before .before .before .before .before .before .before .before .before .before .take-end .ensures)
 
 same-length : tie.Need-same-length Inv-loop μ-loop
 same-length c = c .before .loop .inv .lengths .ids

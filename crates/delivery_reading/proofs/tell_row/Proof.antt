@@ -10,10 +10,15 @@ array-share-prefix-bytes : tie.Need-array-share-prefix-bytes
 array-share-prefix-bytes c = row-fits (c .before .args .after .bad) (c .before .args .line) (c .before .pre) .0
 
 slice-aggregate-tell-next : tie.Need-slice-aggregate-tell-next
-slice-aggregate-tell-next c = sym (length-take-le _ _ (row-fits (c .before .before .args .after .bad) (c .before .before .args .line) (c .before .before .pre) .0))
+slice-aggregate-tell-next c =
+    let args = c .before .before .args in
+    sym (length-take-le _ _ (row-fits (args .after .bad) (args .line) (c .before .before .pre) .0))
 
 returns : tie.Need-returns
-returns c = let f = row-fits (c .before .before .before .args .after .bad) (c .before .before .before .args .line) (c .before .before .before .pre) in omega (arith, c .tell-next .ensures, f .1, length-take-le (c .before .before .before .args .line .length) (c .before .before .before .args .line .bytes) (f .0))
+returns c =
+    let args = c .before .before .before .args in
+    let f = row-fits (args .after .bad) (args .line) (c .before .before .before .pre) in
+    omega (arith, c .tell-next .ensures, f .1, length-take-le (args .line .length) (args .line .bytes) (f .0))
 
 pub tell-row-spec : {M : Type 1} → statement M
 tell-row-spec =

@@ -21,7 +21,8 @@ enum-told : tie.Need-enum-told
 enum-told c = search needs
 
 returns : tie.Need-returns
-returns c = form-here _ _ _ _ (rw (c .before .before .before .block .given .1) at (c .before .before .before .before .before .find .ensures)) _ (c .before .product-at .ensures) _ (c .is-weekly .ensures)
+returns c = form-here _ _ _ _ (rw (c .before .before .before .block .given .1) at (c .before .before .before .before .before .find .ensures)) _
+    (c .before .product-at .ensures) _ (c .is-weekly .ensures)
 
 returns-2 : tie.Need-returns-2
 returns-2 c = form-none _ _ (rw (c .enum-told .given .1) at (c .before .before .find .ensures))

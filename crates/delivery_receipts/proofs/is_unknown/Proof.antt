@@ -24,10 +24,12 @@ enum-told-2 : tie.Need-enum-told-2
 enum-told-2 c = search needs
 
 returns : tie.Need-returns
-returns c = sym (ap (λ (x : List ℕ). not (found (now (c .before .before .before .before .before .before .args .file)) x)) (sym (c .before .before .before .id-in .ensures)) ∙ ap not (find-there _ _ _ _ (rw (c .enum-told .given .1) at (c .before .before .find .ensures))))
+returns c = sym (ap (λ (x : List ℕ). not (found (now (c .before .before .before .before .before .before .args .file)) x))
+    (sym (c .before .before .before .id-in .ensures)) ∙ ap not (find-there _ _ _ _ (rw (c .enum-told .given .1) at (c .before .before .find .ensures))))
 
 returns-2 : tie.Need-returns-2
-returns-2 c = sym (ap (λ (x : List ℕ). not (found (now (c .before .before .before .before .before .before .args .file)) x)) (sym (c .before .before .before .id-in .ensures)) ∙ ap not (find-none _ _ (rw (c .enum-told2 .given .1) at (c .before .before .find .ensures))))
+returns-2 c = sym (ap (λ (x : List ℕ). not (found (now (c .before .before .before .before .before .before .args .file)) x))
+    (sym (c .before .before .before .id-in .ensures)) ∙ ap not (find-none _ _ (rw (c .enum-told2 .given .1) at (c .before .before .find .ensures))))
 
 pub is-unknown-spec : {M : Type 1} → statement M
 is-unknown-spec =

@@ -36,7 +36,11 @@ same-id-requires : tie.Need-same-id-requires Inv-loop μ-loop
 same-id-requires c κs = tt
 
 put-place-requires : tie.Need-put-place-requires Inv-loop μ-loop
-put-place-requires c κs = (place-room _ _ _ _ _ _ _ (c .before .before .before .before .loop .inv) (c .before .before .before .loop-test .taken), place-small _ _ _ _ _ _ _ (c .before .before .before .before .loop .inv) (c .before .before .before .loop-test .taken))
+put-place-requires c κs =
+    let before-4 = c .before .before .before .before in (
+      place-room _ _ _ _ _ _ _ (before-4 .loop .inv) (c .before .before .before .loop-test .taken),
+      place-small _ _ _ _ _ _ _ (before-4 .loop .inv) (c .before .before .before .loop-test .taken),
+    )
 
 add-i : tie.Need-add-i Inv-loop μ-loop
 add-i c = omega arith
@@ -45,7 +49,11 @@ loop-less : tie.Need-loop-less Inv-loop μ-loop
 loop-less c = omega arith
 
 loop-again : tie.Need-loop-again Inv-loop μ-loop
-loop-again c = gathers _ _ _ _ _ _ _ (c .before .before .before .before .before .before .before .loop .inv) (c .before .before .before .before .before .before .loop-test .taken) _ (c .before .before .before .before .same-id .ensures ∙ ap (λ (x : List ℕ). sameId x (c .before .before .before .before .before .before .before .before .before .before .before .before .args .id)) (c .before .before .before .before .before .id-in .ensures)) _ _ (c .before .before .put-place .ensures .0) (c .before .before .put-place .ensures .1)
+loop-again c = gathers _ _ _ _ _ _ _ (c .before .before .before .before .before .before .before .loop .inv)
+    (c .before .before .before .before .before .before .loop-test .taken) _
+    (c .before .before .before .before .same-id .ensures ∙
+    ap (λ (x : List ℕ). sameId x (c .before .before .before .before .before .before .before .before .before .before .before .before .args .id))
+    (c .before .before .before .before .before .id-in .ensures)) _ _ (c .before .before .put-place .ensures .0) (c .before .before .put-place .ensures .1)
 
 -- ---- the end
 same-length : tie.Need-same-length Inv-loop μ-loop

@@ -34,7 +34,9 @@ same-id-requires : tie.Need-same-id-requires Inv-loop μ-loop
 same-id-requires c κs = tt
 
 returns : tie.Need-returns Inv-loop μ-loop
-returns c = sym (every-not _ _ _ (ap not (sym (rw (c .before .before .id-in2 .ensures, c .before .before .before .before .before .id-in .ensures) at (c .before .same-id .ensures)) ∙ c .if1 .taken)) (c .before .before .before .loop-test .taken))
+returns c = sym (every-not _ _ _ (ap not
+    (sym (rw (c .before .before .id-in2 .ensures, c .before .before .before .before .before .id-in .ensures) at (c .before .same-id .ensures)) ∙ c .if1 .taken))
+    (c .before .before .before .loop-test .taken))
 
 add-j : tie.Need-add-j Inv-loop μ-loop
 add-j c = omega arith
@@ -43,7 +45,12 @@ loop-less : tie.Need-loop-less Inv-loop μ-loop
 loop-less c = omega arith
 
 loop-again : tie.Need-loop-again Inv-loop μ-loop
-loop-again c = (omega arith, every-more _ _ (c .before .before .before .before .loop .inv .1) (ap not (sym (rw (c .before .before .id-in2 .ensures, c .before .before .before .before .before .id-in .ensures) at (c .before .same-id .ensures)) ∙ c .if1 .left)))
+loop-again c = (
+  omega arith,
+  every-more _ _ (c .before .before .before .before .loop .inv .1)
+      (ap not (sym (rw (c .before .before .id-in2 .ensures, c .before .before .before .before .before .id-in .ensures) at (c .before .same-id .ensures)) ∙
+      c .if1 .left)),
+)
 
 -- ---- the end
 returns-2 : tie.Need-returns-2 Inv-loop μ-loop

@@ -23,8 +23,22 @@ receive-requires c κs = search needs
 -- ---- no row
 returns : tie.Need-returns
 returns c =
-    let b : Lists = (record { ids = now (c .before .before .before .before .before .before .before .before .before .before .before .before .before .args .ids); keys = now (c .before .before .before .before .before .before .before .before .before .before .before .before .before .args .keys); days = now (c .before .before .before .before .before .before .before .before .before .before .before .before .before .args .days); fulls = now (c .before .before .before .before .before .before .before .before .before .before .before .before .before .args .fulls); numbers = now (c .before .before .before .before .before .before .before .before .before .before .before .before .before .args .numbers); backs = now (c .before .before .before .before .before .before .before .before .before .before .before .before .before .args .backs) }) in
-    none-stored (now (c .before .before .before .before .before .before .before .before .before .before .before .before .before .args .file)) (c .before .before .before .before .before .before .before .before .before .before .before .before .before .args .s) (c .before .before .before .before .before .before .before .before .before .before .before .before .before .args .line) b (c .before .before .before .before .read-held .result) (c .before .before .before .before .read-held .ensures) (c .before .before .before .receive .result) (c .before .before .before .receive .ensures ∙ ap (λ (room : ℕ). receiving room (now (c .before .before .before .before .before .before .before .before .before .before .before .before .before .args .file)) (c .before .before .before .before .before .before .before .before .before .before .before .before .before .args .s) (c .before .before .before .before .read-held .result)) (room-is b _ (c .before .before .before .before .before .room-of .ensures .1))) (c .if1 .taken)
+    let args = c .before .before .before .before .before .before .before .before .before .before .before .before .before .args in
+    let before-4 = c .before .before .before .before in
+    let b : Lists = (record {
+      ids = now (args .ids);
+      keys = now (args .keys);
+      days = now (args .days);
+      fulls = now (args .fulls);
+      numbers =
+          now (args .numbers);
+      backs = now (args .backs);
+    }) in
+    none-stored (now (args .file)) (args .s) (args .line) b (before-4 .read-held .result) (before-4 .read-held .ensures)
+    (c .before .before .before .receive .result)
+    (c .before .before .before .receive .ensures ∙
+    ap (λ (room : ℕ). receiving room (now (args .file)) (args .s) (before-4 .read-held .result))
+    (room-is b _ (c .before .before .before .before .before .room-of .ensures .1))) (c .if1 .taken)
 
 -- ---- one row more
 cast-i : tie.Need-cast-i
@@ -32,8 +46,24 @@ cast-i c = search needs
 
 store-row-requires : tie.Need-store-row-requires
 store-row-requires c κs =
-    let b : Lists = (record { ids = now (c .before .before .before .before .before .before .before .before .before .before .before .before .before .before .before .before .before .before .before .before .before .args .ids); keys = now (c .before .before .before .before .before .before .before .before .before .before .before .before .before .before .before .before .before .before .before .before .before .args .keys); days = now (c .before .before .before .before .before .before .before .before .before .before .before .before .before .before .before .before .before .before .before .before .before .args .days); fulls = now (c .before .before .before .before .before .before .before .before .before .before .before .before .before .before .before .before .before .before .before .before .before .args .fulls); numbers = now (c .before .before .before .before .before .before .before .before .before .before .before .before .before .before .before .before .before .before .before .before .before .args .numbers); backs = now (c .before .before .before .before .before .before .before .before .before .before .before .before .before .before .before .before .before .before .before .before .before .args .backs) }) in
-    let h = has-room (now (c .before .before .before .before .before .before .before .before .before .before .before .before .before .before .before .before .before .before .before .before .before .args .file)) (c .before .before .before .before .before .before .before .before .before .before .before .before .before .before .before .before .before .before .before .before .before .args .s) (c .before .before .before .before .before .before .before .before .before .before .before .before .before .before .before .before .before .before .before .before .before .args .line) b (c .before .before .before .before .before .before .before .before .before .before .before .before .read-held .result) (c .before .before .before .before .before .before .before .before .before .before .before .before .read-held .ensures) (c .before .before .before .before .before .before .before .before .before .before .before .receive .result) (c .before .before .before .before .before .before .before .before .before .before .before .receive .ensures ∙ ap (λ (room : ℕ). receiving room (now (c .before .before .before .before .before .before .before .before .before .before .before .before .before .before .before .before .before .before .before .before .before .args .file)) (c .before .before .before .before .before .before .before .before .before .before .before .before .before .before .before .before .before .before .before .before .before .args .s) (c .before .before .before .before .before .before .before .before .before .before .before .before .read-held .result)) (room-is b _ (c .before .before .before .before .before .before .before .before .before .before .before .before .before .room-of .ensures .1))) (c .before .before .before .before .before .before .before .before .if1 .left) in
+    let args =
+    c .before .before .before .before .before .before .before .before .before .before .before .before .before .before .before .before .before .before
+    .before .before .before .args in
+    let before-12 = c .before .before .before .before .before .before .before .before .before .before .before .before in
+    let before-11 = c .before .before .before .before .before .before .before .before .before .before .before in
+    let b : Lists = (record {
+      ids = now (args .ids);
+      keys = now (args .keys);
+      days = now (args .days);
+      fulls = now (args .fulls);
+      numbers =
+          now (args .numbers);
+      backs = now (args .backs);
+    }) in
+    let h = has-room (now (args .file)) (args .s) (args .line) b (before-12 .read-held .result) (before-12 .read-held .ensures) (before-11 .receive .result)
+    (before-11 .receive .ensures ∙ ap (λ (room : ℕ). receiving room (now (args .file)) (args .s) (before-12 .read-held .result))
+    (room-is b _ (c .before .before .before .before .before .before .before .before .before .before .before .before .before .room-of .ensures .1)))
+    (c .before .before .before .before .before .before .before .before .if1 .left) in
     (h .ids, h .keys, h .days, h .fulls, h .numbers, h .backs)
 
 same-length : tie.Need-same-length
@@ -56,8 +86,33 @@ same-length-6 c = search needs
 
 returns-2 : tie.Need-returns-2
 returns-2 c =
-    let b : Lists = (record { ids = now (c .before .before .before .before .before .before .before .before .before .before .before .before .before .before .before .before .before .before .before .before .before .before .before .before .before .before .before .before .before .before .before .before .before .before .args .ids); keys = now (c .before .before .before .before .before .before .before .before .before .before .before .before .before .before .before .before .before .before .before .before .before .before .before .before .before .before .before .before .before .before .before .before .before .before .args .keys); days = now (c .before .before .before .before .before .before .before .before .before .before .before .before .before .before .before .before .before .before .before .before .before .before .before .before .before .before .before .before .before .before .before .before .before .before .args .days); fulls = now (c .before .before .before .before .before .before .before .before .before .before .before .before .before .before .before .before .before .before .before .before .before .before .before .before .before .before .before .before .before .before .before .before .before .before .args .fulls); numbers = now (c .before .before .before .before .before .before .before .before .before .before .before .before .before .before .before .before .before .before .before .before .before .before .before .before .before .before .before .before .before .before .before .before .before .before .args .numbers); backs = now (c .before .before .before .before .before .before .before .before .before .before .before .before .before .before .before .before .before .before .before .before .before .before .before .before .before .before .before .before .before .before .before .before .before .before .args .backs) }) in
-    one-stored (now (c .before .before .before .before .before .before .before .before .before .before .before .before .before .before .before .before .before .before .before .before .before .before .before .before .before .before .before .before .before .before .before .before .before .before .args .file)) (c .before .before .before .before .before .before .before .before .before .before .before .before .before .before .before .before .before .before .before .before .before .before .before .before .before .before .before .before .before .before .before .before .before .before .args .s) (c .before .before .before .before .before .before .before .before .before .before .before .before .before .before .before .before .before .before .before .before .before .before .before .before .before .before .before .before .before .before .before .before .before .before .args .line) b (c .before .before .before .before .before .before .before .before .before .before .before .before .before .before .before .before .before .before .before .before .before .before .before .before .before .read-held .result) (c .before .before .before .before .before .before .before .before .before .before .before .before .before .before .before .before .before .before .before .before .before .before .before .before .before .read-held .ensures) (c .before .before .before .before .before .before .before .before .before .before .before .before .before .before .before .before .before .before .before .before .before .before .before .before .receive .result) (c .before .before .before .before .before .before .before .before .before .before .before .before .before .before .before .before .before .before .before .before .before .before .before .before .receive .ensures ∙ ap (λ (room : ℕ). receiving room (now (c .before .before .before .before .before .before .before .before .before .before .before .before .before .before .before .before .before .before .before .before .before .before .before .before .before .before .before .before .before .before .before .before .before .before .args .file)) (c .before .before .before .before .before .before .before .before .before .before .before .before .before .before .before .before .before .before .before .before .before .before .before .before .before .before .before .before .before .before .before .before .before .before .args .s) (c .before .before .before .before .before .before .before .before .before .before .before .before .before .before .before .before .before .before .before .before .before .before .before .before .before .read-held .result)) (room-is b _ (c .before .before .before .before .before .before .before .before .before .before .before .before .before .before .before .before .before .before .before .before .before .before .before .before .before .before .room-of .ensures .1))) (c .before .before .before .before .before .before .before .before .before .before .before .before .before .before .before .before .before .before .before .before .before .if1 .left) _ (c .before .before .before .before .before .before .before .before .before .before .before .before .store-row .ensures) (held-four (c .before .before .before .before .before .before .before .before .before .before .before .before .before .before .before .before .before .before .before .before .before .before .before .before .before .before .before .before .before .before .before .before .before .before .args .line) _ (c .before .before .before .before .before .before .before .before .before .before .before .before .before .before .before .before .before .before .before .before .before .before .before .before .before .read-held .ensures))
+    let args =
+    c .before .before .before .before .before .before .before .before .before .before .before .before .before .before .before .before .before .before
+    .before .before .before .before .before .before .before .before .before .before .before .before .before .before .before .before .args in
+    let before-25 =
+    c .before .before .before .before .before .before .before .before .before .before .before .before .before .before .before .before .before .before
+    .before .before .before .before .before .before .before in
+    let before-24 =
+    c .before .before .before .before .before .before .before .before .before .before .before .before .before .before .before .before .before .before
+    .before .before .before .before .before .before in
+    let b : Lists = (record {
+      ids = now (args .ids);
+      keys = now (args .keys);
+      days = now (args .days);
+      fulls = now (args .fulls);
+      numbers =
+          now (args .numbers);
+      backs = now (args .backs);
+    }) in
+    one-stored (now (args .file)) (args .s) (args .line) b (before-25 .read-held .result) (before-25 .read-held .ensures) (before-24 .receive .result)
+    (before-24 .receive .ensures ∙ ap (λ (room : ℕ). receiving room (now (args .file)) (args .s) (before-25 .read-held .result))
+    (room-is b _
+    (c .before .before .before .before .before .before .before .before .before .before .before .before .before .before .before .before .before .before
+    .before .before .before .before .before .before .before .before .room-of .ensures .1)))
+    (c .before .before .before .before .before .before .before .before .before .before .before .before .before .before .before .before .before .before
+    .before .before .before .if1 .left) _
+    (c .before .before .before .before .before .before .before .before .before .before .before .before .store-row .ensures)
+    (held-four (args .line) _ (before-25 .read-held .ensures))
 
 pub take-line-spec : {M : Type 1} → statement M
 take-line-spec =

@@ -21,7 +21,8 @@ unknown-line-requires : tie.Need-unknown-line-requires
 unknown-line-requires c κs = search needs
 
 returns-2 : tie.Need-returns-2
-returns-2 c = row-some _ _ _ _ (said-yes (c .before .before .before .is-first-unknown .ensures) (c .before .before .if1 .left)) _ (c .before .id-in .ensures) (c .unknown-line .ensures)
+returns-2 c = row-some _ _ _ _ (said-yes (c .before .before .before .is-first-unknown .ensures) (c .before .before .if1 .left)) _ (c .before .id-in .ensures)
+    (c .unknown-line .ensures)
 
 pub id-row-line-spec : {M : Type 1} → statement M
 id-row-line-spec =

@@ -15,7 +15,8 @@ nothing-listed-requires : tie.Need-nothing-listed-requires
 nothing-listed-requires c κs = search needs
 
 returns : tie.Need-returns
-returns c = listed-idle _ _ _ _ _ _ _ _ _ (c .before .before .before .id-at .ensures) _ (c .before .before .kind-at .ensures) (c .before .if1 .taken) _ (c .nothing-listed .ensures)
+returns c = listed-idle _ _ _ _ _ _ _ _ _ (c .before .before .before .id-at .ensures) _ (c .before .before .kind-at .ensures) (c .before .if1 .taken) _
+    (c .nothing-listed .ensures)
 
 is-record-requires : tie.Need-is-record-requires
 is-record-requires c κs = search needs
@@ -25,7 +26,8 @@ nothing-listed-requires-2 c κs = search needs
 
 returns-2 : tie.Need-returns-2
 returns-2 c =
-    listed-empty _ _ _ _ _ _ _ _ _ (c .before .before .before .before .before .id-at .ensures) _ (c .before .before .before .before .kind-at .ensures) (c .before .before .before .if1 .left)
+    listed-empty _ _ _ _ _ _ _ _ _ (c .before .before .before .before .before .id-at .ensures) _ (c .before .before .before .before .kind-at .ensures)
+    (c .before .before .before .if1 .left)
     (said-no (c .before .before .is-record .ensures) (c .before .if2 .taken)) _ (c .nothing-listed2 .ensures)
 
 deliver-requires : tie.Need-deliver-requires
@@ -39,8 +41,12 @@ same-length c = search needs
 
 returns-3 : tie.Need-returns-3
 returns-3 c =
-    listed-refused _ _ _ _ _ _ _ _ _ (c .before .before .before .before .before .before .before .before .before .before .before .id-at .ensures) _ (c .before .before .before .before .before .before .before .before .before .before .kind-at .ensures) (c .before .before .before .before .before .before .before .before .before .if1 .left)
-    (said-yes (c .before .before .before .before .before .before .before .before .is-record .ensures) (c .before .before .before .before .before .before .before .if2 .left)) _ _ (c .before .before .before .before .before .deliver .ensures) (c .before .if3 .taken) _ (c .nothing-listed3 .ensures)
+    listed-refused _ _ _ _ _ _ _ _ _ (c .before .before .before .before .before .before .before .before .before .before .before .id-at .ensures) _
+    (c .before .before .before .before .before .before .before .before .before .before .kind-at .ensures)
+    (c .before .before .before .before .before .before .before .before .before .if1 .left)
+    (said-yes (c .before .before .before .before .before .before .before .before .is-record .ensures)
+    (c .before .before .before .before .before .before .before .if2 .left)) _ _ (c .before .before .before .before .before .deliver .ensures)
+    (c .before .if3 .taken) _ (c .nothing-listed3 .ensures)
 
 places-of-kind-requires : tie.Need-places-of-kind-requires
 places-of-kind-requires c κs = search needs
@@ -53,8 +59,14 @@ same-length-2 c = search needs
 
 returns-4 : tie.Need-returns-4
 returns-4 c =
-    listed-table _ _ _ _ _ _ _ _ _ (c .before .before .before .before .before .before .before .before .before .before .before .before .before .before .id-at .ensures) _ (c .before .before .before .before .before .before .before .before .before .before .before .before .before .kind-at .ensures) (c .before .before .before .before .before .before .before .before .before .before .before .before .if1 .left)
-    (said-yes (c .before .before .before .before .before .before .before .before .before .before .before .is-record .ensures) (c .before .before .before .before .before .before .before .before .before .before .if2 .left)) _ _ (c .before .before .before .before .before .before .before .before .deliver .ensures) (c .before .before .before .before .if3 .left) _ (c .places-of-kind .ensures .0)
+    listed-table _ _ _ _ _ _ _ _ _
+    (c .before .before .before .before .before .before .before .before .before .before .before .before .before .before .id-at .ensures) _
+    (c .before .before .before .before .before .before .before .before .before .before .before .before .before .kind-at .ensures)
+    (c .before .before .before .before .before .before .before .before .before .before .before .before .if1 .left)
+    (said-yes (c .before .before .before .before .before .before .before .before .before .before .before .is-record .ensures)
+    (c .before .before .before .before .before .before .before .before .before .before .if2 .left)) _ _
+    (c .before .before .before .before .before .before .before .before .deliver .ensures) (c .before .before .before .before .if3 .left) _
+    (c .places-of-kind .ensures .0)
 
 pub listed-at-spec : {M : Type 1} → statement M
 listed-at-spec =

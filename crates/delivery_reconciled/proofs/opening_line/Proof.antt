@@ -24,7 +24,8 @@ refusal-text-requires : tie.Need-refusal-text-requires
 refusal-text-requires c κs = search needs
 
 returns-2 : tie.Need-returns-2
-returns-2 c = opening-some _ _ _ _ _ _ (said-yes (c .before .before .before .before .is-record .ensures) (c .before .before .before .if1 .left)) _ (c .before .before .id-at .ensures) _ (c .before .open-in .ensures) (c .refusal-text .ensures)
+returns-2 c = opening-some _ _ _ _ _ _ (said-yes (c .before .before .before .before .is-record .ensures) (c .before .before .before .if1 .left)) _
+    (c .before .before .id-at .ensures) _ (c .before .open-in .ensures) (c .refusal-text .ensures)
 
 pub opening-line-spec : {M : Type 1} → statement M
 opening-line-spec =

@@ -22,31 +22,38 @@ id-row-line-requires : tie.Need-id-row-line-requires Inv-loop μ-loop
 id-row-line-requires c κs = tt
 
 append-requires : tie.Need-append-requires Inv-loop μ-loop
-append-requires c κs =
-    (line-fits _ (row-short _ _ _) _ (c .before .id-row-line .ensures), has-more _ _ _ _ (c .before .before .before .goes-on .ensures) (c .before .before .if1 .taken) .1)
+append-requires c κs = (
+  line-fits _ (row-short _ _ _) _ (c .before .id-row-line .ensures),
+  has-more _ _ _ _ (c .before .before .before .goes-on .ensures) (c .before .before .if1 .taken) .1,
+)
 
 line-count-requires : tie.Need-line-count-requires Inv-loop μ-loop
 line-count-requires c κs = tt
 
 add-lines : tie.Need-add-lines Inv-loop μ-loop
 add-lines c =
-    let h = has-more _ _ _ _ (c .before .before .before .before .before .before .before .goes-on .ensures) (c .before .before .before .before .before .before .if1 .taken) in
+    let h = has-more _ _ _ _ (c .before .before .before .before .before .before .before .goes-on .ensures)
+    (c .before .before .before .before .before .before .if1 .taken) in
     let v = c .before .before .before .before .before .before .before .before .before .loop .inv .few in
     omega (arith, h .0, v, c .line-count .ensures .1)
 
 add-next : tie.Need-add-next Inv-loop μ-loop
 add-next c =
-    let h = has-more _ _ _ _ (c .before .before .before .before .before .before .before .goes-on .ensures) (c .before .before .before .before .before .before .if1 .taken) in
+    let h = has-more _ _ _ _ (c .before .before .before .before .before .before .before .goes-on .ensures)
+    (c .before .before .before .before .before .before .if1 .taken) in
     omega (arith, h .0)
 
 loop-less : tie.Need-loop-less Inv-loop μ-loop
 loop-less c =
-    let h = has-more _ _ _ _ (c .before .before .before .before .before .before .before .goes-on .ensures) (c .before .before .before .before .before .before .if1 .taken) in
+    let h = has-more _ _ _ _ (c .before .before .before .before .before .before .before .goes-on .ensures)
+    (c .before .before .before .before .before .before .if1 .taken) in
     omega (arith, h .0)
 
 loop-again : tie.Need-loop-again Inv-loop μ-loop
 loop-again c =
-    goes _ _ _ _ _ _ _ _ _ (c .before .before .before .before .before .before .before .before .before .loop .inv) (c .before .before .before .before .before .before .before .goes-on .ensures) (c .before .before .before .before .before .before .if1 .taken) _ (c .before .before .before .before .before .id-row-line .ensures) _ _
+    goes _ _ _ _ _ _ _ _ _ (c .before .before .before .before .before .before .before .before .before .loop .inv)
+    (c .before .before .before .before .before .before .before .goes-on .ensures) (c .before .before .before .before .before .before .if1 .taken) _
+    (c .before .before .before .before .before .id-row-line .ensures) _ _
     (c .before .before .before .append .ensures .0) (c .before .before .before .append .ensures .1) _ (c .line-count .ensures .0)
 
 same-length : tie.Need-same-length Inv-loop μ-loop

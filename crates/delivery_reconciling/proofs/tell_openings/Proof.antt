@@ -14,7 +14,8 @@ use Rattle.delivery_reconciling.proofs.tell_openings.Tie as tie
 
 abbrev Inv-loop : tie.InvT-loop
 Inv-loop file judged t places so-far₀ p₀ so-far p =
-    (p ≤ placeCount file) × Grew (so-far₀ .bytes) (length (partsText (openingText (openIn (calendarAnswer judged) file) file (t .opened) (t .date)) p)) (so-far .bytes)
+    (p ≤ placeCount file) × Grew (so-far₀ .bytes) (length (partsText (openingText (openIn (calendarAnswer judged) file) file (t .opened) (t .date)) p))
+    (so-far .bytes)
 
 abbrev μ-loop : tie.MeasureT-loop
 μ-loop file judged t places so-far₀ p₀ so-far p = places - p
@@ -38,7 +39,10 @@ loop-less : tie.Need-loop-less Inv-loop μ-loop
 loop-less c = omega arith
 
 loop-again : tie.Need-loop-again Inv-loop μ-loop
-loop-again c = (omega (arith, c .before .before .loop-test .taken), openings-more _ _ _ _ _ (c .before .before .before .loop .inv .1) (c .tell-opening .ensures))
+loop-again c = (
+  omega (arith, c .before .before .loop-test .taken),
+  openings-more _ _ _ _ _ (c .before .before .before .loop .inv .1) (c .tell-opening .ensures),
+)
 
 returns : tie.Need-returns Inv-loop μ-loop
 returns c = openings-all _ _ _ _ _ (omega (arith, c .before .loop .inv .0, c .loop-test .left)) (c .before .loop .inv .1)

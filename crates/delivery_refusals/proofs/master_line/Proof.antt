@@ -11,7 +11,8 @@ slice-aggregate-with-bytes c = search needs
 returns : tie.Need-returns
 unfolding masterText
 returns c =
-    first (c .before .before .before .before .empty-line .ensures) (then (c .before .before .with-bytes .ensures) (then (c .before .with-decimal .ensures) (one _ _ _ (c .extend .ensures))))
+    first (c .before .before .before .before .empty-line .ensures)
+    (then (c .before .before .with-bytes .ensures) (then (c .before .with-decimal .ensures) (one _ _ _ (c .extend .ensures))))
 
 pub master-line-spec : {M : Type 1} → statement M
 master-line-spec =

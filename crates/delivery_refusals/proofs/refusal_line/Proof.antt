@@ -22,7 +22,8 @@ mul-call-number c = search needs
 
 returns-3 : tie.Need-returns-3
 returns-3 c =
-    line-notice _ _ _ _ _ _ _ (c .before .before .before .before .if1 .left) (c .before .before .before .if2 .left) _ _ (c .before .before .call-number .ensures) (c .before .byte-at .ensures) (c .refusal-text2 .ensures)
+    line-notice _ _ _ _ _ _ _ (c .before .before .before .before .if1 .left) (c .before .before .before .if2 .left) _ _
+    (c .before .before .call-number .ensures) (c .before .byte-at .ensures) (c .refusal-text2 .ensures)
 
 pub refusal-line-spec : {M : Type 1} → statement M
 refusal-line-spec =

@@ -11,7 +11,10 @@ slice-aggregate-with-bytes c = search needs
 returns : tie.Need-returns
 unfolding refusedNoticeText
 returns c =
-    then (c .before .before .before .before .before .before .notices-line .ensures) (then (c .before .before .before .before .with-bytes .ensures) (then (c .before .before .before .with-decimal .ensures) (then (one _ _ _ (c .before .before .extend .ensures)) (then (c .before .with-id .ensures) (one _ _ _ (c .extend2 .ensures))))))
+    then (c .before .before .before .before .before .before .notices-line .ensures)
+    (then (c .before .before .before .before .with-bytes .ensures)
+    (then (c .before .before .before .with-decimal .ensures)
+    (then (one _ _ _ (c .before .before .extend .ensures)) (then (c .before .with-id .ensures) (one _ _ _ (c .extend2 .ensures))))))
 
 pub refused-notice-line-spec : {M : Type 1} → statement M
 refused-notice-line-spec =

@@ -10,7 +10,9 @@ mul-call-number c = search needs
 
 returns : tie.Need-returns
 returns c =
-    unknown-told (c .before .before .before .before .before .before .before .args .file .now) (c .before .before .before .before .before .before .before .args .calls .now) (c .before .before .before .before .before .before .before .args .ids .now) (c .before .before .before .before .before .before .before .args .i) _ _ _ _ (c .before .before .before .unknown-refusal .ensures) (c .before .before .call-number .ensures) (c .before .id-in .ensures) (c .refusal-text .ensures)
+    let args = c .before .before .before .before .before .before .before .args in
+    unknown-told (args .file .now) (args .calls .now) (args .ids .now) (args .i) _ _ _ _ (c .before .before .before .unknown-refusal .ensures)
+    (c .before .before .call-number .ensures) (c .before .id-in .ensures) (c .refusal-text .ensures)
 
 pub unknown-measure-line-spec : {M : Type 1} → statement M
 unknown-measure-line-spec =

@@ -13,15 +13,20 @@ add-call-number c = search needs
 
 returns : tie.Need-returns
 returns c =
-    unknown-other (c .before .before .before .before .before .args .file .now) (c .before .before .before .before .before .args .calls .now) (c .before .before .before .before .before .args .ids .now) (c .before .before .before .before .before .args .i) _ (c .before .call-number .ensures) (c .if1 .taken)
+    let args = c .before .before .before .before .before .args in
+    unknown-other (args .file .now) (args .calls .now) (args .ids .now) (args .i) _ (c .before .call-number .ensures) (c .if1 .taken)
 
 returns-2 : tie.Need-returns-2
 returns-2 c =
-    unknown-there (c .before .before .before .before .before .before .before .before .args .file .now) (c .before .before .before .before .before .before .before .before .args .calls .now) (c .before .before .before .before .before .before .before .before .args .ids .now) (c .before .before .before .before .before .before .before .before .args .i) _ (c .before .before .before .before .call-number .ensures) (c .before .before .before .if1 .left) _ (c .before .before .id-in .ensures) _ (c .before .is-found .ensures) (c .if2 .taken)
+    let args = c .before .before .before .before .before .before .before .before .args in
+    unknown-there (args .file .now) (args .calls .now) (args .ids .now) (args .i) _ (c .before .before .before .before .call-number .ensures)
+    (c .before .before .before .if1 .left) _ (c .before .before .id-in .ensures) _ (c .before .is-found .ensures) (c .if2 .taken)
 
 returns-3 : tie.Need-returns-3
 returns-3 c =
-    unknown-not (c .before .before .before .before .before .before .before .before .args .file .now) (c .before .before .before .before .before .before .before .before .args .calls .now) (c .before .before .before .before .before .before .before .before .args .ids .now) (c .before .before .before .before .before .before .before .before .args .i) _ (c .before .before .before .before .call-number .ensures) (c .before .before .before .if1 .left) _ (c .before .before .id-in .ensures) _ (c .before .is-found .ensures) (c .if2 .left)
+    let args = c .before .before .before .before .before .before .before .before .args in
+    unknown-not (args .file .now) (args .calls .now) (args .ids .now) (args .i) _ (c .before .before .before .before .call-number .ensures)
+    (c .before .before .before .if1 .left) _ (c .before .before .id-in .ensures) _ (c .before .is-found .ensures) (c .if2 .left)
 
 pub unknown-refusal-spec : {M : Type 1} → statement M
 unknown-refusal-spec =

@@ -50,7 +50,9 @@ returns c =
     (then (c .before .before .before .before .before .before .before .with-name .ensures)
     (then (one _ _ _ (c .before .before .before .before .before .before .extend2 .ensures))
     (then (c .before .before .before .before .before .with-why .ensures)
-    (then (one _ _ _ (c .before .before .before .before .extend3 .ensures)) (then (c .before .before .before .with-delivered .ensures) (then (one _ _ _ (c .before .before .extend4 .ensures)) (then (c .before .with-right .ensures) (one _ _ _ (c .extend5 .ensures)))))))))))
+    (then (one _ _ _ (c .before .before .before .before .extend3 .ensures))
+    (then (c .before .before .before .with-delivered .ensures)
+    (then (one _ _ _ (c .before .before .extend4 .ensures)) (then (c .before .with-right .ensures) (one _ _ _ (c .extend5 .ensures)))))))))))
 
 pub difference-line-spec : {M : Type 1} → statement M
 difference-line-spec =

@@ -13,7 +13,9 @@ difference-line-requires : tie.Need-difference-line-requires
 difference-line-requires c κs = search needs
 
 returns : tie.Need-returns
-returns c = same (differenceText (c .before .before .before .before .before .before .before .before .args .kind) (c .before .before .before .before .before .before .before .before .args .id) (c .before .before .before .before .before .before .before .before .args .key)) (c .difference-line .ensures) (c .before .difference-at .ensures)
+returns c =
+    let args = c .before .before .before .before .before .before .before .before .args in
+    same (differenceText (args .kind) (args .id) (args .key)) (c .difference-line .ensures) (c .before .difference-at .ensures)
 
 pub key-line-spec : {M : Type 1} → statement M
 key-line-spec = tie.close (tie.spec difference-at-requires difference-line-requires returns)

@@ -11,7 +11,8 @@ use Rattle.delivery_reports.proofs.print_differences.Tie as tie
 
 -- ---- what the loop keeps
 abbrev Inv-loop : tie.InvT-loop
-Inv-loop kind id maturities n places keys days fulls numbers backs from out₀ next₀ length₀ lines₀ out next length lines = Printing kind id (take n maturities) (rowsAt keys days fulls numbers backs places) from out₀ next length lines out
+Inv-loop kind id maturities n places keys days fulls numbers backs from out₀ next₀ length₀ lines₀ out next length lines =
+    Printing kind id (take n maturities) (rowsAt keys days fulls numbers backs places) from out₀ next length lines out
 
 abbrev μ-loop : tie.MeasureT-loop
 μ-loop kind id maturities n places keys days fulls numbers backs from out₀ next₀ length₀ lines₀ out next length lines = 65536 - next
@@ -35,7 +36,12 @@ key-line-requires : tie.Need-key-line-requires Inv-loop μ-loop
 key-line-requires c κs = tt
 
 append-requires : tie.Need-append-requires Inv-loop μ-loop
-append-requires c κs = (line-fits _ _ _ _ (c .before .before .before .before .before .before .before .before .before .before .before .before .before .before .good .1 .0 .1 .0 .1) _ (c .before .key-line .ensures), has-more _ _ _ (c .before .before .before .goes-on .ensures) (c .before .before .if1 .taken) .1)
+append-requires c κs = (
+  line-fits _ _ _ _
+      (c .before .before .before .before .before .before .before .before .before .before .before .before .before .before .good .1 .0 .1 .0 .1) _
+      (c .before .key-line .ensures),
+  has-more _ _ _ (c .before .before .before .goes-on .ensures) (c .before .before .if1 .taken) .1,
+)
 
 add-lines : tie.Need-add-lines Inv-loop μ-loop
 add-lines c =
@@ -54,19 +60,27 @@ next-difference-requires-2 c κs = tt
 -- ---- the next round
 loop-less : tie.Need-loop-less Inv-loop μ-loop
 loop-less c =
-    let h = has-more _ _ _ (c .before .before .before .before .before .before .before .goes-on .ensures) (c .before .before .before .before .before .before .if1 .taken) in
+    let h = has-more _ _ _ (c .before .before .before .before .before .before .before .goes-on .ensures)
+    (c .before .before .before .before .before .before .if1 .taken) in
     let u = next-on _ _ _ _ (c .next-difference2 .ensures) (omega (arith, h .0)) in
     omega (arith, h .0, u)
 
 loop-again : tie.Need-loop-again Inv-loop μ-loop
-loop-again c = goes _ _ (c .before .before .before .before .before .before .before .before .before .before .before .before .before .before .before .before .before .before .good .1 .0 .1 .0 .1) _ _ _ _ _ _ _ _ (c .before .before .before .before .before .before .before .before .before .loop .inv) (c .before .before .before .before .before .before .before .goes-on .ensures) (c .before .before .before .before .before .before .if1 .taken) _ (c .before .before .before .before .before .key-line .ensures) _ _ (c .before .before .before .append .ensures .0) (c .before .before .before .append .ensures .1) _ (c .next-difference2 .ensures)
+loop-again c =
+    goes _ _
+    (c .before .before .before .before .before .before .before .before .before .before .before .before .before .before .before .before .before
+    .before .good .1 .0 .1 .0 .1) _ _ _ _ _ _ _ _ (c .before .before .before .before .before .before .before .before .before .loop .inv)
+    (c .before .before .before .before .before .before .before .goes-on .ensures) (c .before .before .before .before .before .before .if1 .taken) _
+    (c .before .before .before .before .before .key-line .ensures) _ _ (c .before .before .before .append .ensures .0)
+    (c .before .before .before .append .ensures .1) _ (c .next-difference2 .ensures)
 
 -- ---- the end
 same-length : tie.Need-same-length Inv-loop μ-loop
 same-length c = c .before .before .before .loop .inv .long
 
 returns : tie.Need-returns Inv-loop μ-loop
-returns c = ends _ _ (c .before .before .before .before .before .before .before .before .before .before .before .before .good .1 .0 .1 .0 .1) _ _ _ _ _ _ _ _ (c .before .before .before .loop .inv) (c .before .goes-on .ensures) (c .if1 .left)
+returns c = ends _ _ (c .before .before .before .before .before .before .before .before .before .before .before .before .good .1 .0 .1 .0 .1) _ _ _ _ _ _ _ _
+    (c .before .before .before .loop .inv) (c .before .goes-on .ensures) (c .if1 .left)
 
 pub print-differences-spec : {M : Type 1} → statement M
 print-differences-spec =

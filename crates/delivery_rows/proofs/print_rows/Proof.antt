@@ -33,7 +33,8 @@ returns-2 c =
     let at-if1 = at-places .before .before .before in
     let start = at-if1 .before .before .before .before in
     let l : length (start .args .t .maturities) ≡ 15 = simp length-map at (start .good .1 .1 .1 .0 .1 .1 .1 .1 .1 .0 .1 .0 .1) in
-    printed _ _ _ (start .args .t) _ _ _ (said-yes (at-if1 .before .has-room .ensures) (at-if1 .if1 .left)) (at-places .places-of-kind .ensures .0) (at-places .places-of-kind .ensures .1) l (at-put-rows .put-rows .ensures)
+    printed _ _ _ (start .args .t) _ _ _ (said-yes (at-if1 .before .has-room .ensures) (at-if1 .if1 .left)) (at-places .places-of-kind .ensures .0)
+    (at-places .places-of-kind .ensures .1) l (at-put-rows .put-rows .ensures)
 
 pub print-rows-spec : {M : Type 1} → statement M
 print-rows-spec =

@@ -11,7 +11,8 @@ use Rattle.delivery_rows.proofs.put_rows.Tie as tie
 
 -- ---- the loop's invariant and its measure
 abbrev Inv-loop : tie.InvT-loop
-Inv-loop out₀ at id kind n maturities next₀ i₀ out next i = (n ≤ 15) × (at + 1024 ≤ length out₀) × (length id ≡ 4) × (i ≤ n) × Putting id kind maturities at out₀ next i out
+Inv-loop out₀ at id kind n maturities next₀ i₀ out next i =
+    (n ≤ 15) × (at + 1024 ≤ length out₀) × (length id ≡ 4) × (i ≤ n) × Putting id kind maturities at out₀ next i out
 
 abbrev μ-loop : tie.MeasureT-loop
 μ-loop out₀ at id kind n maturities next₀ i₀ out next i = n - i
@@ -46,8 +47,14 @@ loop-again : tie.Need-loop-again Inv-loop μ-loop
 loop-again c =
     let at-append = c .before .before in
     let at-loop-test = at-append .before .before .before .before in
-    let v = at-loop-test .before .loop .inv in
-    (v .0, v .1, v .2, omega arith, goes _ _ _ _ _ _ _ _ (v .4) (omega (arith, v .0, at-loop-test .loop-test .taken)) (v .1) (v .2) _ (at-append .before .row-line .ensures) _ _ _ (at-append .append .ensures .0) (at-append .append .ensures .1) refl)
+    let v = at-loop-test .before .loop .inv in (
+      v .0,
+      v .1,
+      v .2,
+      omega arith,
+      goes _ _ _ _ _ _ _ _ (v .4) (omega (arith, v .0, at-loop-test .loop-test .taken)) (v .1) (v .2) _
+          (at-append .before .row-line .ensures) _ _ _ (at-append .append .ensures .0) (at-append .append .ensures .1) refl,
+    )
 
 -- ---- the end
 same-length : tie.Need-same-length Inv-loop μ-loop

@@ -24,7 +24,8 @@ returns c = λ k.
     let third = fourth .before in
     let second = third .before in
     let first = second .before in
-    rw (← first .call-number .ensures, ← second .call-number2 .ensures, ← third .call-number3 .ensures, ← fourth .call-number4 .ensures) (c .call-apart .ensures k)
+    rw (← first .call-number .ensures, ← second .call-number2 .ensures, ← third .call-number3 .ensures, ← fourth .call-number4 .ensures)
+    (c .call-apart .ensures k)
 
 pub call-at-spec : {M : Type 1} → statement M
 call-at-spec =

@@ -15,7 +15,8 @@ same-length c = c .before .before .take-notices .ensures .long
 
 returns-2 : tie.Need-returns-2
 returns-2 c =
-    all-made _ _ _ _ _ _ _ _ (c .before .before .before .before .before .before .open-in .ensures) _ _ (c .before .before .before .before .if1 .left) (c .before .before .take-notices .ensures)
+    all-made _ _ _ _ _ _ _ _ (c .before .before .before .before .before .before .open-in .ensures) _ _ (c .before .before .before .before .if1 .left)
+    (c .before .before .take-notices .ensures)
 
 pub deliver-spec : {M : Type 1} → statement M
 deliver-spec =

@@ -18,7 +18,8 @@ returns c = λ k.
     let args = at-number .before .before .before .before .args in
     made-not _ _ _ _ _
     (said-no
-    (concerns-is (args .calls .now) (args .ids .now) (args .id) (args .i) _ _ _ (at-number .call-number .ensures) (at-concerns .before .id-in .ensures) (at-concerns .concerns .ensures))
+    (concerns-is (args .calls .now) (args .ids .now) (args .id) (args .i) _ _ _ (at-number .call-number .ensures) (at-concerns .before .id-in .ensures)
+    (at-concerns .concerns .ensures))
     (c .if1 .taken))
 
 returns-2 : tie.Need-returns-2
@@ -30,7 +31,8 @@ returns-2 c = λ k.
     rw
     (← noticed-call _ _ _
     (said-yes
-    (concerns-is (args .calls .now) (args .ids .now) (args .id) (args .i) _ _ _ (at-number .call-number .ensures) (at-concerns .before .id-in .ensures) (at-concerns .concerns .ensures))
+    (concerns-is (args .calls .now) (args .ids .now) (args .id) (args .i) _ _ _ (at-number .call-number .ensures) (at-concerns .before .id-in .ensures)
+    (at-concerns .concerns .ensures))
     (at-if1 .if1 .left)))
     (c .call-at .ensures k)
 

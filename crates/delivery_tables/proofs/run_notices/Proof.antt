@@ -1,4 +1,5 @@
--- The loop keeps: the table of the rest and its maps is the one that the calls so far leave, the buffer holds their refusals, and question 10 has the answer that it had at the start.
+-- The loop keeps: the table of the rest and its maps is the one that the calls so far leave, the buffer holds their refusals, and question 10 has the
+-- answer that it had at the start.
 use mathlib.Core.Path.{_≡_, refl}
 use Prim.Native.Nat.{_-_, _≤_}
 use native.Mathlib.Omega.{arith}
@@ -13,7 +14,8 @@ use Rattle.delivery_tables.proofs.run_notices.Tie as tie
 
 abbrev Inv-loop : tie.InvT-loop
 Inv-loop file judged ten id closed₀ exchange₀ calls ids count refusals₀ rest₀ i₀ closed exchange refusals rest i =
-    (count ≤ length refusals₀) × (i ≤ count) × (ten ≡ sound (tableWith rest closed exchange)) × Taking id calls ids refusals₀ (tableWith rest₀ closed₀ exchange₀) refusals (tableWith rest closed exchange) i
+    (count ≤ length refusals₀) × (i ≤ count) × (ten ≡ sound (tableWith rest closed exchange))
+    × Taking id calls ids refusals₀ (tableWith rest₀ closed₀ exchange₀) refusals (tableWith rest closed exchange) i
 
 abbrev μ-loop : tie.MeasureT-loop
 μ-loop file judged ten id closed₀ exchange₀ calls ids count refusals₀ rest₀ i₀ closed exchange refusals rest i = count - i
@@ -47,7 +49,8 @@ loop-again c =
       v .0,
       omega arith,
       tenth-turns (args .id) _ (noticeAt (args .calls .now) (args .ids .now) i) _ _ _ _ (v .2) made,
-      turns (args .id) (args .calls .now) (args .ids .now) (args .refusals .now) _ _ _ _ i _ _ _ (v .3) (omega (arith, v .0, at-test .loop-test .taken)) made refl,
+      turns (args .id) (args .calls .now) (args .ids .now) (args .refusals .now) _ _ _ _ i _ _ _ (v .3)
+          (omega (arith, v .0, at-test .loop-test .taken)) made refl,
     )
 
 same-length : tie.Need-same-length Inv-loop μ-loop

@@ -8,8 +8,10 @@ use Rattle.expiry.proofs.end_key.Tie as tie
 
 returns : tie.Need-returns
 returns c =
-    let k = c .before .before .args .kind in
-    (c .key-of .ensures ∙ ap (keyOf k) (c .before .cover-end .ensures .0), omega (arith, c .key-of .ensures, key-most k (c .before .cover-end .result) (c .before .cover-end .ensures .1)))
+    let k = c .before .before .args .kind in (
+      c .key-of .ensures ∙ ap (keyOf k) (c .before .cover-end .ensures .0),
+      omega (arith, c .key-of .ensures, key-most k (c .before .cover-end .result) (c .before .cover-end .ensures .1)),
+    )
 
 pub end-key-spec : {M : Type 1} → statement M
 end-key-spec = tie.close (tie.spec (λ c κs. tt) (λ c κs. tt) returns)

@@ -26,13 +26,15 @@ is-trading-day-in-requires : tie.Need-is-trading-day-in-requires Inv-loop μ-loo
 is-trading-day-in-requires c κs = tt
 
 returns : tie.Need-returns Inv-loop μ-loop
-returns c = found _ _ _ _ (c .before .before .before .loop .inv) (c .before .before .loop-test .taken) (sym (c .before .is-trading-day-in .ensures) ∙ c .if1 .taken)
+returns c = found _ _ _ _ (c .before .before .before .loop .inv) (c .before .before .loop-test .taken)
+    (sym (c .before .is-trading-day-in .ensures) ∙ c .if1 .taken)
 
 loop-less : tie.Need-loop-less Inv-loop μ-loop
 loop-less c = omega (arith, c .before .before .loop-test .taken)
 
 loop-again : tie.Need-loop-again Inv-loop μ-loop
-loop-again c = again _ _ _ _ (c .before .before .before .loop .inv) (c .before .before .loop-test .taken) (sym (c .before .is-trading-day-in .ensures) ∙ c .if1 .left)
+loop-again c = again _ _ _ _ (c .before .before .before .loop .inv) (c .before .before .loop-test .taken)
+    (sym (c .before .is-trading-day-in .ensures) ∙ c .if1 .left)
 
 returns-2 : tie.Need-returns-2 Inv-loop μ-loop
 returns-2 c = none _ _ _ _ (c .before .loop .inv) (c .loop-test .left)

@@ -5,7 +5,12 @@ use Rattle.file_blocks.proofs.block_header_right.Tie as tie
 
 returns : tie.Need-returns
 unfolding headerRight
-returns c = simp (c .are-zero .ensures, c .before .number-at .ensures .0, c .before .before .byte-at .ensures, c .before .before .before .block-kind-right .ensures)
+returns c = simp (
+  c .are-zero .ensures,
+  c .before .number-at .ensures .0,
+  c .before .before .byte-at .ensures,
+  c .before .before .before .block-kind-right .ensures,
+)
 
 pub block-header-right-spec : {M : Type 1} → statement M
 block-header-right-spec =

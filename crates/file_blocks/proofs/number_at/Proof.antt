@@ -16,7 +16,10 @@ add-result c = search needs
 
 returns : tie.Need-returns
 unfolding numberAt
-returns c = (simp (c .wide2 .ensures .0, c .before .byte-at2 .ensures, c .before .before .wide .ensures .0, c .before .before .before .byte-at .ensures), omega arith)
+returns c = (
+  simp (c .wide2 .ensures .0, c .before .byte-at2 .ensures, c .before .before .wide .ensures .0, c .before .before .before .byte-at .ensures),
+  omega arith,
+)
 
 pub number-at-spec : {M : Type 1} → statement M
 number-at-spec =

@@ -56,8 +56,12 @@ loop-less c = omega arith
 
 loop-again : tie.Need-loop-again Inv-loop μ-loop
 loop-again c =
-    let l = c .before .before .before .before .before .before .loop in
-    (omega arith, omega arith, halves-more _ _ _ _ (l .inv .2) (rw (← c .before .before .before .weight .ensures .0, ← c .before .weight2 .ensures .0) (c .two-terms .ensures .0)))
+    let l = c .before .before .before .before .before .before .loop in (
+      omega arith,
+      omega arith,
+      halves-more _ _ _ _ (l .inv .2)
+          (rw (← c .before .before .before .weight .ensures .0, ← c .before .weight2 .ensures .0) (c .two-terms .ensures .0)),
+    )
 
 -- ---- after the loop: both halves
 returns : tie.Need-returns Inv-loop μ-loop

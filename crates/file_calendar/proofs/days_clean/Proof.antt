@@ -32,7 +32,8 @@ day-clean-requires c κs = tt
 
 -- ---- a day that is not clean: no
 returns : tie.Need-returns Inv-loop μ-loop
-returns c = sym (every-not (dayClean _) 368 _ (said-no (rw (c .before .before .before .before .number-at .ensures .0) at (c .before .day-clean .ensures)) (c .if1 .taken)) (omega arith))
+returns c = sym (every-not (dayClean _) 368 _
+    (said-no (rw (c .before .before .before .before .number-at .ensures .0) at (c .before .day-clean .ensures)) (c .if1 .taken)) (omega arith))
 
 -- ---- the turn that goes on
 add-n : tie.Need-add-n Inv-loop μ-loop
@@ -42,7 +43,11 @@ loop-less : tie.Need-loop-less Inv-loop μ-loop
 loop-less c = omega arith
 
 loop-again : tie.Need-loop-again Inv-loop μ-loop
-loop-again c = (omega arith, every-more (dayClean _) _ (c .before .before .before .loop .inv .1) (said-yes (rw (c .before .before .before .before .number-at .ensures .0) at (c .before .day-clean .ensures)) (c .if1 .left)))
+loop-again c = (
+  omega arith,
+  every-more (dayClean _) _ (c .before .before .before .loop .inv .1)
+      (said-yes (rw (c .before .before .before .before .number-at .ensures .0) at (c .before .day-clean .ensures)) (c .if1 .left)),
+)
 
 -- ---- after the last day: yes
 returns-2 : tie.Need-returns-2 Inv-loop μ-loop

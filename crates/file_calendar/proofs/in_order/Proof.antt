@@ -14,11 +14,23 @@ unfolding inOrder
 returns c =
     let at-block-at = c .before .before .before in
     let start = at-block-at .before .before in
-    simp (← start .pre .0, lt-ltb _ _ (c .before .if1 .taken), c .number-at .ensures .0, c .before .before .byte-at .ensures, at-block-at .block-at .ensures .0, start .pre .2)
+    simp (
+      ← start .pre .0,
+      lt-ltb _ _ (c .before .if1 .taken),
+      c .number-at .ensures .0,
+      c .before .before .byte-at .ensures,
+      at-block-at .block-at .ensures .0,
+      start .pre .2,
+    )
 
 returns-2 : tie.Need-returns-2
 unfolding inOrder
-returns-2 c = simp (← c .before .before .before .before .pre .0, le-ltb _ _ (c .if1 .left), c .before .byte-at .ensures, c .before .before .block-at .ensures .0)
+returns-2 c = simp (
+  ← c .before .before .before .before .pre .0,
+  le-ltb _ _ (c .if1 .left),
+  c .before .byte-at .ensures,
+  c .before .before .block-at .ensures .0,
+)
 
 pub in-order-spec : {M : Type 1} → statement M
 in-order-spec =

@@ -55,8 +55,9 @@ loop-again c = (omega arith, filled-more _ 736 _ _ _ (omega arith) (sym (block-b
 returns : tie.Need-returns Inv-loop μ-loop
 unfolding mapsFrom
 returns c =
-    let e : c .before .loop .i ≡ 46 * c .before .before .args .years = omega arith in
-    filled-all _ 736 _ _ (c .before .loop .inv .1) ∙ ap (λ (n : ℕ). listed 0 736 (upTo n (mapByte (c .before .before .args .at) (c .before .before .args .file .now)))) e
+    let args = c .before .before .args in
+    let e : c .before .loop .i ≡ 46 * args .years = omega arith in
+    filled-all _ 736 _ _ (c .before .loop .inv .1) ∙ ap (λ (n : ℕ). listed 0 736 (upTo n (mapByte (args .at) (args .file .now)))) e
 
 pub maps-from-spec : {M : Type 1} → statement M
 maps-from-spec =

@@ -27,7 +27,8 @@ returns-4 : tie.Need-returns-4
 unfolding orderRight
 returns-4 c =
     let d = c .before .before .before in
-    simp (← d .before .before .pre, le-leb _ _ (d .if1 .left), le-leb _ _ (c .before .before .if2 .left), lt-ltb _ _ (c .before .if3 .left)) (c .all-in-order .ensures)
+    simp (← d .before .before .pre, le-leb _ _ (d .if1 .left), le-leb _ _ (c .before .before .if2 .left), lt-ltb _ _ (c .before .if3 .left))
+    (c .all-in-order .ensures)
 
 pub order-right-spec : {M : Type 1} → statement M
 order-right-spec =

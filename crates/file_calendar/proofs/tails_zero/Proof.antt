@@ -28,7 +28,8 @@ are-zero-requires : tie.Need-are-zero-requires Inv-loop μ-loop
 are-zero-requires c κs = tt
 
 returns : tie.Need-returns Inv-loop μ-loop
-returns c = sym (every-not _ _ _ (said-no (c .before .are-zero .ensures ∙ ap (λ (b : List ℕ). zeros b 108 402) (c .before .before .block-at .ensures .0)) (c .if1 .taken)) (omega arith))
+returns c = sym (every-not _ _ _ (said-no (c .before .are-zero .ensures ∙ ap (λ (b : List ℕ). zeros b 108 402) (c .before .before .block-at .ensures .0))
+    (c .if1 .taken)) (omega arith))
 
 add-k : tie.Need-add-k Inv-loop μ-loop
 add-k c = omega arith
@@ -37,7 +38,11 @@ loop-less : tie.Need-loop-less Inv-loop μ-loop
 loop-less c = omega arith
 
 loop-again : tie.Need-loop-again Inv-loop μ-loop
-loop-again c = (omega arith, every-more _ _ (c .before .before .before .before .loop .inv .1) (said-yes (c .before .are-zero .ensures ∙ ap (λ (b : List ℕ). zeros b 108 402) (c .before .before .block-at .ensures .0)) (c .if1 .left)))
+loop-again c = (
+  omega arith,
+  every-more _ _ (c .before .before .before .before .loop .inv .1)
+      (said-yes (c .before .are-zero .ensures ∙ ap (λ (b : List ℕ). zeros b 108 402) (c .before .before .block-at .ensures .0)) (c .if1 .left)),
+)
 
 returns-2 : tie.Need-returns-2 Inv-loop μ-loop
 returns-2 c =

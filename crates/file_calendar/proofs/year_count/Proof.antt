@@ -48,7 +48,8 @@ loop-again c =
     let l = at-loop .loop in
     let f = now (start .args .file) in
     let test : ℕ → Bool = λ n. isCalendar (blockOf f n) in
-    let e : c .before .byte-at .result ≡ getD (blockOf f (l .k)) 0 0 = c .before .byte-at .ensures ∙ ap (λ (b : List ℕ). getD b 0 0) (c .before .before .block-at .ensures .0) in
+    let e : c .before .byte-at .result ≡ getD (blockOf f (l .k)) 0 0 =
+    c .before .byte-at .ensures ∙ ap (λ (b : List ℕ). getD b 0 0) (c .before .before .block-at .ensures .0) in
     ⊎-elim
     (λ w. (omega arith, omega (arith, count-yes test (l .k) refl (eq-eqb _ _ (sym e ∙ w .0 .taken))), omega arith))
     (λ w. (omega arith, omega (arith, count-no test (l .k) refl (ne-eqb _ _ (λ h. w .0 .left (e ∙ h)))), omega arith))

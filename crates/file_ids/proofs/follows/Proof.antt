@@ -20,7 +20,13 @@ returns-3 : tie.Need-returns-3
 returns-3 c =
     let e = c .before .before .before in
     let d = e .before in
-    simp (not-false (d .before .before .args .holds) (d .if1 .left), lt-leb _ _ (e .if2 .left), c .id-rises .ensures, c .before .id-at2 .ensures, c .before .before .id-at .ensures)
+    simp (
+      not-false (d .before .before .args .holds) (d .if1 .left),
+      lt-leb _ _ (e .if2 .left),
+      c .id-rises .ensures,
+      c .before .id-at2 .ensures,
+      c .before .before .id-at .ensures,
+    )
 
 pub follows-spec : {M : Type 1} → statement M
 follows-spec =

@@ -34,7 +34,8 @@ returns : tie.Need-returns Inv-loop μ-loop
 unfolding idsRise
 returns c =
     let at-is-record = c .before .before in
-    sym (walk-fails _ _ _ _ (at-is-record .before .before .loop .inv) (omega arith) (rw (at-is-record .is-record .ensures) at (said-no (c .before .follows .ensures) (c .if1 .taken))))
+    sym (walk-fails _ _ _ _ (at-is-record .before .before .loop .inv) (omega arith)
+    (rw (at-is-record .is-record .ensures) at (said-no (c .before .follows .ensures) (c .if1 .taken))))
 
 last-record-requires : tie.Need-last-record-requires Inv-loop μ-loop
 last-record-requires c κs = tt

@@ -12,10 +12,12 @@ add-weekday : tie.Need-add-weekday
 add-weekday c = omega (arith, c .before .before .before .pre, c .year-start .ensures .0 ∙ ap yearStart (c .before .field-at .ensures))
 
 returns : tie.Need-returns
-returns c = weekend _ _ _ _ (c .before .before .year-start .ensures .0 ∙ ap yearStart (c .before .before .before .field-at .ensures)) (c .before .weekday .ensures) (c .if1 .taken)
+returns c = weekend _ _ _ _ (c .before .before .year-start .ensures .0 ∙ ap yearStart (c .before .before .before .field-at .ensures))
+    (c .before .weekday .ensures) (c .if1 .taken)
 
 returns-2 : tie.Need-returns-2
-returns-2 c = weekday-trades _ _ _ _ (c .before .before .before .year-start .ensures .0 ∙ ap yearStart (c .before .before .before .before .field-at .ensures)) (c .before .before .weekday .ensures) _ (c .before .if1 .left) (c .map-bit .ensures)
+returns-2 c = weekday-trades _ _ _ _ (c .before .before .before .year-start .ensures .0 ∙ ap yearStart (c .before .before .before .before .field-at .ensures))
+    (c .before .before .weekday .ensures) _ (c .before .if1 .left) (c .map-bit .ensures)
 
 pub day-trades-spec : {M : Type 1} → statement M
 day-trades-spec =

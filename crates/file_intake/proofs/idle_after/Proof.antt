@@ -47,7 +47,11 @@ loop-less : tie.Need-loop-less Inv-loop μ-loop
 loop-less c = omega arith
 
 loop-again : tie.Need-loop-again Inv-loop μ-loop
-loop-again c = (omega arith, through-more _ _ _ _ _ _ (c .before .day-trades .ensures) (c .before .before .before .loop .inv .1) (c .idle-next .ensures .0), c .idle-next .ensures .1)
+loop-again c = (
+  omega arith,
+  through-more _ _ _ _ _ _ (c .before .day-trades .ensures) (c .before .before .before .loop .inv .1) (c .idle-next .ensures .0),
+  c .idle-next .ensures .1,
+)
 
 -- ---- after the last day
 returns-2 : tie.Need-returns-2 Inv-loop μ-loop
@@ -55,7 +59,8 @@ returns-2 c =
     let l = c .before .loop in
     let at-days = c .before .before in
     let at-if1 = at-days .before .before in
-    let e : l .n ≡ daysOf (now (at-if1 .before .before .before .args .b)) = omega (arith, rw (at-days .before .field-at .ensures) at (at-days .days-in .ensures .0)) in
+    let e : l .n ≡ daysOf (now (at-if1 .before .before .before .args .b)) =
+    omega (arith, rw (at-days .before .field-at .ensures) at (at-days .days-in .ensures .0)) in
     simp (eq-eqb _ _ (sym (at-if1 .before .byte-at .ensures) ∙ at-if1 .if1 .left)) (rw e at (l .inv .1))
 
 pub idle-after-spec : {M : Type 1} → statement M

@@ -14,13 +14,23 @@ returns-2 c = simp (said-yes (c .before .before .ids-rise .ensures) (c .before .
 returns-3 : tie.Need-returns-3
 returns-3 c =
     let d = c .before .before in
-    simp (said-yes (d .before .before .ids-rise .ensures) (d .before .if1 .left), ne-eqb _ _ (d .if2 .left), said-no (c .before .is-record .ensures) (c .if3 .taken))
+    simp (
+      said-yes (d .before .before .ids-rise .ensures) (d .before .if1 .left),
+      ne-eqb _ _ (d .if2 .left),
+      said-no (c .before .is-record .ensures) (c .if3 .taken),
+    )
 
 returns-4 : tie.Need-returns-4
 returns-4 c =
     let f = c .before .before in
     let d = f .before .before in
-    simp (said-yes (d .before .before .ids-rise .ensures) (d .before .if1 .left), ne-eqb _ _ (d .if2 .left), said-yes (f .before .is-record .ensures) (f .if3 .left), c .id-rises .ensures, c .before .id-at .ensures)
+    simp (
+      said-yes (d .before .before .ids-rise .ensures) (d .before .if1 .left),
+      ne-eqb _ _ (d .if2 .left),
+      said-yes (f .before .is-record .ensures) (f .if3 .left),
+      c .id-rises .ensures,
+      c .before .id-at .ensures,
+    )
 
 pub ids-go-on-spec : {M : Type 1} → statement M
 ids-go-on-spec =

@@ -31,7 +31,12 @@ returns-2 : tie.Need-returns-2
 unfolding inTurn
 returns-2 c =
     let d = c .before .before .before .before in
-    simp (c .before .before .first-year-of .ensures, c .before .before .before .field-at .ensures, eq-eqb _ _ (sym (d .before .byte-at .ensures) ∙ d .if1 .left), add-one)
+    simp (
+      c .before .before .first-year-of .ensures,
+      c .before .before .before .field-at .ensures,
+      eq-eqb _ _ (sym (d .before .byte-at .ensures) ∙ d .if1 .left),
+      add-one,
+    )
 
 pub in-turn-spec : {M : Type 1} → statement M
 in-turn-spec =

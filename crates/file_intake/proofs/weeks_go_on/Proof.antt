@@ -51,9 +51,11 @@ returns-2 c =
     let at-loop = c .before .before .before .before in
     let at-days = at-loop .before in
     let at-if1 = at-days .before .before in
-    let e : at-days .days-in .result ≡ daysOf (now (at-if1 .before .before .before .args .b)) = rw (at-days .before .field-at .ensures) at (at-days .days-in .ensures .0) in
+    let e : at-days .days-in .result ≡ daysOf (now (at-if1 .before .before .before .args .b)) =
+    rw (at-days .before .field-at .ensures) at (at-days .days-in .ensures .0) in
     let r = through-more _ _ _ _ _ _ (c .before .before .day-trades .ensures) (at-loop .loop .inv .1) (c .before .idle-next .ensures .0) in
-    simp (eq-eqb _ _ (sym (at-if1 .before .byte-at .ensures) ∙ at-if1 .if1 .left)) (sym (every-not _ _ _ (week-ends _ _ _ _ r (c .if2 .taken)) (omega (arith, e, c .before .before .before .loop-test .taken))))
+    simp (eq-eqb _ _ (sym (at-if1 .before .byte-at .ensures) ∙ at-if1 .if1 .left))
+    (sym (every-not _ _ _ (week-ends _ _ _ _ r (c .if2 .taken)) (omega (arith, e, c .before .before .before .loop-test .taken))))
 
 -- ---- the turn that goes on
 add-n : tie.Need-add-n Inv-loop μ-loop
@@ -75,7 +77,8 @@ returns-3 c =
     let l = c .before .loop in
     let at-days = c .before .before in
     let at-if1 = at-days .before .before in
-    let e : l .n ≡ daysOf (now (at-if1 .before .before .before .args .b)) = omega (arith, rw (at-days .before .field-at .ensures) at (at-days .days-in .ensures .0)) in
+    let e : l .n ≡ daysOf (now (at-if1 .before .before .before .args .b)) =
+    omega (arith, rw (at-days .before .field-at .ensures) at (at-days .days-in .ensures .0)) in
     simp (eq-eqb _ _ (sym (at-if1 .before .byte-at .ensures) ∙ at-if1 .if1 .left)) (sym (rw e at (l .inv .3)))
 
 pub weeks-go-on-spec : {M : Type 1} → statement M

@@ -13,7 +13,9 @@ block-refusal-requires c κs =
     (p .0, p .2, p .4)
 
 add-years : tie.Need-add-years
-add-years c = omega (arith, c .before .calendars-in .ensures .1, c .before .before .before .before .before .before .before .before .pre .0, c .before .before .before .before .before .before .before .before .pre .1)
+add-years c =
+    let before-8 = c .before .before .before .before .before .before .before .before in
+    omega (arith, c .before .calendars-in .ensures .1, before-8 .pre .0, before-8 .pre .1)
 
 idle-after-requires : tie.Need-idle-after-requires
 idle-after-requires c κs = c .before .before .before .before .before .before .before .before .pre .2
@@ -22,7 +24,9 @@ records-in-requires : tie.Need-records-in-requires
 records-in-requires c κs = c .before .before .before .before .before .before .before .before .before .pre .4
 
 add-records : tie.Need-add-records
-add-records c = omega (arith, c .before .records-in .ensures .1, c .before .before .before .before .before .before .before .before .before .before .before .pre .0, c .before .before .before .before .before .before .before .before .before .before .before .pre .3)
+add-records c =
+    let before-11 = c .before .before .before .before .before .before .before .before .before .before .before in
+    omega (arith, c .before .records-in .ensures .1, before-11 .pre .0, before-11 .pre .3)
 
 add-t10 : tie.Need-add-t10
 add-t10 c = search needs
@@ -36,7 +40,17 @@ returns c =
     let at-calendars = at-idle .before .before in
     let at-first = at-calendars .before in
     let at-lower = at-first .before .before in
-    rw (at-last-id .last-id-of .ensures, at-records .records-in .ensures .0, at-idle .idle-after .ensures, at-calendars .calendars-in .ensures .0, at-first .first-year-of .ensures, at-first .before .field-at .ensures, at-lower .lower-of .ensures, at-lower .before .block-refusal .ensures, add-one)
+    rw (
+      at-last-id .last-id-of .ensures,
+      at-records .records-in .ensures .0,
+      at-idle .idle-after .ensures,
+      at-calendars .calendars-in .ensures .0,
+      at-first .first-year-of .ensures,
+      at-first .before .field-at .ensures,
+      at-lower .lower-of .ensures,
+      at-lower .before .block-refusal .ensures,
+      add-one,
+    )
 
 pub with-block-spec : {M : Type 1} → statement M
 with-block-spec =

@@ -28,7 +28,12 @@ unfolding beginsBy
 returns-3 c =
     let at-if2 = c .before .before in
     let at-is-record = at-if2 .before in
-    simp (lt-ltb _ _ (at-is-record .before .if1 .left), said-yes (at-is-record .is-record .ensures) (at-if2 .if2 .left), c .id-rises .ensures, c .before .id-at .ensures)
+    simp (
+      lt-ltb _ _ (at-is-record .before .if1 .left),
+      said-yes (at-is-record .is-record .ensures) (at-if2 .if2 .left),
+      c .id-rises .ensures,
+      c .before .id-at .ensures,
+    )
 
 pub begins-by-spec : {M : Type 1} → statement M
 begins-by-spec =

@@ -1,5 +1,7 @@
--- `file_load::find_from` meets its contract: a walk of its MIR, by hand. A `Reader` is made by `at_block`, moved by `seek`, and `here` says what it is at. All that the proof knows of the three is that they meet their contracts.
--- What the slice owns is had twice, once for the exit and once for `at_block`. A local holds the struct at the lifetime `erased`: what the struct owns does not say the lifetime's name.
+-- `file_load::find_from` meets its contract: a walk of its MIR, by hand. A `Reader` is made by `at_block`, moved by `seek`, and `here` says what it
+-- is at. All that the proof knows of the three is that they meet their contracts.
+-- What the slice owns is had twice, once for the exit and once for `at_block`. A local holds the struct at the lifetime `erased`: what the struct
+-- owns does not say the lifetime's name.
 -- Assumes nothing.
 use mathlib.Core.Path.{_≡_, refl}
 use Prim.Native.Nat.{ℕ, _+_, _*_, _≤_, _<_}
@@ -90,7 +92,8 @@ module _ {M : Type 1} (𝓤 : URA M) (H : Heap 𝓤) (A : Atoms 𝓤) (mem : Mem
   abbrev Here : Contract 𝓤
   Here = tripleOf 𝓤 H A here.signature (here.spec 𝓤 H A mem run)
 
-module _ {M : Type 1} (𝓤 : URA M) (H : Heap 𝓤) (A : Atoms 𝓤) (W : Given 𝓤 H A) (mem : Memory → SProp 𝓤) (run : Routine → Fun 𝓤) (κ : Lft) (q : Share) (s : RefT (List ℕ)) (b : ℕ) (okb : Is usize b (uint-vals w64 b)) (id : List ℕ) (okid : Is Four id (array-vals (uint-vals w8) id)) where
+module _ {M : Type 1} (𝓤 : URA M) (H : Heap 𝓤) (A : Atoms 𝓤) (W : Given 𝓤 H A) (mem : Memory → SProp 𝓤) (run : Routine → Fun 𝓤) (κ : Lft) (q : Share)
+    (s : RefT (List ℕ)) (b : ℕ) (okb : Is usize b (uint-vals w64 b)) (id : List ℕ) (okid : Is Four id (array-vals (uint-vals w8) id)) where
   -- the machine value that s has
   abbrev v : Val
   v = sliceVal (s .ptr) (length (s .now))
@@ -134,7 +137,9 @@ module _ {M : Type 1} (𝓤 : URA M) (H : Heap 𝓤) (A : Atoms 𝓤) (W : Given
       qed W ((‵ (flft κ q) ⊛ ‵ ftrue) ∷ ‵ (owns (ShrSlice (named 0) κ u8 ∷ usize ∷ Four ∷ []) (s, (b, (id, tt))) at) ∷ []) ∵
       move ! (1 ∷ []) $ fsplit ! $ move ! (1 ∷ []) $ drop ! $ use1 W (‵ Own ⊛ ‵ Own) (shr-slice-copy 𝓤 H A W (named 0) κ u8 .twice s (v ∷ [])) $ split ! $
       nothing ! $ owned ! usize (Is usize) (uint-makes 𝓤 H A W w64) b _ okb $ fjoin ! $ move ! (1 ∷ 0 ∷ []) $ fjoin ! $
-      move ! (2 ∷ 0 ∷ []) $ use2 W (raw (Begin 𝓤 H A mem run .pre to-begin)) (qed W ((‵ (flft κ q) ⊛ ‵ ftrue) ∷ ‵ (owns (ShrSlice (named 0) κ u8 ∷ usize ∷ []) (s, (b, tt)) (v ∷ [], (uint-vals w64 b, tt))) ∷ []) ∵ join ! $ frame ! $ done !) $ frame ! $ done !
+      move ! (2 ∷ 0 ∷ []) $ use2 W (raw (Begin 𝓤 H A mem run .pre to-begin))
+      (qed W ((‵ (flft κ q) ⊛ ‵ ftrue) ∷ ‵ (owns (ShrSlice (named 0) κ u8 ∷ usize ∷ []) (s, (b, tt)) (v ∷ [], (uint-vals w64 b, tt))) ∷ []) ∵ join ! $
+      frame ! $ done !) $ frame ! $ done !
 
   begin-said : (r : Reader) → ent 𝓤 (ensured 𝓤 H A at-block.ended (at-block.clauses 𝓤 H A mem run) (κ, tt) (s, (b, tt)) tt r) (fact 𝓤 (Made r))
   begin-said r = exE 𝓤 _ (λ ws. snd∗ 𝓤 (sem 𝓤 H A (lasts at-block.ended (κ, tt) (s, (b, tt)) ws)) (fact 𝓤 (Made r)))
@@ -150,8 +155,11 @@ module _ {M : Type 1} (𝓤 : URA M) (H : Heap 𝓤) (A : Atoms 𝓤) (W : Given
   asks : (r : Reader) → Pre → Made r → (r .block ≤ blockCount (now (r .file))) × (r .«record» < 15)
   asks r pre e = (rw (e .0, e .1) pre, omega (arith, e .2))
 
-  goes-seek : (r : Reader) (u : Val) → Pre → Made r → ent 𝓤 (⋆ 𝓤 H A (‵ (B (κ, tt) .own r (u ∷ [])) ∷ (‵ (flft κ q) ⊛ ‵ ftrue) ∷ [])) (Seek 𝓤 H A mem run .pre (to-seek r u))
-  goes-seek r u pre e = qed W (‵ (B (κ, tt) .own r (u ∷ [])) ∷ (‵ (flft κ q) ⊛ ‵ ftrue) ∷ []) ∵ says ! (asks r pre e) $ nothing ! $ owned ! Four (Is Four) (array-makes 𝓤 H A W u8 (uint-makes 𝓤 H A W w8) 4) id _ okid $ fjoin ! $ move ! (1 ∷ 0 ∷ []) $ fjoin ! $ move ! (1 ∷ 0 ∷ []) $ frame ! $ done !
+  goes-seek : (r : Reader) (u : Val) → Pre → Made r
+      → ent 𝓤 (⋆ 𝓤 H A (‵ (B (κ, tt) .own r (u ∷ [])) ∷ (‵ (flft κ q) ⊛ ‵ ftrue) ∷ [])) (Seek 𝓤 H A mem run .pre (to-seek r u))
+  goes-seek r u pre e = qed W (‵ (B (κ, tt) .own r (u ∷ [])) ∷ (‵ (flft κ q) ⊛ ‵ ftrue) ∷ []) ∵ says ! (asks r pre e) $ nothing ! $
+      owned ! Four (Is Four) (array-makes 𝓤 H A W u8 (uint-makes 𝓤 H A W w8) 4) id _ okid $ fjoin ! $ move ! (1 ∷ 0 ∷ []) $ fjoin ! $ move ! (1 ∷ 0 ∷ []) $
+      frame ! $ done !
 
   seek-said : (r m : Reader) → ent 𝓤 (ensured 𝓤 H A seek.ended (seek.clauses 𝓤 H A mem run) (κ, tt) (r, (id, tt)) tt m) (fact 𝓤 (Moved r m))
   seek-said r m = exE 𝓤 _ (λ ws. snd∗ 𝓤 (sem 𝓤 H A (lasts seek.ended (κ, tt) (r, (id, tt)) ws)) (fact 𝓤 (Moved r m)))
@@ -161,7 +169,8 @@ module _ {M : Type 1} (𝓤 : URA M) (H : Heap 𝓤) (A : Atoms 𝓤) (W : Given
   to-here m u = (((κ, tt), (q, tt), tt, (m, tt), (u ∷ [], tt)), tt)
 
   goes-here : (m : Reader) (u : Val) → ent 𝓤 (⋆ 𝓤 H A (‵ (B (κ, tt) .own m (u ∷ [])) ∷ (‵ (flft κ q) ⊛ ‵ ftrue) ∷ [])) (Here 𝓤 H A mem run .pre (to-here m u))
-  goes-here m u = qed W (‵ (B (κ, tt) .own m (u ∷ [])) ∷ (‵ (flft κ q) ⊛ ‵ ftrue) ∷ []) ∵ nothing ! $ move ! (1 ∷ 0 ∷ []) $ fjoin ! $ move ! (1 ∷ 0 ∷ []) $ join ! $ frame ! $ done !
+  goes-here m u = qed W (‵ (B (κ, tt) .own m (u ∷ [])) ∷ (‵ (flft κ q) ⊛ ‵ ftrue) ∷ []) ∵ nothing ! $ move ! (1 ∷ 0 ∷ []) $ fjoin ! $ move ! (1 ∷ 0 ∷ []) $
+      join ! $ frame ! $ done !
 
   here-said : (m : Reader) (t : Found) → ent 𝓤 (ensured 𝓤 H A here.ended (here.clauses 𝓤 H A mem run) (κ, tt) (m, tt) tt t) (fact 𝓤 (Said m t))
   here-said m t = exE 𝓤 _ (λ ws. snd∗ 𝓤 (sem 𝓤 H A (lasts here.ended (κ, tt) (m, tt) ws)) (fact 𝓤 (Said m t)))
@@ -170,52 +179,79 @@ module _ {M : Type 1} (𝓤 : URA M) (H : Heap 𝓤) (A : Atoms 𝓤) (W : Given
   is-found : (r m : Reader) (t : Found) → Made r → Moved r m → Said m t → findAnswer t ≡ findFrom (now s) id (15 * b)
   is-found r m t e d h = rw (h, d .0, d .1, d .2, e .0, e .1, e .2, add-zero (15 * b)) (found-answer (now s) id (15 * b))
 
-  exits : (t : Found) (u : Val) → findAnswer t ≡ findFrom (now s) id (15 * b) → ent 𝓤 (⋆ 𝓤 H A (‵ (S.the-row .own t (u ∷ [])) ∷ (‵ (flft κ q) ⊛ ‵ ftrue) ∷ ‵ Own ∷ [])) (Post u)
+  exits : (t : Found) (u : Val) → findAnswer t ≡ findFrom (now s) id (15 * b)
+      → ent 𝓤 (⋆ 𝓤 H A (‵ (S.the-row .own t (u ∷ [])) ∷ (‵ (flft κ q) ⊛ ‵ ftrue) ∷ ‵ Own ∷ [])) (Post u)
   exits t u e =
       qed W (‵ (S.the-row .own t (u ∷ [])) ∷ (‵ (flft κ q) ⊛ ‵ ftrue) ∷ ‵ Own ∷ []) ∵
-      suffices ! _ (ends-at 𝓤 H A find-from.ended stayed (find-from.clauses 𝓤 H A mem run) W (((κ, tt), (q, tt), tt, (s, (b, (id, tt))), at), tt) u t (tt, (tt, (tt, tt))) (tt, (tt, (tt, tt)))) $ says ! e $
-      move ! (1 ∷ []) $ frame ! $ nothing ! $ owned ! Four (Is Four) (array-makes 𝓤 H A W u8 (uint-makes 𝓤 H A W w8) 4) id _ okid $ fjoin ! $ owned ! usize (Is usize) (uint-makes 𝓤 H A W w64) b _ okb $ fjoin ! $ move ! (2 ∷ 0 ∷ []) $ fjoin ! $ frame ! $ done !
+      suffices ! _ (ends-at 𝓤 H A find-from.ended stayed (find-from.clauses 𝓤 H A mem run) W (((κ, tt), (q, tt), tt, (s, (b, (id, tt))), at), tt) u t
+      (tt, (tt, (tt, tt))) (tt, (tt, (tt, tt)))) $ says ! e $
+      move ! (1 ∷ []) $ frame ! $ nothing ! $ owned ! Four (Is Four) (array-makes 𝓤 H A W u8 (uint-makes 𝓤 H A W w8) 4) id _ okid $ fjoin ! $
+      owned ! usize (Is usize) (uint-makes 𝓤 H A W w64) b _ okb $ fjoin ! $ move ! (2 ∷ 0 ∷ []) $ fjoin ! $ frame ! $ done !
 
-  module _ (C : Calls 𝓤 H) (Λ : Loops 𝓤 H) (fm : FmC 𝓤 H (W .laws) C) (known-begin : Triple 𝓤 (C #master·at-block) (Begin 𝓤 H A mem run)) (known-seek : Triple 𝓤 (C #master·seek) (Seek 𝓤 H A mem run)) (known-here : Triple 𝓤 (C #master·here) (Here 𝓤 H A mem run)) where
-    walk : Pre → Is (ShrSlice (named 0) κ u8) s (v ∷ []) → ent 𝓤 (onEntry 𝓤 H A find-from.signature (κ, tt) (q, tt) (s, (b, (id, tt))) at) (WpFn 𝓤 H C Λ code.function (v ∷ vint w64 b ∷ idv) Post)
+  module _ (C : Calls 𝓤 H) (Λ : Loops 𝓤 H) (fm : FmC 𝓤 H (W .laws) C) (known-begin : Triple 𝓤 (C #master·at-block) (Begin 𝓤 H A mem run))
+      (known-seek : Triple 𝓤 (C #master·seek) (Seek 𝓤 H A mem run)) (known-here : Triple 𝓤 (C #master·here) (Here 𝓤 H A mem run)) where
+    walk : Pre → Is (ShrSlice (named 0) κ u8) s (v ∷ [])
+        → ent 𝓤 (onEntry 𝓤 H A find-from.signature (κ, tt) (q, tt) (s, (b, (id, tt))) at) (WpFn 𝓤 H C Λ code.function (v ∷ vint w64 b ∷ idv) Post)
     walk pre p =
         qed W (raw (onEntry 𝓤 H A find-from.signature (κ, tt) (q, tt) (s, (b, (id, tt))) at) ∷ []) ∵ enter ! C Λ code.function (v ∷ vint w64 b ∷ idv) _ $
         -- locals 0 (result), 1 (file), 2 (block), 3 (id), 4 (the reader moved), 5 (the reader made) stand at 10, 8, 6, 4, 2, 0
-        alloc1 ! (λ l₀. alloc1 ! (λ l₁. alloc1 ! (λ l₂. alloc1 ! (λ l₃. alloc1 ! (λ l₄. alloc1 ! (λ l₅. alloc0 ! $ params1 ! $ pass1 ! (init ! 8 refl (shr-slice-lawful 𝓤 H A W (named 0) κ u8 .typed s (v ∷ []) p .0)) $ pass1 ! (init ! 6 refl (uint-lawful 𝓤 H A W w64 .typed b _ okb .0)) $ pass1 ! (init ! 4 refl (array-typed u8 (uint-lawful 𝓤 H A W w8 .typed) 4 id _ okid .0)) $ pass0 ! $
+        alloc1 ! (λ l₀. alloc1 ! (λ l₁. alloc1 !
+        (λ l₂. alloc1 ! (λ l₃. alloc1 ! (λ l₄.
+        alloc1 ! (λ l₅. alloc0 ! $ params1 ! $ pass1 ! (init ! 8 refl (shr-slice-lawful 𝓤 H A W (named 0) κ u8 .typed s (v ∷ []) p .0)) $
+        pass1 ! (init ! 6 refl (uint-lawful 𝓤 H A W w64 .typed b _ okb .0)) $
+        pass1 ! (init ! 4 refl (array-typed u8 (uint-lawful 𝓤 H A W w8 .typed) 4 id _ okid .0)) $ pass0 ! $
         move ! (12 ∷ []) $ use1 W (raw (Begin 𝓤 H A mem run .pre to-begin) ⊛ ‵ Own) goes-begin $ split ! $
-        calls-at ! fm (Begin 𝓤 H A mem run) known-begin to-begin (and-then ! (load ! (from ! (stop !)) (look ! 10 refl)) (and-then ! (load ! (from ! (stop !)) (look ! 8 refl)) (no-more !))) (λ u.
-        use1 W (later (some (λ (r : Reader). ((‵ (flft κ q) ⊛ ‵ ftrue) ⊛ ‵ (B (κ, tt) .own r (u ∷ []))) ⊛ raw (ensured 𝓤 H A at-block.ended (at-block.clauses 𝓤 H A mem run) (κ, tt) (s, (b, tt)) tt r)))) (id⊢ 𝓤 _) $ await ! tt $ pick ! (λ r.
+        calls-at ! fm (Begin 𝓤 H A mem run) known-begin to-begin
+        (and-then ! (load ! (from ! (stop !)) (look ! 10 refl)) (and-then ! (load ! (from ! (stop !)) (look ! 8 refl)) (no-more !))) (λ u.
+        use1 W (later (some (λ (r : Reader). ((‵ (flft κ q) ⊛ ‵ ftrue) ⊛ ‵ (B (κ, tt) .own r (u ∷ [])))
+        ⊛ raw (ensured 𝓤 H A at-block.ended (at-block.clauses 𝓤 H A mem run) (κ, tt) (s, (b, tt)) tt r)))) (id⊢ 𝓤 _) $ await ! tt $ pick ! (λ r.
         split ! $ move ! (1 ∷ []) $ use1 W (raw (fact 𝓤 (Made r))) (begin-said r) $ heard ! (Made r) (λ e. split ! $ move ! (1 ∷ []) $
         -- [what the struct owns; the token; what s owns; room for _5; …; room for _4; …; _3; …; _2; …; _1; …; room for _0; …]
         peeks ! (B (κ, tt)) (Is (B (κ, tt))) (shows 𝓤 H A (B (κ, tt))) r (u ∷ []) (λ is.
         land ! (from ! (stop !)) (init ! 3 refl (LL.lawful (T.the-type αᵉ) (T′.the-laws αᵉ) 𝓤 H A W .typed r _ is .0)) $
         use2 W (raw (Seek 𝓤 H A mem run .pre (to-seek r u))) (goes-seek r u pre e) $
-        calls-at ! fm (Seek 𝓤 H A mem run) known-seek (to-seek r u) (and-then ! (load ! (from ! (stop !)) (look ! 2 refl)) (and-then ! (load ! (from ! (stop !)) (look ! 6 refl)) (no-more !))) (λ u′.
-        use1 W (later (some (λ (m : Reader). ((‵ (flft κ q) ⊛ ‵ ftrue) ⊛ ‵ (B (κ, tt) .own m (u′ ∷ []))) ⊛ raw (ensured 𝓤 H A seek.ended (seek.clauses 𝓤 H A mem run) (κ, tt) (r, (id, tt)) tt m)))) (id⊢ 𝓤 _) $ await ! tt $ pick ! (λ m.
+        calls-at ! fm (Seek 𝓤 H A mem run) known-seek (to-seek r u)
+        (and-then ! (load ! (from ! (stop !)) (look ! 2 refl)) (and-then ! (load ! (from ! (stop !)) (look ! 6 refl)) (no-more !))) (λ u′.
+        use1 W (later (some (λ (m : Reader). ((‵ (flft κ q) ⊛ ‵ ftrue) ⊛ ‵ (B (κ, tt) .own m (u′ ∷ [])))
+        ⊛ raw (ensured 𝓤 H A seek.ended (seek.clauses 𝓤 H A mem run) (κ, tt) (r, (id, tt)) tt m)))) (id⊢ 𝓤 _) $ await ! tt $ pick ! (λ m.
         split ! $ move ! (1 ∷ []) $ use1 W (raw (fact 𝓤 (Moved r m))) (seek-said r m) $ heard ! (Moved r m) (λ e′. split ! $ move ! (1 ∷ []) $
         -- [what the struct owns; the token; what s owns; _5; …; room for _4; …; _3; …; _2; …; _1; …; room for _0; …]
         peeks ! (B (κ, tt)) (Is (B (κ, tt))) (shows 𝓤 H A (B (κ, tt))) m (u′ ∷ []) (λ is′.
         land ! (from ! (stop !)) (init ! 5 refl (LL.lawful (T.the-type αᵉ) (T′.the-laws αᵉ) 𝓤 H A W .typed m _ is′ .0)) $
         use2 W (raw (Here 𝓤 H A mem run .pre (to-here m u′))) (goes-here m u′) $
         calls-at ! fm (Here 𝓤 H A mem run) known-here (to-here m u′) (and-then ! (load ! (from ! (stop !)) (look ! 4 refl)) (no-more !)) (λ u″.
-        use1 W (later (some (λ (t : Found). ((‵ (flft κ q) ⊛ ‵ ftrue) ⊛ ‵ (S.the-row .own t (u″ ∷ []))) ⊛ raw (ensured 𝓤 H A here.ended (here.clauses 𝓤 H A mem run) (κ, tt) (m, tt) tt t)))) (id⊢ 𝓤 _) $ await ! tt $ pick ! (λ t.
+        use1 W (later (some (λ (t : Found). ((‵ (flft κ q) ⊛ ‵ ftrue) ⊛ ‵ (S.the-row .own t (u″ ∷ [])))
+        ⊛ raw (ensured 𝓤 H A here.ended (here.clauses 𝓤 H A mem run) (κ, tt) (m, tt) tt t)))) (id⊢ 𝓤 _) $ await ! tt $ pick ! (λ t.
         split ! $ move ! (1 ∷ []) $ use1 W (raw (fact 𝓤 (Said m t))) (here-said m t) $ heard ! (Said m t) (λ e″. split ! $ move ! (1 ∷ []) $
         -- [the result; the token; what s owns; _5; …; _4; …; _3; …; _2; …; _1; …; room for _0; …]
         peeks ! S.the-row (Is S.the-row) (shows 𝓤 H A S.the-row) t (u″ ∷ []) (λ is″.
         land ! (from ! (stop !)) (init ! 13 refl (EL.lawful S.the-type S′.the-laws 𝓤 H A W tt .typed t _ is″ .0)) $
-        returns ! (look ! 13 refl) $ forget ! 3 refl $ forget ! 5 refl $ forget ! 7 refl $ forget ! 9 refl $ forget ! 11 refl $ forget ! 13 refl $ move ! (13 ∷ 14 ∷ []) $ free1 ! $ move ! (11 ∷ 12 ∷ []) $ free1 ! $ move ! (9 ∷ 10 ∷ []) $ free1 ! $ move ! (7 ∷ 8 ∷ []) $ free1 ! $ move ! (5 ∷ 6 ∷ []) $ free1 ! $ move ! (3 ∷ 4 ∷ []) $ free1 ! $ free0 ! $
+        returns ! (look ! 13 refl) $ forget ! 3 refl $ forget ! 5 refl $ forget ! 7 refl $ forget ! 9 refl $ forget ! 11 refl $ forget ! 13 refl $
+        move ! (13 ∷ 14 ∷ []) $ free1 ! $ move ! (11 ∷ 12 ∷ []) $ free1 ! $ move ! (9 ∷ 10 ∷ []) $ free1 ! $ move ! (7 ∷ 8 ∷ []) $ free1 ! $
+        move ! (5 ∷ 6 ∷ []) $ free1 ! $ move ! (3 ∷ 4 ∷ []) $ free1 ! $ free0 ! $
         by ! (exits t u″ (is-found r m t e e′ e″))))))))))))))))))))
 
 module _ {M : Type 1} (𝓤 : URA M) (H : Heap 𝓤) (A : Atoms 𝓤) (W : Given 𝓤 H A) (mem : Memory → SProp 𝓤) (run : Routine → Fun 𝓤) where
-  find-from-walks : (C : Calls 𝓤 H) (Λ : Loops 𝓤 H) → FmC 𝓤 H (W .laws) C → Triple 𝓤 (C #master·at-block) (Begin 𝓤 H A mem run) → Triple 𝓤 (C #master·seek) (Seek 𝓤 H A mem run) → Triple 𝓤 (C #master·here) (Here 𝓤 H A mem run)
+  find-from-walks : (C : Calls 𝓤 H) (Λ : Loops 𝓤 H) → FmC 𝓤 H (W .laws) C → Triple 𝓤 (C #master·at-block) (Begin 𝓤 H A mem run)
+      → Triple 𝓤 (C #master·seek) (Seek 𝓤 H A mem run) → Triple 𝓤 (C #master·here) (Here 𝓤 H A mem run)
       → Walks 𝓤 H A find-from.ended stayed (WpFn 𝓤 H C Λ code.function) (find-from.clauses 𝓤 H A mem run)
-  find-from-walks C Λ fm known-begin known-seek known-here = walked 𝓤 H A find-from.ended stayed (find-from.clauses 𝓤 H A mem run) (WpFn 𝓤 H C Λ code.function) (λ κs. (slice-vals, (uint-vals w64, (array-vals (uint-vals w8), tt)))) (λ κs. (shr-slice-tells (named 0) (κs .0) u8, (uint-tells w64, (array-tells u8 (uint-vals w8) (uint-tells w8) 4, tt))))
-      (λ κs qs bounds a g are. needs 𝓤 _ _ (λ pre. walk 𝓤 H A W mem run (κs .0) (qs .0) (a .0) (a .1 .0) (are .1 .0) (a .1 .1 .0) (are .1 .1 .0) C Λ fm known-begin known-seek known-here pre (are .0)))
+  find-from-walks C Λ fm known-begin known-seek known-here =
+      walked 𝓤 H A find-from.ended stayed (find-from.clauses 𝓤 H A mem run) (WpFn 𝓤 H C Λ code.function)
+      (λ κs. (slice-vals, (uint-vals w64, (array-vals (uint-vals w8), tt))))
+      (λ κs. (shr-slice-tells (named 0) (κs .0) u8, (uint-tells w64, (array-tells u8 (uint-vals w8) (uint-tells w8) 4, tt))))
+      (λ κs qs bounds a g are. needs 𝓤 _ _ (λ pre.
+      walk 𝓤 H A W mem run (κs .0) (qs .0) (a .0) (a .1 .0) (are .1 .0) (a .1 .1 .0) (are .1 .1 .0) C Λ fm known-begin known-seek known-here pre (are .0)))
 
 find-from-meets : {M : Type 1} (𝓤 : URA M) (H : Heap 𝓤) (A : Atoms 𝓤) (W : Given 𝓤 H A) (mem : Memory → SProp 𝓤) (run : Routine → Fun 𝓤) (𝓣 : Tables 𝓤 H)
-    → Triple 𝓤 (𝓣 .C #master·at-block) (Begin 𝓤 H A mem run) → Triple 𝓤 (𝓣 .C #master·seek) (Seek 𝓤 H A mem run) → Triple 𝓤 (𝓣 .C #master·here) (Here 𝓤 H A mem run)
+    → Triple 𝓤 (𝓣 .C #master·at-block) (Begin 𝓤 H A mem run) → Triple 𝓤 (𝓣 .C #master·seek) (Seek 𝓤 H A mem run)
+    → Triple 𝓤 (𝓣 .C #master·here) (Here 𝓤 H A mem run)
     → Meets 𝓤 H A find-from.signature (WpFn 𝓤 H (𝓣 .C) (𝓣 .Λ) code.function) (find-from.spec 𝓤 H A mem run)
-find-from-meets 𝓤 H A W mem run 𝓣 known-begin known-seek known-here = walk-meets 𝓤 H A find-from.ended stayed W (goes-none-slice 𝓤 H A W 1 (0 ∷ []) tt (plain (λ _. u8)) yes, (goes-none 𝓤 H A W 1 (λ _. usize) yes (λ κs x f. refl), (goes-none 𝓤 H A W 1 (λ _. Four) yes (λ κs x f. refl), tt))) (find-from.clauses 𝓤 H A mem run) (WpFn 𝓤 H (𝓣 .C) (𝓣 .Λ) code.function) (WpFn-mono 𝓤 H (W .laws) 𝓣 code.function)
+find-from-meets 𝓤 H A W mem run 𝓣 known-begin known-seek known-here =
+    walk-meets 𝓤 H A find-from.ended stayed W (
+      goes-none-slice 𝓤 H A W 1 (0 ∷ []) tt (plain (λ _. u8)) yes,
+      (goes-none 𝓤 H A W 1 (λ _. usize) yes (λ κs x f. refl), (goes-none 𝓤 H A W 1 (λ _. Four) yes (λ κs x f. refl), tt)),
+    ) (find-from.clauses 𝓤 H A mem run)
+    (WpFn 𝓤 H (𝓣 .C) (𝓣 .Λ) code.function) (WpFn-mono 𝓤 H (W .laws) 𝓣 code.function)
     (find-from-walks 𝓤 H A W mem run (𝓣 .C) (𝓣 .Λ) (fmOf 𝓤 H (W .laws) 𝓣) known-begin known-seek known-here)
 
 pub find-from-spec : {M : Type 1} → stated.statement M
@@ -224,6 +260,7 @@ find-from-spec 𝓤 H 𝓜 𝓖 𝓡 =
     entered 𝓤 H (tripleOf 𝓤 H (𝓖 .A) find-from.signature (find-from.spec 𝓤 H (𝓖 .A) (𝓜 .mem) (𝓡 .run)))
     (tables 𝓤 H 𝓜 𝓡 code.env .C) (tables 𝓤 H 𝓜 𝓡 code.env .Λ) #master·find-from code.function (code.unfolded 𝓤 H 𝓜 𝓡)
     (find-from-meets 𝓤 H (𝓖 .A) (givenOf 𝓤 H 𝓜 𝓖) (𝓜 .mem) (𝓡 .run) (tablesOf 𝓤 H 𝓜 (tables 𝓤 H 𝓜 𝓡 code.env))
-    (cited 𝓤 H (Begin 𝓤 H (𝓖 .A) (𝓜 .mem) (𝓡 .run)) 𝓜 𝓡 code.env #master·at-block at-block-def.routine code.calls-file-load·at-block (at-block-thm.met 𝓤 H 𝓜 𝓖 𝓡))
+    (cited 𝓤 H (Begin 𝓤 H (𝓖 .A) (𝓜 .mem) (𝓡 .run)) 𝓜 𝓡 code.env #master·at-block at-block-def.routine code.calls-file-load·at-block
+    (at-block-thm.met 𝓤 H 𝓜 𝓖 𝓡))
     (cited 𝓤 H (Seek 𝓤 H (𝓖 .A) (𝓜 .mem) (𝓡 .run)) 𝓜 𝓡 code.env #master·seek seek-def.routine code.calls-file-load·seek (seek-thm.met 𝓤 H 𝓜 𝓖 𝓡))
     (cited 𝓤 H (Here 𝓤 H (𝓖 .A) (𝓜 .mem) (𝓡 .run)) 𝓜 𝓡 code.env #master·here here-def.routine code.calls-file-load·here (here-thm.met 𝓤 H 𝓜 𝓖 𝓡)))

@@ -14,7 +14,17 @@ returns c =
     let at-four-at3 = at-byte-at .before in
     let at-four-at2 = at-four-at3 .before in
     let at-four-at = at-four-at2 .before in
-    simp (c .three-at .ensures, c .before .field-at .ensures, c .before .before .size-at .ensures, at-kind-or-future .kind-or-future .ensures, kind-value (at-kind-of .kind-of .result) (at-byte-at .byte-at .result) (at-kind-of .kind-of .ensures), at-byte-at .byte-at .ensures, at-four-at3 .four-at3 .ensures, at-four-at2 .four-at2 .ensures, at-four-at .four-at .ensures)
+    simp (
+      c .three-at .ensures,
+      c .before .field-at .ensures,
+      c .before .before .size-at .ensures,
+      at-kind-or-future .kind-or-future .ensures,
+      kind-value (at-kind-of .kind-of .result) (at-byte-at .byte-at .result) (at-kind-of .kind-of .ensures),
+      at-byte-at .byte-at .ensures,
+      at-four-at3 .four-at3 .ensures,
+      at-four-at2 .four-at2 .ensures,
+      at-four-at .four-at .ensures,
+    )
 
 pub product-from-spec : {M : Type 1} → statement M
 product-from-spec =

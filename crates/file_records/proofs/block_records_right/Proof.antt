@@ -20,7 +20,12 @@ returns-3 : tie.Need-returns-3
 unfolding recordsRight
 returns-3 c =
     let d = c .before .before in
-    simp (eq-eqb _ _ (d .before .before .if1 .left), eq-eqb _ _ (sym (d .before .byte-at .ensures) ∙ d .if2 .left), c .are-zero .ensures, c .before .record-places-right .ensures)
+    simp (
+      eq-eqb _ _ (d .before .before .if1 .left),
+      eq-eqb _ _ (sym (d .before .byte-at .ensures) ∙ d .if2 .left),
+      c .are-zero .ensures,
+      c .before .record-places-right .ensures,
+    )
 
 pub block-records-right-spec : {M : Type 1} → statement M
 block-records-right-spec =

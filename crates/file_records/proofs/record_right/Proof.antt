@@ -16,7 +16,20 @@ returns c =
     let at-four-at3 = at-byte-at .before in
     let at-four-at2 = at-four-at3 .before in
     let at-four-at = at-four-at2 .before in
-    simp (c .are-zero .ensures, c .before .file-size-right .ensures, c .before .before .field-at3 .ensures, at-field-at2 .field-at2 .ensures, at-fields-right .fields-right .ensures, at-three-at .three-at .ensures, at-field-at .field-at .ensures, at-size-at .size-at .ensures, at-byte-at .byte-at .ensures, at-four-at3 .four-at3 .ensures, at-four-at2 .four-at2 .ensures, at-four-at .four-at .ensures)
+    simp (
+      c .are-zero .ensures,
+      c .before .file-size-right .ensures,
+      c .before .before .field-at3 .ensures,
+      at-field-at2 .field-at2 .ensures,
+      at-fields-right .fields-right .ensures,
+      at-three-at .three-at .ensures,
+      at-field-at .field-at .ensures,
+      at-size-at .size-at .ensures,
+      at-byte-at .byte-at .ensures,
+      at-four-at3 .four-at3 .ensures,
+      at-four-at2 .four-at2 .ensures,
+      at-four-at .four-at .ensures,
+    )
 
 pub record-right-spec : {M : Type 1} → statement M
 record-right-spec =

@@ -24,7 +24,8 @@ returns-3 c =
     let at-date-from = c .before .before .before in
     let at-if2 = at-date-from .before in
     let at-if1 = at-if2 .before in
-    c .other-entry3 .ensures ∙ day-dateless _ _ (at-if1 .if1 .left) (not-false _ (at-if2 .if2 .left)) _ (at-date-from .date-from .ensures) (not-true _ (c .before .if3 .taken))
+    c .other-entry3 .ensures ∙ day-dateless _ _ (at-if1 .if1 .left) (not-false _ (at-if2 .if2 .left)) _ (at-date-from .date-from .ensures)
+    (not-true _ (c .before .if3 .taken))
 
 returns-4 : tie.Need-returns-4
 returns-4 c =

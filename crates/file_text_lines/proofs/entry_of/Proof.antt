@@ -46,7 +46,8 @@ slice-aggregate-seed-entry c =
     sym (length-take-le (start .args .line .length) (start .args .line .bytes) (omega (arith, l)))
 
 returns-3 : tie.Need-returns-3
-returns-3 c = c .seed-entry .ensures ∙ begins-s _ (c .before .before .before .before .if1 .left) (c .before .before .before .if2 .left) (c .before .before .if3 .taken)
+returns-3 c = c .seed-entry .ensures ∙ begins-s _ (c .before .before .before .before .if1 .left) (c .before .before .before .if2 .left)
+    (c .before .before .if3 .taken)
 
 -- ---- a line that begins with P
 array-share-prefix-bytes-3 : tie.Need-array-share-prefix-bytes-3

@@ -5,7 +5,12 @@ use Rattle.file_text_lines.proofs.id_bytes.Tie as tie
 
 returns : tie.Need-returns
 unfolding idBytes
-returns c = rw (c .byte-or-space4 .ensures, c .before .byte-or-space3 .ensures, c .before .before .byte-or-space2 .ensures, c .before .before .before .byte-or-space .ensures)
+returns c = rw (
+  c .byte-or-space4 .ensures,
+  c .before .byte-or-space3 .ensures,
+  c .before .before .byte-or-space2 .ensures,
+  c .before .before .before .byte-or-space .ensures,
+)
 
 pub id-bytes-spec : {M : Type 1} → statement M
 id-bytes-spec =

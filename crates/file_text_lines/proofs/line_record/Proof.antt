@@ -12,7 +12,8 @@ returns c =
     let at-group = at-market .before .before in
     let at-id = at-group .before .before in
     c .field-bytes .ensures
-    ∙ record-words _ _ _ _ _ (at-id .before .word-at .ensures) (at-id .id-bytes .ensures) (at-group .before .word-at2 .ensures) (at-group .four-at .ensures) (at-market .before .word-at3 .ensures) (at-market .four-at2 .ensures) (at-currency .before .word-at4 .ensures) (at-currency .three-at .ensures)
+    ∙ record-words _ _ _ _ _ (at-id .before .word-at .ensures) (at-id .id-bytes .ensures) (at-group .before .word-at2 .ensures) (at-group .four-at .ensures)
+    (at-market .before .word-at3 .ensures) (at-market .four-at2 .ensures) (at-currency .before .word-at4 .ensures) (at-currency .three-at .ensures)
 
 pub line-record-spec : {M : Type 1} → statement M
 line-record-spec =

@@ -29,7 +29,8 @@ returns-3 c =
     let at-kind = at-if2 .before .before in
     let at-if1 = at-kind .before in
     let form = said-yes (at-if1 .before .is-product-form .ensures) (at-if1 .if1 .left) in
-    c .other-entry3 .ensures ∙ product-shareless _ form _ (at-kind .number-in .ensures) (not-false _ (at-if2 .if2 .left)) _ (at-shares .shares-in .ensures) (not-true _ (c .before .if3 .taken))
+    c .other-entry3 .ensures ∙ product-shareless _ form _ (at-kind .number-in .ensures) (not-false _ (at-if2 .if2 .left)) _ (at-shares .shares-in .ensures)
+    (not-true _ (c .before .if3 .taken))
 
 returns-4 : tie.Need-returns-4
 returns-4 c =
@@ -40,7 +41,8 @@ returns-4 c =
     let at-kind = at-if2 .before .before in
     let at-if1 = at-kind .before in
     let form = said-yes (at-if1 .before .is-product-form .ensures) (at-if1 .if1 .left) in
-    c .other-entry4 .ensures ∙ product-partless _ form _ (at-kind .number-in .ensures) (not-false _ (at-if2 .if2 .left)) _ (at-shares .shares-in .ensures) (not-false _ (at-if3 .if3 .left)) _ (at-part .part-in .ensures) (not-true _ (c .before .if4 .taken))
+    c .other-entry4 .ensures ∙ product-partless _ form _ (at-kind .number-in .ensures) (not-false _ (at-if2 .if2 .left)) _ (at-shares .shares-in .ensures)
+    (not-false _ (at-if3 .if3 .left)) _ (at-part .part-in .ensures) (not-true _ (c .before .if4 .taken))
 
 returns-5 : tie.Need-returns-5
 returns-5 c =
@@ -53,27 +55,33 @@ returns-5 c =
     let at-kind = at-if2 .before .before in
     let at-if1 = at-kind .before in
     let form = said-yes (at-if1 .before .is-product-form .ensures) (at-if1 .if1 .left) in
-    c .other-entry5 .ensures ∙ product-tickless _ form _ (at-kind .number-in .ensures) (not-false _ (at-if2 .if2 .left)) _ (at-shares .shares-in .ensures) (not-false _ (at-if3 .if3 .left)) _ (at-part .part-in .ensures) (not-false _ (at-if4 .if4 .left)) _ (at-tick .number-in2 .ensures) (not-true _ (c .before .if5 .taken))
+    c .other-entry5 .ensures ∙ product-tickless _ form _ (at-kind .number-in .ensures) (not-false _ (at-if2 .if2 .left)) _ (at-shares .shares-in .ensures)
+    (not-false _ (at-if3 .if3 .left)) _ (at-part .part-in .ensures) (not-false _ (at-if4 .if4 .left)) _ (at-tick .number-in2 .ensures)
+    (not-true _ (c .before .if5 .taken))
 
 -- ---- the numbers fit the record's fields
 cast-line-record : tie.Need-cast-line-record
 cast-line-record c =
-    let h : c .before .before .before .before .before .before .before .before .before .before .before .before .number-in .result .value ≤ 255 = at-most _ _ _ (c .before .before .before .before .before .before .before .before .before .before .before .before .number-in .ensures) in
+    let before-12 = c .before .before .before .before .before .before .before .before .before .before .before .before in
+    let h : before-12 .number-in .result .value ≤ 255 = at-most _ _ _ (before-12 .number-in .ensures) in
     omega (arith, h)
 
 cast-line-record-2 : tie.Need-cast-line-record-2
 cast-line-record-2 c =
-    let h : c .before .before .before .before .before .before .before .before .before .before .shares-in .result .value ≤ 65535 = shares-most _ _ (c .before .before .before .before .before .before .before .before .before .before .shares-in .ensures) in
+    let before-10 = c .before .before .before .before .before .before .before .before .before .before in
+    let h : before-10 .shares-in .result .value ≤ 65535 = shares-most _ _ (before-10 .shares-in .ensures) in
     omega (arith, h)
 
 cast-line-record-3 : tie.Need-cast-line-record-3
 cast-line-record-3 c =
-    let h : c .before .before .before .before .before .before .before .before .part-in .result .value ≤ 9999 = part-most _ _ (c .before .before .before .before .before .before .before .before .part-in .ensures) in
+    let before-8 = c .before .before .before .before .before .before .before .before in
+    let h : before-8 .part-in .result .value ≤ 9999 = part-most _ _ (before-8 .part-in .ensures) in
     omega (arith, h)
 
 cast-line-record-4 : tie.Need-cast-line-record-4
 cast-line-record-4 c =
-    let h : c .before .before .before .before .before .before .number-in2 .result .value ≤ 65535 = at-most _ _ _ (c .before .before .before .before .before .before .number-in2 .ensures) in
+    let before-6 = c .before .before .before .before .before .before in
+    let h : before-6 .number-in2 .result .value ≤ 65535 = at-most _ _ _ (before-6 .number-in2 .ensures) in
     omega (arith, h)
 
 -- ---- the product
@@ -89,7 +97,9 @@ returns-6 c =
     let at-kind = at-if2 .before .before in
     let at-if1 = at-kind .before in
     let form = said-yes (at-if1 .before .is-product-form .ensures) (at-if1 .if1 .left) in
-    product-is _ form _ (at-kind .number-in .ensures) (not-false _ (at-if2 .if2 .left)) _ (at-shares .shares-in .ensures) (not-false _ (at-if3 .if3 .left)) _ (at-part .part-in .ensures) (not-false _ (at-if4 .if4 .left)) _ (at-tick .number-in2 .ensures) (not-false _ (at-if5 .if5 .left)) _ (c .line-record .ensures)
+    product-is _ form _ (at-kind .number-in .ensures) (not-false _ (at-if2 .if2 .left)) _ (at-shares .shares-in .ensures) (not-false _ (at-if3 .if3 .left)) _
+    (at-part .part-in .ensures) (not-false _ (at-if4 .if4 .left)) _ (at-tick .number-in2 .ensures) (not-false _ (at-if5 .if5 .left)) _
+    (c .line-record .ensures)
 
 pub product-entry-spec : {M : Type 1} → statement M
 product-entry-spec =

@@ -24,7 +24,8 @@ returns-3 c =
     let at-seed = at-if2 .before .before in
     let at-if1 = at-seed .before in
     let form = said-yes (at-if1 .before .is-letter-form .ensures) (at-if1 .if1 .left) in
-    c .other-entry3 .ensures ∙ seed-coverless _ form _ (at-seed .number-in .ensures) (not-false _ (at-if2 .if2 .left)) _ (at-cover .cover-at .ensures) (not-true _ (c .before .if3 .taken))
+    c .other-entry3 .ensures ∙ seed-coverless _ form _ (at-seed .number-in .ensures) (not-false _ (at-if2 .if2 .left)) _ (at-cover .cover-at .ensures)
+    (not-true _ (c .before .if3 .taken))
 
 returns-4 : tie.Need-returns-4
 returns-4 c =

@@ -51,8 +51,12 @@ loop-less c = omega arith
 loop-again : tie.Need-loop-again Inv-loop μ-loop
 loop-again c =
     let at-test = c .before .before in
-    let v = at-test .before .loop .inv in
-    (omega arith, omega arith, words-next (at-test .before .before .before .args .line .now) (at-test .before .loop .i) _ _ (v .2) (c .before .byte-from .ensures .0 (v .0)) (c .if1 .left))
+    let v = at-test .before .loop .inv in (
+      omega arith,
+      omega arith,
+      words-next (at-test .before .before .before .args .line .now) (at-test .before .loop .i) _ _ (v .2)
+          (c .before .byte-from .ensures .0 (v .0)) (c .if1 .left),
+    )
 
 -- ---- word k
 sub-result-2 : tie.Need-sub-result-2 Inv-loop μ-loop

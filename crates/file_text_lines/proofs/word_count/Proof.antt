@@ -38,8 +38,16 @@ loop-again c =
     let at-test = c .before in
     let v = at-test .before .loop .inv in
     let s = c .byte-from2 .ensures .0 (omega (arith, at-test .loop-test .taken)) in
-    let line = at-test .before .before .before .before .args .line .now in
-    (s .within, omega (arith, s .on, v .1), omega (arith, v .2, some-left line (at-test .before .loop .from) (at-test .loop-test .taken), words-counted line (at-test .before .loop .from + 1) (c .byte-from2 .result) s))
+    let line = at-test .before .before .before .before .args .line .now in (
+      s .within,
+      omega (arith, s .on, v .1),
+      omega (
+        arith,
+        v .2,
+        some-left line (at-test .before .loop .from) (at-test .loop-test .taken),
+        words-counted line (at-test .before .loop .from + 1) (c .byte-from2 .result) s,
+      ),
+    )
 
 -- ---- the line's end
 returns : tie.Need-returns Inv-loop μ-loop

@@ -37,7 +37,8 @@ returns-2 : tie.Need-returns-2 Inv-loop μ-loop
 returns-2 c =
     let at-test = c .before .before .before in
     let v = at-test .before .loop .inv in
-    sym (no-digit _ _ _ _ (at-test .loop-test .taken) (said-no (c .before .is-digit .ensures) (c .if2 .taken))) ∙ v .2 ∙ number-some _ _ (at-test .before .before .if1 .left)
+    sym (no-digit _ _ _ _ (at-test .loop-test .taken) (said-no (c .before .is-digit .ensures) (c .if2 .taken))) ∙ v .2 ∙
+    number-some _ _ (at-test .before .before .if1 .left)
 
 mul-next : tie.Need-mul-next Inv-loop μ-loop
 mul-next c = search needs
@@ -58,7 +59,8 @@ returns-3 : tie.Need-returns-3 Inv-loop μ-loop
 returns-3 c =
     let at-test = c .before .before .before .before .before .before in
     let v = at-test .before .loop .inv in
-    sym (too-great _ _ _ _ (at-test .loop-test .taken) (omega (arith, c .before .digit-value .ensures .0))) ∙ v .2 ∙ number-some _ _ (at-test .before .before .if1 .left)
+    sym (too-great _ _ _ _ (at-test .loop-test .taken) (omega (arith, c .before .digit-value .ensures .0))) ∙ v .2 ∙
+    number-some _ _ (at-test .before .before .if1 .left)
 
 -- ---- one digit more
 add-i : tie.Need-add-i Inv-loop μ-loop
@@ -72,8 +74,12 @@ loop-again c =
     let at-if2 = c .before .before .before in
     let at-test = at-if2 .before .before .before in
     let v = at-test .before .loop .inv in
-    let e = c .before .digit-value .ensures .0 in
-    (omega arith, omega arith, rw e (sym (one-digit _ _ _ _ (at-test .loop-test .taken) (said-yes (at-if2 .before .is-digit .ensures) (at-if2 .if2 .left)) (omega (arith, e))) ∙ v .2))
+    let e = c .before .digit-value .ensures .0 in (
+      omega arith,
+      omega arith,
+      rw e (sym (one-digit _ _ _ _ (at-test .loop-test .taken) (said-yes (at-if2 .before .is-digit .ensures) (at-if2 .if2 .left))
+          (omega (arith, e))) ∙ v .2),
+    )
 
 -- ---- the word's end
 cast-t18 : tie.Need-cast-t18 Inv-loop μ-loop

@@ -8,7 +8,9 @@ returns : tie.Need-returns
 unfolding coverText
 returns c =
     let at-letter = c .before .before .before in
-    first (at-letter .before .empty-line .ensures) (then (one _ _ _ (at-letter .extend .ensures)) (then (c .before .before .with-spaced .ensures) (then (c .before .with-spaced2 .ensures) (one _ _ _ (c .extend2 .ensures)))))
+    first (at-letter .before .empty-line .ensures)
+    (then (one _ _ _ (at-letter .extend .ensures))
+    (then (c .before .before .with-spaced .ensures) (then (c .before .with-spaced2 .ensures) (one _ _ _ (c .extend2 .ensures)))))
 
 pub cover-line-spec : {M : Type 1} → statement M
 cover-line-spec =

@@ -10,12 +10,14 @@ returns c = day-runs _ _ _ (sym (c .before .before .is-in-second-map .ensures) �
 returns-2 : tie.Need-returns-2
 returns-2 c =
     let at-if1 = c .before .before .before in
-    day-closed _ _ _ (sym (at-if1 .before .is-in-second-map .ensures) ∙ at-if1 .if1 .left) (sym (c .before .before .is-closed .ensures) ∙ c .before .if2 .taken) (c .marked-line2 .ensures)
+    day-closed _ _ _ (sym (at-if1 .before .is-in-second-map .ensures) ∙ at-if1 .if1 .left) (sym (c .before .before .is-closed .ensures) ∙ c .before .if2 .taken)
+    (c .marked-line2 .ensures)
 
 returns-3 : tie.Need-returns-3
 returns-3 c =
     let at-if1 = c .before .before .before in
-    day-none _ _ _ (sym (at-if1 .before .is-in-second-map .ensures) ∙ at-if1 .if1 .left) (sym (c .before .before .is-closed .ensures) ∙ c .before .if2 .left) (nothing _ (c .empty-line .ensures))
+    day-none _ _ _ (sym (at-if1 .before .is-in-second-map .ensures) ∙ at-if1 .if1 .left) (sym (c .before .before .is-closed .ensures) ∙ c .before .if2 .left)
+    (nothing _ (c .empty-line .ensures))
 
 pub day-line-spec : {M : Type 1} → statement M
 day-line-spec =

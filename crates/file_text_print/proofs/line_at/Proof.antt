@@ -22,7 +22,8 @@ add-day-line c = omega (arith, c .cover-start .ensures .0, c .before .before .co
 returns-2 : tie.Need-returns-2
 returns-2 c =
     let at-days = c .before .before .before in
-    line-day _ _ _ _ (at-days .before .if1 .left) _ (at-days .cover-days .ensures .0) (c .before .before .if2 .taken) _ (ap (λ (start : ℕ). start + (at-days .before .before .before .before .args .n - 1)) (c .before .cover-start .ensures .0)) (c .day-line .ensures)
+    line-day _ _ _ _ (at-days .before .if1 .left) _ (at-days .cover-days .ensures .0) (c .before .before .if2 .taken) _
+    (ap (λ (start : ℕ). start + (at-days .before .before .before .before .args .n - 1)) (c .before .cover-start .ensures .0)) (c .day-line .ensures)
 
 sub-place-line : tie.Need-sub-place-line
 sub-place-line c = omega arith
@@ -31,7 +32,8 @@ sub-place-line-2 : tie.Need-sub-place-line-2
 sub-place-line-2 c = omega arith
 
 returns-3 : tie.Need-returns-3
-returns-3 c = line-place _ _ _ _ (c .before .before .before .if1 .left) _ (c .before .before .cover-days .ensures .0) (c .before .if2 .left) (c .place-line .ensures)
+returns-3 c = line-place _ _ _ _ (c .before .before .before .if1 .left) _ (c .before .before .cover-days .ensures .0) (c .before .if2 .left)
+    (c .place-line .ensures)
 
 pub line-at-spec : {M : Type 1} → statement M
 line-at-spec =

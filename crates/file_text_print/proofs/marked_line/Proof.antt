@@ -8,7 +8,9 @@ returns : tie.Need-returns
 unfolding markedText
 returns c =
     let at-letter = c .before .before .before in
-    first (at-letter .before .empty-line .ensures) (then (then (one _ _ _ (at-letter .extend .ensures)) (one _ _ _ (c .before .before .extend2 .ensures))) (then (c .before .with-day .ensures) (one _ _ _ (c .extend3 .ensures))))
+    first (at-letter .before .empty-line .ensures)
+    (then (then (one _ _ _ (at-letter .extend .ensures)) (one _ _ _ (c .before .before .extend2 .ensures)))
+    (then (c .before .with-day .ensures) (one _ _ _ (c .extend3 .ensures))))
 
 pub marked-line-spec : {M : Type 1} → statement M
 marked-line-spec =

@@ -5,7 +5,8 @@ use Rattle.file_text_print.proofs.place_line.Statement.{statement}
 use Rattle.file_text_print.proofs.place_line.Tie as tie
 
 returns : tie.Need-returns
-returns c = place-held _ _ _ (sym (c .before .before .before .is-record .ensures) ∙ c .before .before .if1 .taken) _ (c .before .record-at .ensures) (c .product-line .ensures)
+returns c = place-held _ _ _ (sym (c .before .before .before .is-record .ensures) ∙ c .before .before .if1 .taken) _ (c .before .record-at .ensures)
+    (c .product-line .ensures)
 
 returns-2 : tie.Need-returns-2
 returns-2 c = place-none _ _ _ (sym (c .before .before .is-record .ensures) ∙ c .before .if1 .left) (nothing _ (c .empty-line .ensures))

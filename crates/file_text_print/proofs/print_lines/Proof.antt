@@ -29,18 +29,23 @@ line-at-requires c κs = tt
 
 -- ---- there is room for the line
 append-requires : tie.Need-append-requires Inv-loop μ-loop
-append-requires c κs = (line-fits _ _ _ _ (c .line-at .ensures), has-more _ _ _ _ (c .before .before .before .goes-on .ensures) (c .before .before .if1 .taken) .1)
+append-requires c κs = (
+  line-fits _ _ _ _ (c .line-at .ensures),
+  has-more _ _ _ _ (c .before .before .before .goes-on .ensures) (c .before .before .if1 .taken) .1,
+)
 
 add-next : tie.Need-add-next Inv-loop μ-loop
 add-next c =
     let at-if1 = c .before .before .before .before .before in
-    let h : at-if1 .before .before .before .loop .next < at-if1 .before .before .before .before .line-count .result = has-more _ _ _ _ (at-if1 .before .goes-on .ensures) (at-if1 .if1 .taken) .0 in
+    let h : at-if1 .before .before .before .loop .next < at-if1 .before .before .before .before .line-count .result =
+    has-more _ _ _ _ (at-if1 .before .goes-on .ensures) (at-if1 .if1 .taken) .0 in
     search needs
 
 loop-less : tie.Need-loop-less Inv-loop μ-loop
 loop-less c =
     let at-if1 = c .before .before .before .before .before in
-    let h : at-if1 .before .before .before .loop .next < at-if1 .before .before .before .before .line-count .result = has-more _ _ _ _ (at-if1 .before .goes-on .ensures) (at-if1 .if1 .taken) .0 in
+    let h : at-if1 .before .before .before .loop .next < at-if1 .before .before .before .before .line-count .result =
+    has-more _ _ _ _ (at-if1 .before .goes-on .ensures) (at-if1 .if1 .taken) .0 in
     omega (arith, h)
 
 -- ---- one line more
@@ -48,14 +53,16 @@ loop-again : tie.Need-loop-again Inv-loop μ-loop
 loop-again c =
     let at-if1 = c .before .before .before .before .before in
     let at-loop = at-if1 .before .before .before in
-    goes _ _ _ _ _ _ _ (at-loop .loop .inv) _ (at-loop .before .line-count .ensures) (at-if1 .before .goes-on .ensures) (at-if1 .if1 .taken) _ (c .before .before .before .line-at .ensures) _ _ (c .before .before .append .ensures .0) (c .before .before .append .ensures .1)
+    goes _ _ _ _ _ _ _ (at-loop .loop .inv) _ (at-loop .before .line-count .ensures) (at-if1 .before .goes-on .ensures) (at-if1 .if1 .taken) _
+    (c .before .before .before .line-at .ensures) _ _ (c .before .before .append .ensures .0) (c .before .before .append .ensures .1)
 
 -- ---- no line more, or no room
 same-length : tie.Need-same-length Inv-loop μ-loop
 same-length c = c .before .before .before .loop .inv .long
 
 returns : tie.Need-returns Inv-loop μ-loop
-returns c = ends _ _ _ _ _ _ _ (c .before .before .before .loop .inv) _ (c .before .before .before .before .line-count .ensures) (c .before .goes-on .ensures) (c .if1 .left)
+returns c = ends _ _ _ _ _ _ _ (c .before .before .before .loop .inv) _ (c .before .before .before .before .line-count .ensures) (c .before .goes-on .ensures)
+    (c .if1 .left)
 
 pub print-lines-spec : {M : Type 1} → statement M
 print-lines-spec =

@@ -10,7 +10,9 @@ unfolding dayText dateText yearMonth
 returns c =
     let at-month = c .before .before in
     let at-year = at-month .before .before in
-    rw (← at-year .before .date-or-zeros .ensures) (then (then (at-year .with-four .ensures) (then (one _ _ _ (at-month .before .extend .ensures)) (at-month .with-two .ensures))) (then (one _ _ _ (c .before .extend2 .ensures)) (c .with-two2 .ensures)))
+    rw (← at-year .before .date-or-zeros .ensures)
+    (then (then (at-year .with-four .ensures) (then (one _ _ _ (at-month .before .extend .ensures)) (at-month .with-two .ensures)))
+    (then (one _ _ _ (c .before .extend2 .ensures)) (c .with-two2 .ensures)))
 
 pub with-day-spec : {M : Type 1} → statement M
 with-day-spec =

@@ -11,13 +11,16 @@ returns-2 : tie.Need-returns-2
 returns-2 c = rw (decimal-2 _ (c .before .before .if1 .left) (c .before .if2 .taken)) (c .with-two .ensures)
 
 returns-3 : tie.Need-returns-3
-returns-3 c = rw (decimal-3 _ (c .before .before .before .before .if1 .left) (c .before .before .before .if2 .left) (c .before .before .if3 .taken)) (then (c .before .with-digit2 .ensures) (c .with-two2 .ensures))
+returns-3 c = rw (decimal-3 _ (c .before .before .before .before .if1 .left) (c .before .before .before .if2 .left) (c .before .before .if3 .taken))
+    (then (c .before .with-digit2 .ensures) (c .with-two2 .ensures))
 
 returns-4 : tie.Need-returns-4
-returns-4 c = rw (decimal-4 _ (c .before .before .before .before .if1 .left) (c .before .before .before .if2 .left) (c .before .before .if3 .left) (c .before .if4 .taken)) (c .with-four .ensures)
+returns-4 c = rw (decimal-4 _ (c .before .before .before .before .if1 .left) (c .before .before .before .if2 .left) (c .before .before .if3 .left)
+    (c .before .if4 .taken)) (c .with-four .ensures)
 
 returns-5 : tie.Need-returns-5
-returns-5 c = rw (decimal-5 _ (c .before .before .before .before .before .if1 .left) (c .before .before .before .before .if2 .left) (c .before .before .before .if3 .left) (c .before .before .if4 .left)) (then (c .before .with-digit3 .ensures) (c .with-four2 .ensures))
+returns-5 c = rw (decimal-5 _ (c .before .before .before .before .before .if1 .left) (c .before .before .before .before .if2 .left)
+    (c .before .before .before .if3 .left) (c .before .before .if4 .left)) (then (c .before .with-digit3 .ensures) (c .with-four2 .ensures))
 
 pub with-decimal-spec : {M : Type 1} → statement M
 with-decimal-spec =

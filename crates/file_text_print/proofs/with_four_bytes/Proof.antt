@@ -20,7 +20,10 @@ array-read-extend-4 c = omega arith
 
 returns : tie.Need-returns
 unfolding fed fourBytes
-returns c = record { is = rw (c .extend4 .ensures, c .before .extend3 .ensures, c .before .before .extend2 .ensures, c .before .before .before .extend .ensures) refl }
+returns c = record {
+  is = rw (c .extend4 .ensures, c .before .extend3 .ensures, c .before .before .extend2 .ensures, c .before .before .before .extend .ensures)
+      refl;
+}
 
 pub with-four-bytes-spec : {M : Type 1} → statement M
 with-four-bytes-spec =

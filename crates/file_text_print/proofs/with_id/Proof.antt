@@ -28,7 +28,10 @@ array-read-if1 c = omega arith
 returns : tie.Need-returns Inv-loop μ-loop
 returns c =
     let v = c .before .before .loop .inv in
-    record { is = id-ends (c .before .before .loop .whole) (c .before .before .before .args .t2) (c .before .before .loop .i) (omega (arith, v .0)) (c .if1 .taken) ∙ v .2 }
+    record {
+      is = id-ends (c .before .before .loop .whole) (c .before .before .before .args .t2) (c .before .before .loop .i) (omega (arith, v .0))
+          (c .if1 .taken) ∙ v .2;
+    }
 
 -- ---- one character more
 array-read-extend : tie.Need-array-read-extend Inv-loop μ-loop
@@ -45,8 +48,13 @@ loop-less c = omega arith
 
 loop-again : tie.Need-loop-again Inv-loop μ-loop
 loop-again c =
-    let v = c .before .before .before .loop .inv in
-    (v .0, omega arith, rw (c .extend .ensures) (id-goes-on (c .before .before .before .loop .whole) (c .before .before .before .before .args .t2) (c .before .before .before .loop .i) (omega (arith, v .0)) (c .before .if1 .left) ∙ v .2))
+    let v = c .before .before .before .loop .inv in (
+      v .0,
+      omega arith,
+      rw (c .extend .ensures)
+          (id-goes-on (c .before .before .before .loop .whole) (c .before .before .before .before .args .t2) (c .before .before .before .loop .i)
+          (omega (arith, v .0)) (c .before .if1 .left) ∙ v .2),
+    )
 
 -- ---- after four bytes
 returns-2 : tie.Need-returns-2 Inv-loop μ-loop

@@ -21,13 +21,19 @@ returns-2 c =
 
 returns-3 : tie.Need-returns-3
 unfolding calendarAfterEntry
-returns-3 c = rw (ne-eqb _ 89 (c .before .before .before .if1 .left), ne-eqb _ 83 (c .before .before .if2 .left), eq-eqb _ 67 (c .before .if3 .taken)) (c .close-day .ensures)
+returns-3 c = rw (ne-eqb _ 89 (c .before .before .before .if1 .left), ne-eqb _ 83 (c .before .before .if2 .left), eq-eqb _ 67 (c .before .if3 .taken))
+    (c .close-day .ensures)
 
 returns-4 : tie.Need-returns-4
 unfolding calendarAfterEntry
 returns-4 c =
     let at-if2 = c .before .before .before in
-    rw (ne-eqb _ 89 (at-if2 .before .if1 .left), ne-eqb _ 83 (at-if2 .if2 .left), ne-eqb _ 67 (c .before .before .if3 .left), eq-eqb _ 88 (c .before .if4 .taken)) (c .close-exchange-day .ensures)
+    rw (
+      ne-eqb _ 89 (at-if2 .before .if1 .left),
+      ne-eqb _ 83 (at-if2 .if2 .left),
+      ne-eqb _ 67 (c .before .before .if3 .left),
+      eq-eqb _ 88 (c .before .if4 .taken),
+    ) (c .close-exchange-day .ensures)
 
 returns-5 : tie.Need-returns-5
 unfolding calendarAfterEntry

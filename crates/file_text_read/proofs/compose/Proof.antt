@@ -26,7 +26,8 @@ returns-2 c =
     let at-size = at-write .before .before .before .before in
     let start = at-size .before .before .before .before .before in
     let w = at-write .write .ensures in
-    composed-is (start .args .taken) (start .args .records .now) (start .args .file .now) (at-size .before .if1 .left) (at-size .records-size .result) (at-size .records-size .ensures .1) _ _ (w .0) (w .1) _ (at-fault .fault-for .ensures) _ (c .idle-day .ensures)
+    composed-is (start .args .taken) (start .args .records .now) (start .args .file .now) (at-size .before .if1 .left) (at-size .records-size .result)
+    (at-size .records-size .ensures .1) _ _ (w .0) (w .1) _ (at-fault .fault-for .ensures) _ (c .idle-day .ensures)
 
 pub compose-spec : {M : Type 1} → statement M
 compose-spec =

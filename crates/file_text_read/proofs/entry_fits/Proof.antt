@@ -20,20 +20,37 @@ returns-3 c = rw (ne-eqb _ 0 (c .before .before .if1 .left), c .before .if2 .lef
 
 returns-4 : tie.Need-returns-4
 unfolding entryFits
-returns-4 c = rw (ne-eqb _ 0 (c .before .before .before .if1 .left), c .before .before .if2 .left, not-false (c .before .before .before .before .args .begun) (c .before .if3 .left), eq-eqb _ 80 (c .if4 .taken)) refl
+returns-4 c = rw (
+  ne-eqb _ 0 (c .before .before .before .if1 .left),
+  c .before .before .if2 .left,
+  not-false (c .before .before .before .before .args .begun) (c .before .if3 .left),
+  eq-eqb _ 80 (c .if4 .taken),
+) refl
 
 returns-5 : tie.Need-returns-5
 unfolding entryFits
 returns-5 c =
     let at-if2 = c .before .before .before in
-    rw (ne-eqb _ 0 (at-if2 .before .if1 .left), at-if2 .if2 .left, not-false (at-if2 .before .before .args .begun) (c .before .before .if3 .left), ne-eqb _ 80 (c .before .if4 .left), c .if5 .taken) refl
+    rw (
+      ne-eqb _ 0 (at-if2 .before .if1 .left),
+      at-if2 .if2 .left,
+      not-false (at-if2 .before .before .args .begun) (c .before .before .if3 .left),
+      ne-eqb _ 80 (c .before .if4 .left),
+      c .if5 .taken,
+    ) refl
 
 returns-6 : tie.Need-returns-6
 unfolding entryFits
 returns-6 c =
     let at-if3 = c .before .before .before in
     let at-if2 = at-if3 .before in
-    rw (ne-eqb _ 0 (at-if2 .before .if1 .left), at-if2 .if2 .left, not-false (at-if2 .before .before .args .begun) (at-if3 .if3 .left), ne-eqb _ 80 (c .before .before .if4 .left), c .before .if5 .left) (c .in-cover .ensures)
+    rw (
+      ne-eqb _ 0 (at-if2 .before .if1 .left),
+      at-if2 .if2 .left,
+      not-false (at-if2 .before .before .args .begun) (at-if3 .if3 .left),
+      ne-eqb _ 80 (c .before .before .if4 .left),
+      c .before .if5 .left,
+    ) (c .in-cover .ensures)
 
 pub entry-fits-spec : {M : Type 1} → statement M
 entry-fits-spec =

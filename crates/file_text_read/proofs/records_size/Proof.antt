@@ -7,7 +7,11 @@ use Rattle.file_text_read.proofs.records_size.Statement.{statement}
 use Rattle.file_text_read.proofs.records_size.Tie as tie
 
 returns : tie.Need-returns
-returns c = (omega arith, take-length (c .before .args .records .now) ∙ sym (take-all (c .before .args .taken .size) (c .before .args .records .now) (omega arith)))
+returns c = (
+  omega arith,
+  take-length (c .before .args .records .now) ∙
+      sym (take-all (c .before .args .taken .size) (c .before .args .records .now) (omega arith)),
+)
 
 returns-2 : tie.Need-returns-2
 returns-2 c = (omega arith, refl)

@@ -13,7 +13,8 @@ use Rattle.file_text_read.proofs.store.Tie as tie
 
 -- ---- what the loop keeps, and what falls
 abbrev Inv-loop : tie.InvT-loop
-Inv-loop records₀ size one i₀ records i = (i ≤ 32) × (records ≡ paste records₀ size one i) × (size + 32 ≤ length records₀) × (length one ≡ 32) × (length records ≡ length records₀)
+Inv-loop records₀ size one i₀ records i =
+    (i ≤ 32) × (records ≡ paste records₀ size one i) × (size + 32 ≤ length records₀) × (length one ≡ 32) × (length records ≡ length records₀)
 
 abbrev μ-loop : tie.MeasureT-loop
 μ-loop records₀ size one i₀ records i = 32 - i

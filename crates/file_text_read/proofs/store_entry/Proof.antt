@@ -14,7 +14,8 @@ same-length c = search needs
 returns-2 : tie.Need-returns-2
 returns-2 c =
     let start = c .before .before .before .before .before .before .before .before in
-    one-product (start .args .records .now) (start .args .size) (start .args .e) _ _ (c .before .before .before .before .before .if1 .left) (c .before .before .store .ensures)
+    one-product (start .args .records .now) (start .args .size) (start .args .e) _ _ (c .before .before .before .before .before .if1 .left)
+    (c .before .before .store .ensures)
 
 pub store-entry-spec : {M : Type 1} → statement M
 store-entry-spec =

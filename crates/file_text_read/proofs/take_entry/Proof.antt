@@ -9,7 +9,8 @@ returns : tie.Need-returns
 returns c =
     let at-fits = c .before .before in
     let at-next = at-fits .before in
-    taken-bad (at-next .before .before .before .before .args .taken) _ _ _ (at-next .next-line .ensures) _ (at-fits .entry-fits .ensures) (not-true _ (c .before .if1 .taken)) _ (c .count-line .ensures)
+    taken-bad (at-next .before .before .before .before .args .taken) _ _ _ (at-next .next-line .ensures) _ (at-fits .entry-fits .ensures)
+    (not-true _ (c .before .if1 .taken)) _ (c .count-line .ensures)
 
 same-length : tie.Need-same-length
 same-length c = search needs
@@ -21,7 +22,9 @@ returns-2 c =
     let at-if1 = at-faults .before .before in
     let at-next = at-if1 .before .before in
     let start = at-next .before .before .before .before in
-    taken-good (start .args .taken) _ (start .args .e) _ (at-next .next-line .ensures) _ (at-if1 .before .entry-fits .ensures) (not-false _ (at-if1 .if1 .left)) _ (at-faults .faults-after .ensures) _ (at-store .before .before .calendar-after .ensures) _ _ (at-store .store-entry .ensures)
+    taken-good (start .args .taken) _ (start .args .e) _ (at-next .next-line .ensures) _ (at-if1 .before .entry-fits .ensures)
+    (not-false _ (at-if1 .if1 .left)) _ (at-faults .faults-after .ensures) _ (at-store .before .before .calendar-after .ensures) _ _
+    (at-store .store-entry .ensures)
 
 pub take-entry-spec : {M : Type 1} → statement M
 take-entry-spec =

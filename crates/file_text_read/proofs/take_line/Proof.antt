@@ -12,7 +12,8 @@ returns-2 c =
     let at-held = c .before .before .before in
     let at-if1 = at-held .before .before in
     let start = at-if1 .before .before .before in
-    taken-nothing (start .args .taken) (start .args .line) _ (at-if1 .if1 .left) _ (at-held .held-entry .ensures) (c .before .if2 .taken) _ (c .count-line .ensures)
+    taken-nothing (start .args .taken) (start .args .line) _ (at-if1 .if1 .left) _ (at-held .held-entry .ensures) (c .before .if2 .taken) _
+    (c .count-line .ensures)
 
 same-length : tie.Need-same-length
 same-length c = search needs
@@ -23,7 +24,8 @@ returns-3 c =
     let at-held = at-if2 .before .before in
     let at-if1 = at-held .before .before in
     let start = at-if1 .before .before .before in
-    taken-entry (start .args .taken) (start .args .line) _ (at-if1 .if1 .left) _ (at-held .held-entry .ensures) (at-if2 .if2 .left) _ _ (c .before .before .take-entry .ensures)
+    taken-entry (start .args .taken) (start .args .line) _ (at-if1 .if1 .left) _ (at-held .held-entry .ensures) (at-if2 .if2 .left) _ _
+    (c .before .before .take-entry .ensures)
 
 pub take-line-spec : {M : Type 1} → statement M
 take-line-spec =

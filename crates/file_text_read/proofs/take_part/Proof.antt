@@ -51,7 +51,8 @@ loop-again-2 c =
     let at-take-line = c .before .before .before in
     let at-if1 = at-take-line .before .before in
     let at-test = at-if1 .before .before in
-    goes-line _ _ _ _ _ _ _ _ (at-test .before .loop .inv) (at-test .loop-test .taken) (at-if1 .if1 .left) _ _ (at-take-line .take-line .ensures) _ (c .empty-long-line .ensures)
+    goes-line _ _ _ _ _ _ _ _ (at-test .before .loop .inv) (at-test .loop-test .taken) (at-if1 .if1 .left) _ _ (at-take-line .take-line .ensures) _
+    (c .empty-long-line .ensures)
 
 -- ---- after the last byte
 same-length : tie.Need-same-length Inv-loop μ-loop

@@ -12,7 +12,9 @@ returns : tie.Need-returns
 unfolding refusedFileText
 returns c =
     let at-bytes = c .before .before .before in
-    first (at-bytes .before .before .empty-line .ensures) (then (at-bytes .with-bytes .ensures) (then (c .before .before .with-spaced .ensures) (then (c .before .with-where .ensures) (one _ _ _ (c .extend .ensures)))))
+    first (at-bytes .before .before .empty-line .ensures)
+    (then (at-bytes .with-bytes .ensures) (then (c .before .before .with-spaced .ensures)
+    (then (c .before .with-where .ensures) (one _ _ _ (c .extend .ensures)))))
 
 pub no-line-spec : {M : Type 1} → statement M
 no-line-spec =

@@ -28,7 +28,8 @@ returns-2 c =
     let at-put-blocks = c .before .before in
     let at-blocks-in = at-put-blocks .before .before in
     let at-judge = at-blocks-in .before .before in
-    write-accepted _ _ _ _ _ (sym (at-judge .judge .ensures) ∙ at-blocks-in .before .if1 .left) (at-blocks-in .blocks-in .ensures) (at-put-blocks .put-blocks .ensures)
+    write-accepted _ _ _ _ _ (sym (at-judge .judge .ensures) ∙ at-blocks-in .before .if1 .left) (at-blocks-in .blocks-in .ensures)
+    (at-put-blocks .put-blocks .ensures)
 
 pub write-spec : {M : Type 1} → statement M
 write-spec =

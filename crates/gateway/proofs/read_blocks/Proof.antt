@@ -15,7 +15,8 @@ use Rattle.gateway.proofs.read_blocks.Statement.{statement}
 use Rattle.gateway.proofs.read_blocks.Tie as tie
 
 -- a block that was read has a byte, and 512 at most
-bytes : (n : ℕ) (block : List ℕ) → n ≤ length block → n ≡ length (take n block) → length block ≡ 512 → (n ≡ 0 → ⊥) → (0 < length (take n block)) × (length (take n block) ≤ 512)
+bytes : (n : ℕ) (block : List ℕ) → n ≤ length block → n ≡ length (take n block) → length block ≡ 512 → (n ≡ 0 → ⊥)
+    → (0 < length (take n block)) × (length (take n block) ≤ 512)
 bytes n block h l e z = go (lt-or-ge n 1)
   where
     go : (n < 1) ⊎ (1 ≤ n) → (0 < length (take n block)) × (length (take n block) ≤ 512)

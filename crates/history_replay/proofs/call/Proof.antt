@@ -9,14 +9,16 @@ returns : tie.Need-returns
 returns c =
     let at-if1 = c .before .before in
     let given = at-if1 .before .before .args in
-    rolls _ _ (given .first) (given .second) (given .third) _ _ (at-if1 .before .short-in .ensures) _ (at-if1 .if1 .taken) (c .before .roll .ensures) (c .without-price .ensures)
+    rolls _ _ (given .first) (given .second) (given .third) _ _ (at-if1 .before .short-in .ensures) _ (at-if1 .if1 .taken) (c .before .roll .ensures)
+    (c .without-price .ensures)
 
 returns-2 : tie.Need-returns-2
 returns-2 c =
     let at-if2 = c .before .before in
     let at-if1 = at-if2 .before in
     let given = at-if1 .before .before .args in
-    reopens _ _ (given .first) (given .second) (given .third) _ _ (at-if1 .before .short-in .ensures) (at-if1 .if1 .left) _ (at-if2 .if2 .taken) (c .before .reopen .ensures) (c .without-price2 .ensures)
+    reopens _ _ (given .first) (given .second) (given .third) _ _ (at-if1 .before .short-in .ensures) (at-if1 .if1 .left) _ (at-if2 .if2 .taken)
+    (c .before .reopen .ensures) (c .without-price2 .ensures)
 
 returns-3 : tie.Need-returns-3
 returns-3 c =

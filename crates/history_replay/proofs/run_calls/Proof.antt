@@ -11,7 +11,8 @@ use Rattle.history_replay.proofs.run_calls.Tie as tie
 
 -- ---- what the loop keeps
 abbrev Inv-loop : tie.InvT-loop
-Inv-loop calls buffer₀ n t₀ i₀ buffer t i = (length calls % 4 ≡ 0) × (length calls ≤ length buffer₀) × Replaying calls buffer₀ t₀ buffer t i × (i ≤ length calls / 4)
+Inv-loop calls buffer₀ n t₀ i₀ buffer t i =
+    (length calls % 4 ≡ 0) × (length calls ≤ length buffer₀) × Replaying calls buffer₀ t₀ buffer t i × (i ≤ length calls / 4)
 
 abbrev μ-loop : tie.MeasureT-loop
 μ-loop calls buffer₀ n t₀ i₀ buffer t i = length calls / 4 - i
@@ -45,8 +46,13 @@ loop-again c =
     let at-write-reply = c .before .before .before in
     let at-call-at = at-write-reply .before .before in
     let at-loop-test = at-call-at .before in
-    let v = at-loop-test .before .loop .inv in
-    (v .0, v .1, turns _ _ _ (v .0) (v .1) _ _ _ _ _ _ (v .2) (at-loop-test .loop-test .taken) (at-call-at .call-at .ensures) (at-write-reply .write-reply .ensures) (omega arith), omega arith)
+    let v = at-loop-test .before .loop .inv in (
+      v .0,
+      v .1,
+      turns _ _ _ (v .0) (v .1) _ _ _ _ _ _ (v .2) (at-loop-test .loop-test .taken) (at-call-at .call-at .ensures)
+          (at-write-reply .write-reply .ensures) (omega arith),
+      omega arith,
+    )
 
 -- ---- after the loop
 same-length : tie.Need-same-length Inv-loop μ-loop

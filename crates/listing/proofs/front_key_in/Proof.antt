@@ -44,7 +44,8 @@ loop-less : tie.Need-loop-less Inv-loop μ-loop
 loop-less c = omega arith
 
 loop-again : tie.Need-loop-again Inv-loop μ-loop
-loop-again c = search-next _ _ _ _ (c .before .before .loop-test .taken) (rw (c .before .may-be-front .ensures) at (c .if1 .left)) ∙ c .before .before .before .loop .inv
+loop-again c = search-next _ _ _ _ (c .before .before .loop-test .taken) (rw (c .before .may-be-front .ensures) at (c .if1 .left)) ∙
+    c .before .before .before .loop .inv
 
 -- ---- after the loop: the cover has none
 returns-2 : tie.Need-returns-2 Inv-loop μ-loop

@@ -16,14 +16,17 @@ use Rattle.listing.proofs.list_in.Tie as tie
 
 abbrev Inv-loop : tie.InvT-loop
 Inv-loop cover closed kind group date row end maturities₀ listed₀ from₀ complete₀ step count j₀ maturities listed from complete j =
-    Walking (matOf (calendarWith cover closed) kind group) end row (front (ruleOf (calendarWith cover closed) kind group) (calendarWith cover closed) date) maturities listed from complete (replicate (count - j) (setAt row step) ++ rest row (step + 1)) × (count ≤ 255)
+    Walking (matOf (calendarWith cover closed) kind group) end row
+    (front (ruleOf (calendarWith cover closed) kind group) (calendarWith cover closed) date) maturities listed from complete
+    (replicate (count - j) (setAt row step) ++ rest row (step + 1)) × (count ≤ 255)
 
 abbrev μ-loop : tie.MeasureT-loop
 μ-loop cover closed kind group date row end maturities₀ listed₀ from₀ complete₀ step count j₀ maturities listed from complete j = count - j
 
 abbrev Inv-steps : tie.InvT-steps
 Inv-steps cover closed kind group date row end maturities₀ listed₀ from₀ complete₀ step₀ maturities listed from complete step =
-    Walking (matOf (calendarWith cover closed) kind group) end row (front (ruleOf (calendarWith cover closed) kind group) (calendarWith cover closed) date) maturities listed from complete (rest row step)
+    Walking (matOf (calendarWith cover closed) kind group) end row
+    (front (ruleOf (calendarWith cover closed) kind group) (calendarWith cover closed) date) maturities listed from complete (rest row step)
 
 abbrev μ-steps : tie.MeasureT-steps
 μ-steps cover closed kind group date row end maturities₀ listed₀ from₀ complete₀ step₀ maturities listed from complete step = 4 - step
@@ -91,8 +94,11 @@ loop-less c = omega arith
 
 loop-again : tie.Need-loop-again Inv-loop μ-loop Inv-steps μ-steps
 loop-again c =
-    let w = c .before .before .before in
-    (rw (c .last-trading-day-in .ensures) (takes _ _ _ _ (w .before .loop .inv .0) (c .before .before .next-in-set .result) (w .loop-test .taken) (c .before .before .next-in-set .ensures) (c .before .if1 .left)), w .before .loop .inv .1)
+    let w = c .before .before .before in (
+      rw (c .last-trading-day-in .ensures) (takes _ _ _ _ (w .before .loop .inv .0) (c .before .before .next-in-set .result) (w .loop-test .taken)
+          (c .before .before .next-in-set .ensures) (c .before .if1 .left)),
+      w .before .loop .inv .1,
+    )
 
 -- ---- a step ends
 add-step : tie.Need-add-step Inv-loop μ-loop Inv-steps μ-steps
@@ -119,7 +125,8 @@ returns-2 c =
     let at-end-key = at-loop .before .before .before .before .before .before in
     let at-kind-number = at-end-key .before in
     let start = at-kind-number .before .before in
-    stops _ _ _ _ (at-loop .loop .inv .0) (c .before .next-in-set .result) (c .before .before .loop-test .taken) (c .before .next-in-set .ensures) (c .if1 .taken) ∙
+    stops _ _ _ _ (at-loop .loop .inv .0) (c .before .next-in-set .result) (c .before .before .loop-test .taken) (c .before .next-in-set .ensures)
+    (c .if1 .taken) ∙
     listing-is _ (start .args .kind) _ (start .args .date) _ _ _ (at-kind-number .kind-number .ensures) (at-end-key .end-key .ensures .0) refl
 
 pub list-in-spec : {M : Type 1} → statement M

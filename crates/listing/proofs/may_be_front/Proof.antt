@@ -18,7 +18,11 @@ returns c = rw (← c .before .before .kind-number .ensures, said-no (c .before 
 
 returns-2 : tie.Need-returns-2
 returns-2 c =
-    rw (worked-day _ _ _ _ _ (c .before .last-trading-day-in .ensures), ← c .before .before .before .before .kind-number .ensures, said-yes (c .before .before .before .in-set .ensures) (c .before .before .if1 .left))
+    rw (
+      worked-day _ _ _ _ _ (c .before .last-trading-day-in .ensures),
+      ← c .before .before .before .before .kind-number .ensures,
+      said-yes (c .before .before .before .in-set .ensures) (c .before .before .if1 .left),
+    )
 
 pub may-be-front-spec : {M : Type 1} → statement M
 may-be-front-spec =

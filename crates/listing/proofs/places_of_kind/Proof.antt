@@ -51,7 +51,12 @@ loop-less : tie.Need-loop-less Inv-loop μ-loop
 loop-less c = omega arith
 
 loop-again : tie.Need-loop-again Inv-loop μ-loop
-loop-again c = (omega arith, c .before .before .loop .inv .1, c .before .before .loop .inv .2, omega (arith, rest-count _ (c .before .before .loop .step) (c .before .before .loop .inv .1) (c .before .loop-test .taken)))
+loop-again c = (
+  omega arith,
+  c .before .before .loop .inv .1,
+  c .before .before .loop .inv .2,
+  omega (arith, rest-count _ (c .before .before .loop .step) (c .before .before .loop .inv .1) (c .before .loop-test .taken)),
+)
 
 -- ---- after the loop: all steps
 returns : tie.Need-returns Inv-loop μ-loop
@@ -59,7 +64,8 @@ unfolding rest
 returns c =
     let k = c .before .before .before .args .kind in
     let z = rest-zero _ (c .before .loop .step) (c .before .loop .inv .1) (c .loop-test .left) in
-    let r : length (rest (c .before .before .kind-number .result) 0) ≡ length (placesOf (rowOf k) (setsOf k)) = ap (λ (i : ℕ). length (rest i 0)) (c .before .before .kind-number .ensures) in
+    let r : length (rest (c .before .before .kind-number .result) 0) ≡ length (placesOf (rowOf k) (setsOf k)) =
+    ap (λ (i : ℕ). length (rest i 0)) (c .before .before .kind-number .ensures) in
     (omega arith, omega arith)
 
 pub places-of-kind-spec : {M : Type 1} → statement M

@@ -18,7 +18,8 @@ slice-aggregate-read-first c = search needs
 returns : tie.Need-returns
 returns c = λ e f.
     let at-if1 = c .before in
-    absurd (true≢false (sym (at-if1 .if1 .taken) ∙ at-if1 .before .has-failed .ensures ∙ ap (λ (i : Input). i .failed) (sym (c .nothing-answered .ensures .0)) ∙ f))
+    absurd (true≢false (sym (at-if1 .if1 .taken) ∙ at-if1 .before .has-failed .ensures ∙ ap (λ (i : Input). i .failed) (sym (c .nothing-answered .ensures .0)) ∙
+    f))
 
 array-share-prefix-part : tie.Need-array-share-prefix-part
 array-share-prefix-part c = search needs

@@ -91,8 +91,13 @@ loop-again c =
     let at-loop = at-read .before .before .before .before in
     let v = at-loop .loop .inv in
     let w = at-read .read-part .ensures in
-    let d = at-write-part .write-part .ensures (said-yes (at-is-open .is-open .ensures) (c .if2 .left)) in
-    (v .0, omega (arith, v .1), omega (arith, v .2, at-refusals .refusals .given), at-part2 .part2 .given, came-more _ _ _ _ _ _ _ _ _ _ (v .4) d (omega (arith, w .count, w .within .1)))
+    let d = at-write-part .write-part .ensures (said-yes (at-is-open .is-open .ensures) (c .if2 .left)) in (
+      v .0,
+      omega (arith, v .1),
+      omega (arith, v .2, at-refusals .refusals .given),
+      at-part2 .part2 .given,
+      came-more _ _ _ _ _ _ _ _ _ _ (v .4) d (omega (arith, w .count, w .within .1)),
+    )
 
 has-failed-requires : tie.Need-has-failed-requires Inv-loop μ-loop
 has-failed-requires c κs = tt

@@ -41,7 +41,8 @@ master-line-requires : tie.Need-master-line-requires
 master-line-requires c κs = search needs
 
 tell-requires : tie.Need-tell-requires
-tell-requires c κs = refused-line _ _ _ (c .before .before .before .before .before .judge .ensures) (c .before .before .before .if2 .taken) _ (c .master-line .ensures)
+tell-requires c κs = refused-line _ _ _ (c .before .before .before .before .before .judge .ensures) (c .before .before .before .if2 .taken) _
+    (c .master-line .ensures)
 
 returns-2 : tie.Need-returns-2
 returns-2 c = search needs

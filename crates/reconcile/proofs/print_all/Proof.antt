@@ -13,7 +13,9 @@ print-products-requires : tie.Need-print-products-requires
 print-products-requires c κs = search needs
 
 print-others-requires : tie.Need-print-others-requires
-print-others-requires c κs = (c .before .before .before .before .before .before .before .before .before .before .before .before .before .before .before .before .before .pre .0 .size, c .before .before .before .before .before .before .before .before .before .before .before .before .before .before .before .before .before .pre .1, c .before .before .print-products .ensures)
+print-others-requires c κs =
+    let before-17 = c .before .before .before .before .before .before .before .before .before .before .before .before .before .before .before .before .before in
+    (before-17 .pre .0 .size, before-17 .pre .1, c .before .before .print-products .ensures)
 
 same-length : tie.Need-same-length
 same-length c = search needs

@@ -14,7 +14,8 @@ add-lines c =
     omega (arith, start .pre .0, start .pre .1, start .pre .2 .few, strangers-few _ _ _ _ _ (c .before .before .before .print-strangers .ensures))
 
 returns : tie.Need-returns
-returns c = differences-out _ _ _ _ _ (c .before .before .before .before .before .before .before .before .before .before .before .before .pre .2) _ (c .before .before .before .print-strangers .ensures)
+returns c = differences-out _ _ _ _ _ (c .before .before .before .before .before .before .before .before .before .before .before .before .pre .2) _
+    (c .before .before .before .print-strangers .ensures)
 
 pub print-others-spec : {M : Type 1} → statement M
 print-others-spec = tie.close (tie.spec print-strangers-requires add-lines returns)

@@ -14,7 +14,8 @@ same-length c = search needs
 returns : tie.Need-returns
 returns c =
     let start = c .before .before .before .before .before .before .before .before .before .before .before .before .before .before .before in
-    products-out _ _ _ _ _ _ (start .pre .0) _ _ _ (start .pre .1) (omega (arith, start .pre .1, start .pre .2)) _ (start .pre .3) _ (c .before .before .print-places .ensures (start .pre .0 .size))
+    products-out _ _ _ _ _ _ (start .pre .0) _ _ _ (start .pre .1) (omega (arith, start .pre .1, start .pre .2)) _ (start .pre .3) _
+    (c .before .before .print-places .ensures (start .pre .0 .size))
 
 pub print-products-spec : {M : Type 1} → statement M
 print-products-spec = tie.close (tie.spec print-places-requires same-length returns)

@@ -26,7 +26,11 @@ slice-aggregate-run-7 : tie.Need-slice-aggregate-run-7
 slice-aggregate-run-7 c = search needs
 
 run-requires : tie.Need-run-requires
-run-requires c κs = (c .before .before .before .before .before .before .before .before .before .before .before .pre, room-enough _ (search needs) (search needs) (search needs) (search needs) (search needs) (search needs), search needs)
+run-requires c κs = (
+  c .before .before .before .before .before .before .before .before .before .before .before .pre,
+  room-enough _ (search needs) (search needs) (search needs) (search needs) (search needs) (search needs),
+  search needs,
+)
 
 returns : tie.Need-returns
 returns c = search needs

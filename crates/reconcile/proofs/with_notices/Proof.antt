@@ -45,8 +45,11 @@ bad-notice-line-requires c κs = search needs
 
 tell-requires : tie.Need-tell-requires
 tell-requires c κs =
+    let before-6 = c .before .before .before .before .before .before in
     let start = c .before .before .before .before .before .before .before .before .before .before .before .before .before .before .before .before .before in
-    bad-line _ _ _ (start .pre .0) (start .pre .1) _ _ (c .before .before .before .before .before .before .read-notices .result) (notices-held _ _ _ _ _ _ (c .before .before .before .before .before .before .read-notices .ensures) (search needs) (search needs)) (c .before .before .if2 .taken) _ (c .bad-notice-line .ensures)
+    bad-line _ _ _ (start .pre .0) (start .pre .1) _ _ (before-6 .read-notices .result)
+    (notices-held _ _ _ _ _ _ (before-6 .read-notices .ensures) (search needs) (search needs)) (c .before .before .if2 .taken) _
+    (c .bad-notice-line .ensures)
 
 returns-2 : tie.Need-returns-2
 returns-2 c = search needs
@@ -65,7 +68,8 @@ slice-aggregate-reconcile-3 c = search needs
 
 reconcile-requires : tie.Need-reconcile-requires
 reconcile-requires c κs =
-    let start = c .before .before .before .before .before .before .before .before .before .before .before .before .before .before .before .before .before .before in
+    let start =
+    c .before .before .before .before .before .before .before .before .before .before .before .before .before .before .before .before .before .before in
     record {
       size = start .pre .2;
       own = start .pre .0;

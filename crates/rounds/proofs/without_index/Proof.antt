@@ -32,7 +32,8 @@ returns : tie.Need-returns
 returns c =
     let start = c .before .before .before .before .before .before in
     let l : length (start .args .q .tables) ≡ 200 = simp length-map at (start .good .0 .1 .1 .0 .1 .0 .1) in
-    left-is (start .args .q .tables) (start .args .q .count) (omega (arith, l)) _ _ _ (start .pre .0) (c .before .before .put-after .ensures) (c .before .put-after2 .ensures)
+    left-is (start .args .q .tables) (start .args .q .count) (omega (arith, l)) _ _ _ (start .pre .0) (c .before .before .put-after .ensures)
+    (c .before .put-after2 .ensures)
 
 pub without-index-spec : {M : Type 1} → statement M
 without-index-spec =

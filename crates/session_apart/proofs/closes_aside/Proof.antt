@@ -55,7 +55,8 @@ returns-8 c = λ e.
       said-yes (at-in-cover .in-cover .ensures) (at-if3 .if3 .left),
       omega (arith, at-slot-of .slot-of .ensures, at-if7 .if7 .left),
       closes-kept _ _ len _ (said-yes (at-in-cover .in-cover .ensures) (at-if3 .if3 .left)) (at-if4 .if4 .left) (lt-ltb _ _ (at-if4 .if4 .left))
-          (said-yes (at-is-trading-day-in .is-trading-day-in .ensures) (at-if5 .if5 .left)) (said-yes (at-trades-around .trades-around .ensures) (at-if6 .if6 .left)) (sym (at-none-ends-on .none-ends-on .ensures) ∙ e),
+          (said-yes (at-is-trading-day-in .is-trading-day-in .ensures) (at-if5 .if5 .left))
+          (said-yes (at-trades-around .trades-around .ensures) (at-if6 .if6 .left)) (sym (at-none-ends-on .none-ends-on .ensures) ∙ e),
     )
 
 pub closes-aside-spec : {M : Type 1} → statement M

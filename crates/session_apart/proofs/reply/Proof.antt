@@ -19,7 +19,8 @@ returns c = λ w.
     let at-is-bad = at-if1 .before in
     let at-command-of = at-is-bad .before .before in
     let b = sym (at-is-bad .is-bad .ensures) ∙ at-if1 .if1 .taken in
-    rw (← at-command-of .command-of .ensures) (record { kept = bad-kept _ _ _ b; text = rw (← bad-text _ _ _ b) (c .before .before .print-bad .ensures); known = w })
+    rw (← at-command-of .command-of .ensures)
+    (record { kept = bad-kept _ _ _ b; text = rw (← bad-text _ _ _ b) (c .before .before .print-bad .ensures); known = w })
 
 -- ---- a refused call
 same-length-2 : tie.Need-same-length-2
@@ -78,7 +79,11 @@ returns-3 c = λ w.
     (record {
       kept = yes-kept-apart verdict f (h .opened) (h .rest) first second k m _ _ b v n;
       text = rw (← yes-text-apart verdict f (h .opened) (h .rest) first second k m _ _ b v n) (at-print-call .print-call .ensures);
-      known = record { calendar = w .calendar; tenth = (rw (w .calendar) at (c .leaves-sound .ensures)) ∙ sym (yes-sound-apart verdict f (h .opened) (h .rest) first second k m _ _ b v n) };
+      known = record {
+        calendar = w .calendar;
+        tenth =
+            (rw (w .calendar) at (c .leaves-sound .ensures)) ∙ sym (yes-sound-apart verdict f (h .opened) (h .rest) first second k m _ _ b v n);
+      };
     })
 
 pub reply-spec : {M : Type 1} → statement M

@@ -36,8 +36,11 @@ returns-5 c = λ e.
     let at-if1 = at-if2 .before in
     let start = at-if1 .before .before in
     let len : length (start .args .rest .maturities) ≡ 15 = simp length-map at (start .good .1 .1 .0 .1 .1 .1 .1 .1 .0 .1 .0 .1) in
-    let front = rw (at-front-key-in .front-key-in .ensures) at e in
-    (at-if1 .if1 .left, said-yes refl (at-if2 .if2 .left), rolls-kept _ _ len _ (said-yes (at-in-cover .in-cover .ensures) (at-if3 .if3 .left)) (le-leb _ _ (at-if4 .if4 .left)) front)
+    let front = rw (at-front-key-in .front-key-in .ensures) at e in (
+      at-if1 .if1 .left,
+      said-yes refl (at-if2 .if2 .left),
+      rolls-kept _ _ len _ (said-yes (at-in-cover .in-cover .ensures) (at-if3 .if3 .left)) (le-leb _ _ (at-if4 .if4 .left)) front,
+    )
 
 pub rolls-on-spec : {M : Type 1} → statement M
 rolls-on-spec =

@@ -13,10 +13,12 @@ returns-2 : tie.Need-returns-2
 returns-2 c = λ k. c .refused .ensures ∙ unsound _ _ _ (c .before .before .if1 .left) (said-no k (c .before .if2 .taken))
 
 returns-3 : tie.Need-returns-3
-returns-3 c = λ k. c .roll-sound .ensures (said-yes k (c .before .before .if2 .left)) ∙ rolls _ _ _ (c .before .before .before .if1 .left) (c .before .if3 .taken)
+returns-3 c = λ k. c .roll-sound .ensures (said-yes k (c .before .before .if2 .left)) ∙
+    rolls _ _ _ (c .before .before .before .if1 .left) (c .before .if3 .taken)
 
 returns-4 : tie.Need-returns-4
-returns-4 c = λ k. c .close-sound .ensures (said-yes k (c .before .before .if2 .left)) ∙ closes _ _ _ (c .before .before .before .if1 .left) (c .before .if3 .left)
+returns-4 c = λ k. c .close-sound .ensures (said-yes k (c .before .before .if2 .left)) ∙
+    closes _ _ _ (c .before .before .before .if1 .left) (c .before .if3 .left)
 
 pub outcome-known-spec : {M : Type 1} → statement M
 outcome-known-spec =

@@ -63,7 +63,8 @@ returns-2 c =
     let at-is-date-form = at-if1 .before in
     let yes-is-date-form = said-yes (at-is-date-form .is-date-form .ensures) (at-if1 .if1 .left) in
     date-there _ _ yes-is-date-form _ _ _
-    (ap₂ (λ (a b : ℕ). 100 * a + b) (at-two-value .two-value .ensures .0) (at-two-value2 .two-value2 .ensures .0)) (at-two-value3 .two-value3 .ensures .0) (at-two-value4 .two-value4 .ensures .0)
+    (ap₂ (λ (a b : ℕ). 100 * a + b) (at-two-value .two-value .ensures .0) (at-two-value2 .two-value2 .ensures .0)) (at-two-value3 .two-value3 .ensures .0)
+    (at-two-value4 .two-value4 .ensures .0)
     _ (at-day-of-date .day-of-date .ensures) _ (c .before .day .given .1)
 
 -- ---- not a date
@@ -77,7 +78,8 @@ returns-3 c =
     let at-is-date-form = at-if1 .before in
     let yes-is-date-form = said-yes (at-is-date-form .is-date-form .ensures) (at-if1 .if1 .left) in
     date-refused _ _ yes-is-date-form _ _ _
-    (ap₂ (λ (a b : ℕ). 100 * a + b) (at-two-value .two-value .ensures .0) (at-two-value2 .two-value2 .ensures .0)) (at-two-value3 .two-value3 .ensures .0) (at-two-value4 .two-value4 .ensures .0)
+    (ap₂ (λ (a b : ℕ). 100 * a + b) (at-two-value .two-value .ensures .0) (at-two-value2 .two-value2 .ensures .0)) (at-two-value3 .two-value3 .ensures .0)
+    (at-two-value4 .two-value4 .ensures .0)
     _ (c .before .before .day-of-date .ensures) (c .enum-told .given .1)
 
 pub date-at-spec : {M : Type 1} → statement M

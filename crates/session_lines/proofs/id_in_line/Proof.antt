@@ -18,7 +18,12 @@ id-byte-at-requires-4 c κs = omega arith
 
 returns : tie.Need-returns
 unfolding idInLine
-returns c = rw (c .id-byte-at4 .ensures, c .before .id-byte-at3 .ensures, c .before .before .id-byte-at2 .ensures, c .before .before .before .id-byte-at .ensures)
+returns c = rw (
+  c .id-byte-at4 .ensures,
+  c .before .id-byte-at3 .ensures,
+  c .before .before .id-byte-at2 .ensures,
+  c .before .before .before .id-byte-at .ensures,
+)
 
 pub id-in-line-spec : {M : Type 1} → statement M
 id-in-line-spec =

@@ -48,9 +48,13 @@ are-two-digits-requires-4 c κs = omega arith
 returns : tie.Need-returns
 unfolding dateForm
 returns c =
-    let line : ℕ → ℕ = λ i. getD (c .before .before .before .before .args .t1) i 0 in
-    let at = c .before .before .before .before .args .at in
-    ap₂ _&&_ (c .before .before .before .are-two-digits .ensures) (ap₂ _&&_ (c .before .before .are-two-digits2 .ensures) (ap (_&&_ (eqb (line (at + 4)) 45)) (ap₂ _&&_ (c .before .are-two-digits3 .ensures) (ap (_&&_ (eqb (line (at + 7)) 45)) (c .are-two-digits4 .ensures)))))
+    let args = c .before .before .before .before .args in
+    let line : ℕ → ℕ = λ i. getD (args .t1) i 0 in
+    let at = args .at in
+    ap₂ _&&_ (c .before .before .before .are-two-digits .ensures)
+    (ap₂ _&&_ (c .before .before .are-two-digits2 .ensures)
+    (ap (_&&_ (eqb (line (at + 4)) 45)) (ap₂ _&&_ (c .before .are-two-digits3 .ensures)
+    (ap (_&&_ (eqb (line (at + 7)) 45)) (c .are-two-digits4 .ensures)))))
 
 pub is-date-form-spec : {M : Type 1} → statement M
 is-date-form-spec =

@@ -27,10 +27,12 @@ returns-3 c =
     let at-date-at = c .before .before .before in
     let at-if2 = at-date-at .before in
     let at-if1 = at-if2 .before in
-    c .other-line3 .ensures ∙ move-dateless _ _ (at-if1 .if1 .left) (not-false _ (at-if2 .if2 .left)) _ (at-date-at .date-at .ensures) (not-true _ (c .before .if3 .taken))
+    c .other-line3 .ensures ∙ move-dateless _ _ (at-if1 .if1 .left) (not-false _ (at-if2 .if2 .left)) _ (at-date-at .date-at .ensures)
+    (not-true _ (c .before .if3 .taken))
 
 returns-4 : tie.Need-returns-4
-returns-4 c = move-is _ _ (c .before .before .before .before .if1 .left) (not-false _ (c .before .before .before .if2 .left)) _ (c .before .before .date-at .ensures) (not-false _ (c .if3 .left))
+returns-4 c = move-is _ _ (c .before .before .before .before .if1 .left) (not-false _ (c .before .before .before .if2 .left)) _
+    (c .before .before .date-at .ensures) (not-false _ (c .if3 .left))
 
 pub move-command-spec : {M : Type 1} → statement M
 move-command-spec =

@@ -20,7 +20,10 @@ add-result : tie.Need-add-result
 add-result c = omega (arith, c .before .digit-value .ensures .1, c .digit-value2 .ensures .1)
 
 returns : tie.Need-returns
-returns c = (rw (c .digit-value2 .ensures .0, c .before .digit-value .ensures .0), omega (arith, c .before .digit-value .ensures .1, c .digit-value2 .ensures .1))
+returns c = (
+  rw (c .digit-value2 .ensures .0, c .before .digit-value .ensures .0),
+  omega (arith, c .before .digit-value .ensures .1, c .digit-value2 .ensures .1),
+)
 
 pub two-value-spec : {M : Type 1} → statement M
 two-value-spec =

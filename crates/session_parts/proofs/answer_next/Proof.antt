@@ -24,8 +24,11 @@ returns c =
     let at-feed = c .before in
     let at-end = at-feed .before .before in
     let start = at-end .before .before .before .before .before .before in
-    let s = progressWith (start .args .s) (start .args .closed .now) (start .args .exchange .now) in
-    (goes-past _ _ _ s (start .pre .0) (start .pre .1) _ (at-end .byte-from .ensures .0 (omega (arith, start .pre .0))) _ (at-feed .feed .ensures) (c .if1 .taken), start .pre .2)
+    let s = progressWith (start .args .s) (start .args .closed .now) (start .args .exchange .now) in (
+      goes-past _ _ _ s (start .pre .0) (start .pre .1) _ (at-end .byte-from .ensures .0 (omega (arith, start .pre .0))) _ (at-feed .feed .ensures)
+          (c .if1 .taken),
+      start .pre .2,
+    )
 
 -- ---- a line that ends in the part: its answer and the place after it
 add-next : tie.Need-add-next
@@ -46,8 +49,11 @@ returns-2 c =
     let start = at-end .before .before .before .before .before .before in
     let s = progressWith (start .args .s) (start .args .closed .now) (start .args .exchange .now) in
     let r = at-reply .reply .result in
-    let a = at-reply .reply .ensures (start .pre .2) in
-    (is-answered _ _ _ s (start .pre .0) (start .pre .1) _ (at-end .byte-from .ensures .0 (omega (arith, start .pre .0))) _ (at-feed .feed .ensures) _ (keptWith (r .opened) (r .rest) _ _) (r .at) _ (at-if1 .if1 .left) (c .empty-line .ensures) (a .kept) (a .text), a .known)
+    let a = at-reply .reply .ensures (start .pre .2) in (
+      is-answered _ _ _ s (start .pre .0) (start .pre .1) _ (at-end .byte-from .ensures .0 (omega (arith, start .pre .0))) _ (at-feed .feed .ensures) _
+          (keptWith (r .opened) (r .rest) _ _) (r .at) _ (at-if1 .if1 .left) (c .empty-line .ensures) (a .kept) (a .text),
+      a .known,
+    )
 
 pub answer-next-spec : {M : Type 1} → statement M
 answer-next-spec =

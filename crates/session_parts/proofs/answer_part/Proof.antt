@@ -14,7 +14,8 @@ use Rattle.session_parts.proofs.answer_part.Tie as tie
 -- the table that is kept answers question 10 as it is carried along
 abbrev Inv-loop : tie.InvT-loop
 Inv-loop file judged part from out₀ right ten closed₀ exchange₀ s₀ out closed exchange s =
-    Going (openIn (calendarAnswer judged) file) (progressWith s₀ closed₀ exchange₀ .kept) (s₀ .line) part (s₀ .at) out₀ out (progressWith s closed exchange) × KnownStep judged right s closed exchange
+    Going (openIn (calendarAnswer judged) file) (progressWith s₀ closed₀ exchange₀ .kept) (s₀ .line) part (s₀ .at) out₀ out (progressWith s closed exchange)
+    × KnownStep judged right s closed exchange
 
 -- ---- the loop's measure
 abbrev μ-loop : tie.MeasureT-loop
@@ -32,8 +33,14 @@ table-rest-requires c κs = tt
 -- ---- before the loop
 loop-holds : tie.Need-loop-holds Inv-loop μ-loop
 loop-holds c =
-    let at-is-sound = c .before .before .before .before in
-    (begins _ _ _ _ _ _, record { calendar = at-is-sound .before .before .is-calendar-sound .ensures; tenth = rw (c .table-rest .ensures) (at-is-sound .is-sound .ensures) })
+    let at-is-sound = c .before .before .before .before in (
+      begins _ _ _ _ _ _,
+      record {
+        calendar = at-is-sound .before .before .is-calendar-sound .ensures;
+        tenth =
+            rw (c .table-rest .ensures) (at-is-sound .is-sound .ensures);
+      },
+    )
 
 goes-on-requires : tie.Need-goes-on-requires Inv-loop μ-loop
 goes-on-requires c κs = tt

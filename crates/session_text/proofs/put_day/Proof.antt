@@ -27,8 +27,11 @@ unfolding dayText dateText
 returns c =
     let at-put = c .before .before .before .before .before .before in
     let at-put-year-month = at-put .before .before .before .before in
-    let at-date-or-zeros = at-put-year-month .before .before in
-    (rw (← at-date-or-zeros .date-or-zeros .ensures) (then (at-put-year-month .put-year-month .ensures .0) (then (at-put .put .ensures .0) (c .before .before .put-two .ensures .0))), omega (arith, at-put-year-month .put-year-month .ensures .1, at-put .put .ensures .1, c .before .before .put-two .ensures .1))
+    let at-date-or-zeros = at-put-year-month .before .before in (
+      rw (← at-date-or-zeros .date-or-zeros .ensures)
+          (then (at-put-year-month .put-year-month .ensures .0) (then (at-put .put .ensures .0) (c .before .before .put-two .ensures .0))),
+      omega (arith, at-put-year-month .put-year-month .ensures .1, at-put .put .ensures .1, c .before .before .put-two .ensures .1),
+    )
 
 pub put-day-spec : {M : Type 1} → statement M
 put-day-spec =

@@ -16,7 +16,10 @@ same-length c = search needs
 
 -- ---- one and two digits
 returns : tie.Need-returns
-returns c = (rw (decimal-1 _ (c .before .before .before .before .if1 .taken)) (c .before .before .put-digit .ensures .0), omega (arith, c .before .before .put-digit .ensures .1))
+returns c = (
+  rw (decimal-1 _ (c .before .before .before .before .if1 .taken)) (c .before .before .put-digit .ensures .0),
+  omega (arith, c .before .before .put-digit .ensures .1),
+)
 
 put-two-requires : tie.Need-put-two-requires
 put-two-requires c κs = search needs
@@ -45,8 +48,11 @@ returns-3 c =
     let at-put-digit2 = c .before .before .before .before .before .before in
     let at-if3 = at-put-digit2 .before .before in
     let at-if2 = at-if3 .before in
-    let at-if1 = at-if2 .before in
-    (rw (decimal-3 _ (at-if1 .if1 .left) (at-if2 .if2 .left) (at-if3 .if3 .taken)) (then (at-put-digit2 .put-digit2 .ensures .0) (c .before .before .put-two2 .ensures .0)), omega (arith, at-put-digit2 .put-digit2 .ensures .1, c .before .before .put-two2 .ensures .1))
+    let at-if1 = at-if2 .before in (
+      rw (decimal-3 _ (at-if1 .if1 .left) (at-if2 .if2 .left) (at-if3 .if3 .taken))
+          (then (at-put-digit2 .put-digit2 .ensures .0) (c .before .before .put-two2 .ensures .0)),
+      omega (arith, at-put-digit2 .put-digit2 .ensures .1, c .before .before .put-two2 .ensures .1),
+    )
 
 put-four-requires : tie.Need-put-four-requires
 put-four-requires c κs = search needs
@@ -59,8 +65,10 @@ returns-4 c =
     let at-if4 = c .before .before .before .before in
     let at-if3 = at-if4 .before in
     let at-if2 = at-if3 .before in
-    let at-if1 = at-if2 .before in
-    (rw (decimal-4 _ (at-if1 .if1 .left) (at-if2 .if2 .left) (at-if3 .if3 .left) (at-if4 .if4 .taken)) (c .before .before .put-four .ensures .0), omega (arith, c .before .before .put-four .ensures .1))
+    let at-if1 = at-if2 .before in (
+      rw (decimal-4 _ (at-if1 .if1 .left) (at-if2 .if2 .left) (at-if3 .if3 .left) (at-if4 .if4 .taken)) (c .before .before .put-four .ensures .0),
+      omega (arith, c .before .before .put-four .ensures .1),
+    )
 
 put-digit-requires-3 : tie.Need-put-digit-requires-3
 put-digit-requires-3 c κs = search needs
@@ -78,8 +86,11 @@ returns-5 c =
     let at-if4 = at-put-digit3 .before .before in
     let at-if3 = at-if4 .before in
     let at-if2 = at-if3 .before in
-    let at-if1 = at-if2 .before in
-    (rw (decimal-5 _ (at-if1 .if1 .left) (at-if2 .if2 .left) (at-if3 .if3 .left) (at-if4 .if4 .left)) (then (at-put-digit3 .put-digit3 .ensures .0) (c .before .before .put-four2 .ensures .0)), omega (arith, at-put-digit3 .put-digit3 .ensures .1, c .before .before .put-four2 .ensures .1))
+    let at-if1 = at-if2 .before in (
+      rw (decimal-5 _ (at-if1 .if1 .left) (at-if2 .if2 .left) (at-if3 .if3 .left) (at-if4 .if4 .left))
+          (then (at-put-digit3 .put-digit3 .ensures .0) (c .before .before .put-four2 .ensures .0)),
+      omega (arith, at-put-digit3 .put-digit3 .ensures .1, c .before .before .put-four2 .ensures .1),
+    )
 
 pub put-decimal-spec : {M : Type 1} → statement M
 put-decimal-spec =

@@ -18,8 +18,10 @@ same-length c = search needs
 returns : tie.Need-returns
 unfolding inFourDigits
 returns c =
-    let at-put-two = c .before .before .before .before .before .before in
-    (then (at-put-two .put-two .ensures .0) (c .before .before .put-two2 .ensures .0), omega (arith, at-put-two .put-two .ensures .1, c .before .before .put-two2 .ensures .1))
+    let at-put-two = c .before .before .before .before .before .before in (
+      then (at-put-two .put-two .ensures .0) (c .before .before .put-two2 .ensures .0),
+      omega (arith, at-put-two .put-two .ensures .1, c .before .before .put-two2 .ensures .1),
+    )
 
 pub put-four-spec : {M : Type 1} → statement M
 put-four-spec =

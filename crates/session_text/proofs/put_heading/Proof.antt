@@ -39,9 +39,24 @@ returns c =
     let at-put-spaced = at-put-spaced2 .before .before .before .before in
     let at-put-day = at-put-spaced .before .before .before .before in
     let at-put2 = at-put-day .before .before .before .before in
-    let at-put = at-put2 .before .before .before .before in
-    (then (at-put .put .ensures .0) (then (at-put2 .put2 .ensures .0) (then (at-put-day .put-day .ensures .0) (then (at-put-spaced .put-spaced .ensures .0) (then (at-put-spaced2 .put-spaced2 .ensures .0) (then (at-put-spaced3 .put-spaced3 .ensures .0) (c .before .before .put3 .ensures .0)))))), omega (arith, at-put .put .ensures .1, at-put2 .put2 .ensures .1, at-put-day .put-day .ensures .1, at-put-spaced .put-spaced .ensures .1, at-put-spaced2 .put-spaced2 .ensures .1, at-put-spaced3 .put-spaced3 .ensures .1, c .before .before .put3 .ensures .1))
+    let at-put = at-put2 .before .before .before .before in (
+      then (at-put .put .ensures .0) (then (at-put2 .put2 .ensures .0)
+          (then (at-put-day .put-day .ensures .0)
+          (then (at-put-spaced .put-spaced .ensures .0)
+          (then (at-put-spaced2 .put-spaced2 .ensures .0) (then (at-put-spaced3 .put-spaced3 .ensures .0) (c .before .before .put3 .ensures .0)))))),
+      omega (
+        arith,
+        at-put .put .ensures .1,
+        at-put2 .put2 .ensures .1,
+        at-put-day .put-day .ensures .1,
+        at-put-spaced .put-spaced .ensures .1,
+        at-put-spaced2 .put-spaced2 .ensures .1,
+        at-put-spaced3 .put-spaced3 .ensures .1,
+        c .before .before .put3 .ensures .1,
+      ),
+    )
 
 pub put-heading-spec : {M : Type 1} → statement M
 put-heading-spec =
-    tie.close (tie.spec put-requires put-requires-2 put-day-requires put-spaced-requires put-spaced-requires-2 put-spaced-requires-3 put-requires-3 same-length returns)
+    tie.close (tie.spec put-requires put-requires-2 put-day-requires put-spaced-requires put-spaced-requires-2 put-spaced-requires-3 put-requires-3 same-length
+    returns)

@@ -14,7 +14,8 @@ use Rattle.session_text.proofs.put_maturities.Tie as tie
 -- ---- what the loop keeps
 abbrev Inv-loop : tie.InvT-loop
 Inv-loop out₀ at kind n maturities next₀ i₀ out next i =
-    (n ≤ 15) × (linesWidth kind n ≤ 465) × (at + 465 ≤ length out₀) × (i ≤ n) × (next ≤ at + linesWidth kind i) × Written out₀ out at next (maturitiesText kind i maturities)
+    (n ≤ 15) × (linesWidth kind n ≤ 465) × (at + 465 ≤ length out₀) × (i ≤ n) × (next ≤ at + linesWidth kind i)
+    × Written out₀ out at next (maturitiesText kind i maturities)
 
 abbrev μ-loop : tie.MeasureT-loop
 μ-loop out₀ at kind n maturities next₀ i₀ out next i = n - i
@@ -46,8 +47,19 @@ loop-less c = omega arith
 loop-again : tie.Need-loop-again Inv-loop μ-loop
 loop-again c =
     let at-loop = c .before .before .before .before .before .before in
-    let v = at-loop .loop .inv in
-    (v .0, v .1, v .2, omega arith, omega (arith, v .4, lines-wider (at-loop .before .before .args .kind) (at-loop .loop .i), c .before .before .put-maturity .ensures .1), rw (more-lines _ _ _) (then (v .5) (c .before .before .put-maturity .ensures .0)))
+    let v = at-loop .loop .inv in (
+      v .0,
+      v .1,
+      v .2,
+      omega arith,
+      omega (
+        arith,
+        v .4,
+        lines-wider (at-loop .before .before .args .kind) (at-loop .loop .i),
+        c .before .before .put-maturity .ensures .1,
+      ),
+      rw (more-lines _ _ _) (then (v .5) (c .before .before .put-maturity .ensures .0)),
+    )
 
 -- ---- after the loop
 same-length : tie.Need-same-length Inv-loop μ-loop
@@ -55,8 +67,10 @@ same-length c = c .before .loop .inv .5 .long
 
 returns : tie.Need-returns Inv-loop μ-loop
 returns c =
-    let v = c .before .loop .inv in
-    (lines-done _ _ _ _ (c .loop-test .left) (v .3) (v .5), omega (arith, v .1, v .4, lines-rise (c .before .before .before .args .kind) (c .before .loop .i) _ (v .3)))
+    let v = c .before .loop .inv in (
+      lines-done _ _ _ _ (c .loop-test .left) (v .3) (v .5),
+      omega (arith, v .1, v .4, lines-rise (c .before .before .before .args .kind) (c .before .loop .i) _ (v .3)),
+    )
 
 pub put-maturities-spec : {M : Type 1} → statement M
 put-maturities-spec =

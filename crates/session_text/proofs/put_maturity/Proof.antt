@@ -39,9 +39,24 @@ returns c =
     let at-put2 = at-put-day .before .before .before .before in
     let at-put-name = at-put2 .before .before .before .before in
     let at-put = at-put-name .before .before .before .before in
-    let at-put-decimal = at-put .before .before .before .before in
-    (then (at-put-decimal .put-decimal .ensures .0) (then (at-put .put .ensures .0) (then (at-put-name .put-name .ensures .0) (then (at-put2 .put2 .ensures .0) (then (at-put-day .put-day .ensures .0) (then (at-put-spaced .put-spaced .ensures .0) (c .before .before .put3 .ensures .0)))))), omega (arith, at-put-decimal .put-decimal .ensures .1, at-put .put .ensures .1, at-put-name .put-name .ensures .1, at-put2 .put2 .ensures .1, at-put-day .put-day .ensures .1, at-put-spaced .put-spaced .ensures .1, c .before .before .put3 .ensures .1))
+    let at-put-decimal = at-put .before .before .before .before in (
+      then (at-put-decimal .put-decimal .ensures .0)
+          (then (at-put .put .ensures .0) (then (at-put-name .put-name .ensures .0)
+          (then (at-put2 .put2 .ensures .0) (then (at-put-day .put-day .ensures .0)
+          (then (at-put-spaced .put-spaced .ensures .0) (c .before .before .put3 .ensures .0)))))),
+      omega (
+        arith,
+        at-put-decimal .put-decimal .ensures .1,
+        at-put .put .ensures .1,
+        at-put-name .put-name .ensures .1,
+        at-put2 .put2 .ensures .1,
+        at-put-day .put-day .ensures .1,
+        at-put-spaced .put-spaced .ensures .1,
+        c .before .before .put3 .ensures .1,
+      ),
+    )
 
 pub put-maturity-spec : {M : Type 1} → statement M
 put-maturity-spec =
-    tie.close (tie.spec put-decimal-requires put-requires put-name-requires put-requires-2 put-day-requires put-spaced-requires put-requires-3 same-length returns)
+    tie.close (tie.spec put-decimal-requires put-requires put-name-requires put-requires-2 put-day-requires put-spaced-requires put-requires-3 same-length
+    returns)

@@ -9,7 +9,11 @@ use Rattle.session_text.proofs.put_name.Statement.{statement}
 use Rattle.session_text.proofs.put_name.Tie as tie
 
 put-day-requires : tie.Need-put-day-requires
-put-day-requires c κs = omega (arith, width-weekly (c .before .before .before .before .args .kind) (sym (c .before .before .is-weekly .ensures) ∙ c .before .if1 .taken))
+put-day-requires c κs = omega (
+  arith,
+  width-weekly (c .before .before .before .before .args .kind)
+      (sym (c .before .before .is-weekly .ensures) ∙ c .before .if1 .taken),
+)
 
 same-length : tie.Need-same-length
 same-length c = search needs
@@ -18,11 +22,17 @@ returns : tie.Need-returns
 unfolding nameText
 returns c =
     let at-if1 = c .before .before .before .before in
-    let w = sym (at-if1 .before .is-weekly .ensures) ∙ at-if1 .if1 .taken in
-    (rw w (c .before .before .put-day .ensures .0), omega (arith, width-weekly (at-if1 .before .before .before .args .kind) w, c .before .before .put-day .ensures .1))
+    let w = sym (at-if1 .before .is-weekly .ensures) ∙ at-if1 .if1 .taken in (
+      rw w (c .before .before .put-day .ensures .0),
+      omega (arith, width-weekly (at-if1 .before .before .before .args .kind) w, c .before .before .put-day .ensures .1),
+    )
 
 put-month-requires : tie.Need-put-month-requires
-put-month-requires c κs = omega (arith, width-months (c .before .before .before .before .args .kind) (sym (c .before .before .is-weekly .ensures) ∙ c .before .if1 .left))
+put-month-requires c κs = omega (
+  arith,
+  width-months (c .before .before .before .before .args .kind)
+      (sym (c .before .before .is-weekly .ensures) ∙ c .before .if1 .left),
+)
 
 same-length-2 : tie.Need-same-length-2
 same-length-2 c = search needs
@@ -31,8 +41,10 @@ returns-2 : tie.Need-returns-2
 unfolding nameText
 returns-2 c =
     let at-if1 = c .before .before .before .before in
-    let w = sym (at-if1 .before .is-weekly .ensures) ∙ at-if1 .if1 .left in
-    (rw w (c .before .before .put-month .ensures .0), omega (arith, width-months (at-if1 .before .before .before .args .kind) w, c .before .before .put-month .ensures .1))
+    let w = sym (at-if1 .before .is-weekly .ensures) ∙ at-if1 .if1 .left in (
+      rw w (c .before .before .put-month .ensures .0),
+      omega (arith, width-months (at-if1 .before .before .before .args .kind) w, c .before .before .put-month .ensures .1),
+    )
 
 pub put-name-spec : {M : Type 1} → statement M
 put-name-spec =

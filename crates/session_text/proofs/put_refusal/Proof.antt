@@ -27,8 +27,10 @@ unfolding refusalText
 returns c =
     let at-put-spaced = c .before .before .before .before .before .before in
     let at-put2 = at-put-spaced .before .before .before .before in
-    let at-put = at-put2 .before .before .before .before in
-    (then (at-put .put .ensures .0) (then (at-put2 .put2 .ensures .0) (then (at-put-spaced .put-spaced .ensures .0) (c .before .before .put3 .ensures .0))), omega (arith, at-put .put .ensures .1, at-put2 .put2 .ensures .1, at-put-spaced .put-spaced .ensures .1, c .before .before .put3 .ensures .1))
+    let at-put = at-put2 .before .before .before .before in (
+      then (at-put .put .ensures .0) (then (at-put2 .put2 .ensures .0) (then (at-put-spaced .put-spaced .ensures .0) (c .before .before .put3 .ensures .0))),
+      omega (arith, at-put .put .ensures .1, at-put2 .put2 .ensures .1, at-put-spaced .put-spaced .ensures .1, c .before .before .put3 .ensures .1),
+    )
 
 pub put-refusal-spec : {M : Type 1} → statement M
 put-refusal-spec =

@@ -18,8 +18,10 @@ same-length c = search needs
 returns : tie.Need-returns
 unfolding spaced
 returns c =
-    let at-put = c .before .before .before .before .before .before in
-    (then (at-put .put .ensures .0) (c .before .before .put-decimal .ensures .0), omega (arith, at-put .put .ensures .1, c .before .before .put-decimal .ensures .1))
+    let at-put = c .before .before .before .before .before .before in (
+      then (at-put .put .ensures .0) (c .before .before .put-decimal .ensures .0),
+      omega (arith, at-put .put .ensures .1, c .before .before .put-decimal .ensures .1),
+    )
 
 pub put-spaced-spec : {M : Type 1} → statement M
 put-spaced-spec =

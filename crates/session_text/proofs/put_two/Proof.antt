@@ -18,8 +18,10 @@ same-length c = search needs
 returns : tie.Need-returns
 unfolding inTwoDigits
 returns c =
-    let at-put-digit = c .before .before .before .before .before .before in
-    (then (at-put-digit .put-digit .ensures .0) (c .before .before .put-digit2 .ensures .0), omega (arith, at-put-digit .put-digit .ensures .1, c .before .before .put-digit2 .ensures .1))
+    let at-put-digit = c .before .before .before .before .before .before in (
+      then (at-put-digit .put-digit .ensures .0) (c .before .before .put-digit2 .ensures .0),
+      omega (arith, at-put-digit .put-digit .ensures .1, c .before .before .put-digit2 .ensures .1),
+    )
 
 pub put-two-spec : {M : Type 1} → statement M
 put-two-spec =

@@ -43,8 +43,11 @@ returns-3 : tie.Need-returns-3
 returns-3 c =
     let at-put2 = c .before .before .before .before .before .before in
     let at-put = at-put2 .before .before .before .before in
-    let at-if2 = at-put .before .before in
-    (rw (year-digits _ (at-if2 .before .if1 .left) (at-if2 .if2 .left)) (then (at-put .put .ensures .0) (then (at-put2 .put2 .ensures .0) (c .before .before .put-two .ensures .0))), omega (arith, at-put .put .ensures .1, at-put2 .put2 .ensures .1, c .before .before .put-two .ensures .1))
+    let at-if2 = at-put .before .before in (
+      rw (year-digits _ (at-if2 .before .if1 .left) (at-if2 .if2 .left))
+          (then (at-put .put .ensures .0) (then (at-put2 .put2 .ensures .0) (c .before .before .put-two .ensures .0))),
+      omega (arith, at-put .put .ensures .1, at-put2 .put2 .ensures .1, c .before .before .put-two .ensures .1),
+    )
 
 pub put-year-spec : {M : Type 1} → statement M
 put-year-spec =

@@ -22,8 +22,10 @@ returns : tie.Need-returns
 unfolding yearMonth
 returns c =
     let at-put = c .before .before .before .before .before .before in
-    let at-put-year = at-put .before .before .before .before in
-    (then (at-put-year .put-year .ensures .0) (then (at-put .put .ensures .0) (c .before .before .put-two .ensures .0)), omega (arith, at-put-year .put-year .ensures .1, at-put .put .ensures .1, c .before .before .put-two .ensures .1))
+    let at-put-year = at-put .before .before .before .before in (
+      then (at-put-year .put-year .ensures .0) (then (at-put .put .ensures .0) (c .before .before .put-two .ensures .0)),
+      omega (arith, at-put-year .put-year .ensures .1, at-put .put .ensures .1, c .before .before .put-two .ensures .1),
+    )
 
 pub put-year-month-spec : {M : Type 1} → statement M
 put-year-month-spec =

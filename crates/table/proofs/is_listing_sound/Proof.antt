@@ -32,7 +32,8 @@ returns-3 c =
     let start = at-is-fresh .before in
     let yes-is-fresh = said-yes (at-is-fresh .is-fresh .ensures) (at-if1 .if1 .left) in
     let t = start .args .t in
-    sym (listing-few t yes-is-fresh (said-yes (at-are-numbers-right .are-numbers-right .ensures) (at-if2 .if2 .left)) _ (c .before .before .places-of-kind .ensures .0) (c .if3 .taken))
+    sym (listing-few t yes-is-fresh (said-yes (at-are-numbers-right .are-numbers-right .ensures) (at-if2 .if2 .left)) _
+    (c .before .before .places-of-kind .ensures .0) (c .if3 .taken))
 
 array-copy-out-first : tie.Need-array-copy-out-first
 array-copy-out-first c = omega arith
@@ -49,7 +50,9 @@ returns-4 c =
     let yes-is-fresh = said-yes (at-is-fresh .is-fresh .ensures) (at-if1 .if1 .left) in
     let t = start .args .t in
     let fresh = both (coveredIn t (t .calendar) (t .date)) (listsFresh t) yes-is-fresh in
-    listing-rest t yes-is-fresh (said-yes (at-are-numbers-right .are-numbers-right .ensures) (at-if2 .if2 .left)) _ (at-places-of-kind .places-of-kind .ensures .0) _ (c .before .before .before .if3 .left) (keys-there t (fresh .0) (fresh .1) _ (c .keys-before .ensures))
+    listing-rest t yes-is-fresh (said-yes (at-are-numbers-right .are-numbers-right .ensures) (at-if2 .if2 .left)) _
+    (at-places-of-kind .places-of-kind .ensures .0) _ (c .before .before .before .if3 .left)
+    (keys-there t (fresh .0) (fresh .1) _ (c .keys-before .ensures))
 
 pub is-listing-sound-spec : {M : Type 1} → statement M
 is-listing-sound-spec =

@@ -11,7 +11,8 @@ returns c =
     (in-refused _ _ _ _ _ (c .before .before .before .opening-in .ensures) (c .before .before .if1 .taken))
 
 returns-2 : tie.Need-returns-2
-returns-2 c = c .opened-with .ensures ∙ in-accepted _ _ _ _ _ (c .before .before .before .before .before .opening-in .ensures) (c .before .before .before .before .if1 .left)
+returns-2 c = c .opened-with .ensures ∙ in-accepted _ _ _ _ _ (c .before .before .before .before .before .opening-in .ensures)
+    (c .before .before .before .before .if1 .left)
 
 pub open-in-spec : {M : Type 1} → statement M
 open-in-spec =

@@ -32,7 +32,8 @@ returns-2 : tie.Need-returns-2 Inv-loop μ-loop
 returns-2 c =
     let at-if1 = c .before .before in
     let at-loop-test = at-if1 .before in
-    search-at _ _ _ (at-loop-test .loop-test .taken) (at-loop-test .before .loop .inv .2) (rw (le-leb _ _ (at-if1 .if1 .left)) (sym (c .before .is-trading-day-in .ensures) ∙ c .if2 .taken))
+    search-at _ _ _ (at-loop-test .loop-test .taken) (at-loop-test .before .loop .inv .2)
+    (rw (le-leb _ _ (at-if1 .if1 .left)) (sym (c .before .is-trading-day-in .ensures) ∙ c .if2 .taken))
 
 add-n : tie.Need-add-n Inv-loop μ-loop
 add-n c = omega arith
@@ -43,8 +44,12 @@ loop-less c = omega arith
 loop-again : tie.Need-loop-again Inv-loop μ-loop
 loop-again c =
     let at-if1 = c .before .before in
-    let at-loop-test = at-if1 .before in
-    (omega arith, omega arith, search-on _ _ _ (at-loop-test .loop-test .taken) (at-loop-test .before .loop .inv .2) (rw (le-leb _ _ (at-if1 .if1 .left)) (sym (c .before .is-trading-day-in .ensures) ∙ c .if2 .left)))
+    let at-loop-test = at-if1 .before in (
+      omega arith,
+      omega arith,
+      search-on _ _ _ (at-loop-test .loop-test .taken) (at-loop-test .before .loop .inv .2)
+          (rw (le-leb _ _ (at-if1 .if1 .left)) (sym (c .before .is-trading-day-in .ensures) ∙ c .if2 .left)),
+    )
 
 -- ---- after the loop
 returns-3 : tie.Need-returns-3 Inv-loop μ-loop

@@ -11,7 +11,8 @@ use Rattle.table.proofs.steps_on.Statement.{statement}
 use Rattle.table.proofs.steps_on.Tie as tie
 
 abbrev Inv-loop : tie.InvT-loop
-Inv-loop cover closed day n₀ n = (1 ≤ n) × (n ≤ 7) × (day < 36525) × Searching (onTest (calendarWith cover closed) day) n (stepsOn (calendarWith cover closed) day)
+Inv-loop cover closed day n₀ n = (1 ≤ n) × (n ≤ 7) × (day < 36525)
+    × Searching (onTest (calendarWith cover closed) day) n (stepsOn (calendarWith cover closed) day)
 
 abbrev μ-loop : tie.MeasureT-loop
 μ-loop cover closed day n₀ n = 7 - n
@@ -43,8 +44,12 @@ loop-less c = omega arith
 
 loop-again : tie.Need-loop-again Inv-loop μ-loop
 loop-again c =
-    let at-loop-test = c .before .before in
-    (omega arith, omega arith, omega arith, search-on _ _ _ (at-loop-test .loop-test .taken) (at-loop-test .before .loop .inv .3) (sym (c .before .is-trading-day-in .ensures) ∙ c .if2 .left))
+    let at-loop-test = c .before .before in (
+      omega arith,
+      omega arith,
+      omega arith,
+      search-on _ _ _ (at-loop-test .loop-test .taken) (at-loop-test .before .loop .inv .3) (sym (c .before .is-trading-day-in .ensures) ∙ c .if2 .left),
+    )
 
 -- ---- after the loop
 returns-3 : tie.Need-returns-3 Inv-loop μ-loop

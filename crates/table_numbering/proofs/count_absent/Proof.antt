@@ -14,7 +14,9 @@ use Rattle.table_numbering.proofs.count_absent.Tie as tie
 
 -- ---- what the loop keeps
 abbrev Inv-loop : tie.InvT-loop
-Inv-loop others n maturities count₀ i₀ count i = (n ≤ length maturities) × (n ≤ 15) × (count ≤ i) × (i ≤ n) × (count + length (missing (drop i (take n maturities)) (take n others)) ≡ length (missing (take n maturities) (take n others)))
+Inv-loop others n maturities count₀ i₀ count i =
+    (n ≤ length maturities) × (n ≤ 15) × (count ≤ i) × (i ≤ n)
+    × (count + length (missing (drop i (take n maturities)) (take n others)) ≡ length (missing (take n maturities) (take n others)))
 
 abbrev μ-loop : tie.MeasureT-loop
 μ-loop others n maturities count₀ i₀ count i = n - i
@@ -33,7 +35,9 @@ absent-requires : tie.Need-absent-requires Inv-loop μ-loop
 absent-requires c κs = omega arith
 
 add-count : tie.Need-add-count Inv-loop μ-loop
-add-count c = omega (arith, c .absent .ensures, cond-most (isListed (take (c .before .before .before .before .args .n) (c .before .before .before .before .args .others)) (getD (c .before .before .before .before .args .t1) (c .before .before .before .loop .i) unused .key)))
+add-count c =
+    let args = c .before .before .before .before .args in
+    omega (arith, c .absent .ensures, cond-most (isListed (take (args .n) (args .others)) (getD (args .t1) (c .before .before .before .loop .i) unused .key)))
 
 add-i : tie.Need-add-i Inv-loop μ-loop
 add-i c = omega arith
@@ -43,15 +47,27 @@ loop-less c = omega arith
 
 loop-again : tie.Need-loop-again Inv-loop μ-loop
 loop-again c =
+    let args = c .before .before .before .before .args in
     let v = c .before .before .before .loop .inv in
-    let e = missing-next (c .before .before .before .before .args .t1) (c .before .before .before .before .args .n) (c .before .before .before .loop .i) (c .before .before .before .loop .inv .0) (take (c .before .before .before .before .args .n) (c .before .before .before .before .args .others)) (c .before .before .loop-test .taken) in
-    (v .0, v .1, omega (arith, c .absent .ensures, cond-most (isListed (take (c .before .before .before .before .args .n) (c .before .before .before .before .args .others)) (getD (c .before .before .before .before .args .t1) (c .before .before .before .loop .i) unused .key))), omega arith, omega (arith, c .absent .ensures, e, v .4))
+    let e = missing-next (args .t1) (args .n) (c .before .before .before .loop .i) (c .before .before .before .loop .inv .0) (take (args .n) (args .others))
+    (c .before .before .loop-test .taken) in (
+      v .0,
+      v .1,
+      omega (
+        arith,
+        c .absent .ensures,
+        cond-most (isListed (take (args .n) (args .others)) (getD (args .t1) (c .before .before .before .loop .i) unused .key)),
+      ),
+      omega arith,
+      omega (arith, c .absent .ensures, e, v .4),
+    )
 
 -- ---- after the loop
 returns : tie.Need-returns Inv-loop μ-loop
 returns c =
+    let args = c .before .before .args in
     let v = c .before .loop .inv in
-    (omega (arith, v .4, missing-none (c .before .before .args .t1) (c .before .before .args .n) (c .before .loop .i) (v .0) (take (c .before .before .args .n) (c .before .before .args .others)) (c .loop-test .left)), omega arith)
+    (omega (arith, v .4, missing-none (args .t1) (args .n) (c .before .loop .i) (v .0) (take (args .n) (args .others)) (c .loop-test .left)), omega arith)
 
 pub count-absent-spec : {M : Type 1} → statement M
 count-absent-spec =

@@ -26,7 +26,9 @@ array-copy-out-m : tie.Need-array-copy-out-m Inv-loop μ-loop
 array-copy-out-m c = omega arith
 
 returns : tie.Need-returns Inv-loop μ-loop
-returns c = sym (listed-here _ _ _ (c .before .before .before .before .loop .inv .0) _ (c .before .before .before .loop-test .taken) (c .if1 .taken)) ∙ c .before .before .before .before .loop .inv .1
+returns c =
+    let before-4 = c .before .before .before .before in
+    sym (listed-here _ _ _ (before-4 .loop .inv .0) _ (c .before .before .before .loop-test .taken) (c .if1 .taken)) ∙ before-4 .loop .inv .1
 
 add-i : tie.Need-add-i Inv-loop μ-loop
 add-i c = omega arith
@@ -35,7 +37,9 @@ loop-less : tie.Need-loop-less Inv-loop μ-loop
 loop-less c = omega arith
 
 loop-again : tie.Need-loop-again Inv-loop μ-loop
-loop-again c = (c .before .before .before .before .loop .inv .0, listed-next _ _ _ (c .before .before .before .before .loop .inv .0) _ (c .before .before .before .loop-test .taken) (c .if1 .left) ∙ c .before .before .before .before .loop .inv .1)
+loop-again c =
+    let before-4 = c .before .before .before .before in
+    (before-4 .loop .inv .0, listed-next _ _ _ (before-4 .loop .inv .0) _ (c .before .before .before .loop-test .taken) (c .if1 .left) ∙ before-4 .loop .inv .1)
 
 returns-2 : tie.Need-returns-2 Inv-loop μ-loop
 returns-2 c = sym (listed-none _ _ _ (c .before .loop .inv .0) _ (c .loop-test .left)) ∙ c .before .loop .inv .1

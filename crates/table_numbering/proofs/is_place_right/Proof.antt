@@ -36,7 +36,12 @@ returns-4 c =
 returns-5 : tie.Need-returns-5
 returns-5 c =
     let at-if2 = c .before .before .before .before .before in
-    rw (eq-eqb _ _ (at-if2 .before .before .before .if1 .left), eq-eqb _ _ (at-if2 .if2 .left), eq-eqb _ _ (c .before .before .if3 .left), le-ltb _ _ (c .before .if4 .left))
+    rw (
+      eq-eqb _ _ (at-if2 .before .before .before .if1 .left),
+      eq-eqb _ _ (at-if2 .if2 .left),
+      eq-eqb _ _ (c .before .before .if3 .left),
+      le-ltb _ _ (c .before .if4 .left),
+    )
 
 pub is-place-right-spec : {M : Type 1} → statement M
 is-place-right-spec =

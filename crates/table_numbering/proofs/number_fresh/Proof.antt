@@ -10,7 +10,8 @@ use Rattle.table_numbering.proofs.number_fresh.Tie as tie
 
 -- ---- what the loop keeps
 abbrev Inv-loop : tie.InvT-loop
-Inv-loop old k n given fresh maturities₀ given-so-far₀ i₀ maturities given-so-far i = (n ≤ length fresh) × (n ≤ 15) × (given ≤ 60000) × Numbering (take k old) fresh n given maturities given-so-far i
+Inv-loop old k n given fresh maturities₀ given-so-far₀ i₀ maturities given-so-far i =
+    (n ≤ length fresh) × (n ≤ 15) × (given ≤ 60000) × Numbering (take k old) fresh n given maturities given-so-far i
 
 abbrev μ-loop : tie.MeasureT-loop
 μ-loop old k n given fresh maturities₀ given-so-far₀ i₀ maturities given-so-far i = n - i

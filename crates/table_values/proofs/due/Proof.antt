@@ -11,7 +11,8 @@ returns : tie.Need-returns
 returns c = c .no-day .ensures ∙ sym (due-10 _ _ (said-no (c .before .before .is-sound .ensures) (c .before .if1 .taken)))
 
 returns-2 : tie.Need-returns-2
-returns-2 c = c .no-day2 .ensures ∙ sym (due-11 _ _ (said-yes (c .before .before .before .before .is-sound .ensures) (c .before .before .before .if1 .left)) (said-no (c .before .before .in-cover .ensures) (c .before .if2 .taken)))
+returns-2 c = c .no-day2 .ensures ∙ sym (due-11 _ _ (said-yes (c .before .before .before .before .is-sound .ensures) (c .before .before .before .if1 .left))
+    (said-no (c .before .before .in-cover .ensures) (c .before .if2 .taken)))
 
 cast-n : tie.Need-cast-n
 cast-n c = search needs
@@ -26,7 +27,9 @@ returns-3 c =
     let at-is-sound = at-if1 .before in
     let yes-is-sound = said-yes (at-is-sound .is-sound .ensures) (at-if1 .if1 .left) in
     let yes-in-cover = said-yes (at-in-cover .in-cover .ensures) (at-if2 .if2 .left) in
-    c .no-day3 .ensures ∙ sym (due-17 _ _ yes-is-sound yes-in-cover _ (due-is _ _ _ _ (at-settlement-days .settlement-days .ensures) (at-nth-exchange-day .nth-exchange-day .ensures)) (said-no (c .before .before .in-cover2 .ensures) (c .before .if3 .taken)))
+    c .no-day3 .ensures ∙ sym (due-17 _ _ yes-is-sound yes-in-cover _
+    (due-is _ _ _ _ (at-settlement-days .settlement-days .ensures) (at-nth-exchange-day .nth-exchange-day .ensures))
+    (said-no (c .before .before .in-cover2 .ensures) (c .before .if3 .taken)))
 
 returns-4 : tie.Need-returns-4
 returns-4 c =
@@ -37,7 +40,8 @@ returns-4 c =
     let at-is-sound = at-if1 .before in
     let yes-is-sound = said-yes (at-is-sound .is-sound .ensures) (at-if1 .if1 .left) in
     let yes-in-cover = said-yes (at-in-cover .in-cover .ensures) (at-if2 .if2 .left) in
-    sym (due-yes _ _ yes-is-sound yes-in-cover _ (due-is _ _ _ _ (at-settlement-days .settlement-days .ensures) (c .before .before .nth-exchange-day .ensures)) (said-yes (c .before .in-cover2 .ensures) (c .if3 .left)))
+    sym (due-yes _ _ yes-is-sound yes-in-cover _ (due-is _ _ _ _ (at-settlement-days .settlement-days .ensures) (c .before .before .nth-exchange-day .ensures))
+    (said-yes (c .before .in-cover2 .ensures) (c .if3 .left)))
 
 pub due-spec : {M : Type 1} → statement M
 due-spec =

@@ -10,7 +10,9 @@ returns : tie.Need-returns
 returns c = c .no-last-day .ensures ∙ sym (last-day-10 _ _ (said-no (c .before .before .is-sound .ensures) (c .before .if1 .taken)))
 
 returns-2 : tie.Need-returns-2
-returns-2 c = c .no-last-day2 .ensures ∙ sym (last-day-18 _ _ (said-yes (c .before .before .before .before .is-sound .ensures) (c .before .before .before .if1 .left)) (said-no (c .before .before .is-listed .ensures) (c .before .if2 .taken)))
+returns-2 c = c .no-last-day2 .ensures ∙
+    sym (last-day-18 _ _ (said-yes (c .before .before .before .before .is-sound .ensures) (c .before .before .before .if1 .left))
+    (said-no (c .before .before .is-listed .ensures) (c .before .if2 .taken)))
 
 returns-3 : tie.Need-returns-3
 returns-3 c =

@@ -13,7 +13,8 @@ use Rattle.table_vendor.proofs.is_absent.Tie as tie
 
 -- ---- what the loop keeps
 abbrev Inv-loop : tie.InvT-loop
-Inv-loop list from key n j₀ j = (n ≡ entryCount list) × (2 * n ≤ 18446744073709551616) × (times (drop j (entriesOf list)) key ≡ times (drop from (entriesOf list)) key)
+Inv-loop list from key n j₀ j = (n ≡ entryCount list) × (2 * n ≤ 18446744073709551616)
+    × (times (drop j (entriesOf list)) key ≡ times (drop from (entriesOf list)) key)
 
 abbrev μ-loop : tie.MeasureT-loop
 μ-loop list from key n j₀ j = n - j
@@ -49,8 +50,12 @@ loop-again : tie.Need-loop-again Inv-loop μ-loop
 loop-again c =
     let at-loop = c .before .before .before in
     let start = at-loop .before .before .before in
-    let v = at-loop .loop .inv in
-    (v .0, v .1, times-next (start .args .list .now) (at-loop .loop .j) (start .args .key) (omega (arith, v .0, c .before .before .loop-test .taken)) (λ q. c .if1 .left (c .before .list-number .ensures ∙ q)) ∙ v .2)
+    let v = at-loop .loop .inv in (
+      v .0,
+      v .1,
+      times-next (start .args .list .now) (at-loop .loop .j) (start .args .key) (omega (arith, v .0, c .before .before .loop-test .taken))
+          (λ q. c .if1 .left (c .before .list-number .ensures ∙ q)) ∙ v .2,
+    )
 
 -- ---- after the loop
 returns-2 : tie.Need-returns-2 Inv-loop μ-loop

@@ -24,7 +24,8 @@ verdict-of-requires c κs =
     let start = at-places .before .before .before .before .before .before in
     let e = said-yes (at-places .before .before .before .before .is-sound .ensures) (at-places .before .before .before .if1 .left) in
     let l : length (start .args .t .maturities) ≡ 15 = simp length-map at (start .good .0 .1 .1 .1 .1 .1 .0 .1 .0 .1) in
-    least-most (start .args .t) e l (start .args .list .now) _ _ _ (at-places .places-of-kind .ensures .0) (c .before .least-listed .ensures) (c .least-other .ensures)
+    least-most (start .args .t) e l (start .args .list .now) _ _ _ (at-places .places-of-kind .ensures .0) (c .before .least-listed .ensures)
+    (c .least-other .ensures)
 
 returns-2 : tie.Need-returns-2
 returns-2 c =
@@ -33,7 +34,8 @@ returns-2 c =
     let e = said-yes (at-places .before .before .before .before .is-sound .ensures) (at-places .before .before .before .if1 .left) in
     let l : length (start .args .t .maturities) ≡ 15 = simp length-map at (start .good .0 .1 .1 .1 .1 .1 .0 .1 .0 .1) in
     c .verdict-of .ensures
-    ∙ vendor-said (start .args .t) e l (start .args .list .now) _ _ _ (at-places .places-of-kind .ensures .0) (c .before .before .least-listed .ensures) (c .before .least-other .ensures)
+    ∙ vendor-said (start .args .t) e l (start .args .list .now) _ _ _ (at-places .places-of-kind .ensures .0) (c .before .before .least-listed .ensures)
+    (c .before .least-other .ensures)
 
 pub judge-spec : {M : Type 1} → statement M
 judge-spec =

@@ -13,7 +13,9 @@ use Rattle.table_vendor.proofs.least_listed.Tie as tie
 
 -- ---- what the loop keeps
 abbrev Inv-loop : tie.InvT-loop
-Inv-loop n list maturities least₀ i₀ least i = (n ≤ length maturities) × (n ≤ 15) × (leastListed (entriesOf list) (drop i (take n maturities)) least ≡ leastListed (entriesOf list) (take n maturities) 65536)
+Inv-loop n list maturities least₀ i₀ least i =
+    (n ≤ length maturities) × (n ≤ 15) × (leastListed (entriesOf list) (drop i (take n maturities)) least
+    ≡ leastListed (entriesOf list) (take n maturities) 65536)
 
 abbrev μ-loop : tie.MeasureT-loop
 μ-loop n list maturities least₀ i₀ least i = n - i
@@ -56,7 +58,8 @@ returns : tie.Need-returns Inv-loop μ-loop
 returns c =
     let start = c .before .before .before in
     let v = c .before .loop .inv in
-    sym (place-done (entriesOf (start .args .list .now)) (start .args .t1) (start .args .n) (c .before .loop .i) (v .0) (c .before .loop .least) (c .loop-test .left)) ∙ v .2
+    sym (place-done (entriesOf (start .args .list .now)) (start .args .t1) (start .args .n) (c .before .loop .i) (v .0) (c .before .loop .least)
+    (c .loop-test .left)) ∙ v .2
 
 pub least-listed-spec : {M : Type 1} → statement M
 least-listed-spec =

@@ -14,7 +14,10 @@ use Rattle.table_vendor.proofs.least_other.Tie as tie
 
 -- ---- what the loop keeps
 abbrev Inv-loop : tie.InvT-loop
-Inv-loop maturities kind list found n least₀ j₀ least j = (n ≡ entryCount list) × (2 * n ≤ 18446744073709551616) × (leastOther (take (placesOfKind kind) maturities) (drop j (entriesOf list)) least ≡ leastOther (take (placesOfKind kind) maturities) (entriesOf list) found)
+Inv-loop maturities kind list found n least₀ j₀ least j =
+    (n ≡ entryCount list) × (2 * n ≤ 18446744073709551616)
+    × (leastOther (take (placesOfKind kind) maturities) (drop j (entriesOf list)) least
+    ≡ leastOther (take (placesOfKind kind) maturities) (entriesOf list) found)
 
 abbrev μ-loop : tie.MeasureT-loop
 μ-loop maturities kind list found n least₀ j₀ least j = n - j
@@ -62,7 +65,8 @@ returns : tie.Need-returns Inv-loop μ-loop
 returns c =
     let start = c .before .before .before .before in
     let v = c .before .loop .inv in
-    sym (other-done (take (placesOfKind (start .args .kind)) (start .args .maturities)) (start .args .list .now) (c .before .loop .j) (c .before .loop .least) (omega (arith, v .0, c .loop-test .left))) ∙ v .2
+    sym (other-done (take (placesOfKind (start .args .kind)) (start .args .maturities)) (start .args .list .now) (c .before .loop .j) (c .before .loop .least)
+    (omega (arith, v .0, c .loop-test .left))) ∙ v .2
 
 pub least-other-spec : {M : Type 1} → statement M
 least-other-spec =

@@ -13,7 +13,8 @@ use Rattle.table_vendor.proofs.stands_once.Tie as tie
 
 -- ---- what the loop keeps
 abbrev Inv-loop : tie.InvT-loop
-Inv-loop list key day n j₀ j = (n ≡ entryCount list) × (2 * n ≤ 18446744073709551616) × (times (drop j (entriesOf list)) key ≡ times (entriesOf list) key) × (vendorDayIn (drop j (entriesOf list)) key ≡ vendorDayIn (entriesOf list) key)
+Inv-loop list key day n j₀ j = (n ≡ entryCount list) × (2 * n ≤ 18446744073709551616) × (times (drop j (entriesOf list)) key ≡ times (entriesOf list) key)
+    × (vendorDayIn (drop j (entriesOf list)) key ≡ vendorDayIn (entriesOf list) key)
 
 abbrev μ-loop : tie.MeasureT-loop
 μ-loop list key day n j₀ j = n - j
@@ -47,7 +48,8 @@ returns c =
     let start = at-loop .before .before .before in
     let v = at-loop .loop .inv in
     let e = sym (c .before .before .before .list-number .ensures) ∙ c .before .before .if1 .taken in
-    once-not (start .args .list .now) (at-loop .loop .j) (start .args .key) (v .2) (v .3) (start .args .day) (omega (arith, v .0, c .before .before .before .before .loop-test .taken)) e (λ q. c .if2 .taken (c .before .list-number2 .ensures ∙ q))
+    once-not (start .args .list .now) (at-loop .loop .j) (start .args .key) (v .2) (v .3) (start .args .day)
+    (omega (arith, v .0, c .before .before .before .before .loop-test .taken)) e (λ q. c .if2 .taken (c .before .list-number2 .ensures ∙ q))
 
 add-is-absent : tie.Need-add-is-absent Inv-loop μ-loop
 add-is-absent c = omega arith
@@ -61,7 +63,8 @@ returns-2 c =
     let start = at-loop .before .before .before in
     let v = at-loop .loop .inv in
     let e = sym (c .before .before .before .before .list-number .ensures) ∙ c .before .before .before .if1 .taken in
-    once-if (start .args .list .now) (at-loop .loop .j) (start .args .key) (v .2) (v .3) (start .args .day) (omega (arith, v .0, c .before .before .before .before .before .loop-test .taken)) e
+    once-if (start .args .list .now) (at-loop .loop .j) (start .args .key) (v .2) (v .3) (start .args .day)
+    (omega (arith, v .0, c .before .before .before .before .before .loop-test .taken)) e
     (sym (c .before .before .list-number2 .ensures) ∙ c .before .if2 .left) _ (c .is-absent .ensures)
 
 -- ---- an entry without it
@@ -77,8 +80,13 @@ loop-again c =
     let start = at-loop .before .before .before in
     let v = at-loop .loop .inv in
     let h : at-loop .loop .j < entryCount (start .args .list .now) = omega (arith, v .0, c .before .before .loop-test .taken) in
-    let q : getD (start .args .list .now) (2 * at-loop .loop .j) 0 ≡ start .args .key → ⊥ = λ q. c .if1 .left (c .before .list-number .ensures ∙ q) in
-    (v .0, v .1, times-next (start .args .list .now) (at-loop .loop .j) (start .args .key) h q ∙ v .2, day-next (start .args .list .now) (at-loop .loop .j) (start .args .key) h q ∙ v .3)
+    let q : getD (start .args .list .now) (2 * at-loop .loop .j) 0 ≡ start .args .key → ⊥ = λ q. c .if1 .left (c .before .list-number .ensures ∙ q) in (
+      v .0,
+      v .1,
+      times-next (start .args .list .now) (at-loop .loop .j) (start .args .key) h q ∙
+          v .2,
+      day-next (start .args .list .now) (at-loop .loop .j) (start .args .key) h q ∙ v .3,
+    )
 
 -- ---- after the loop
 returns-3 : tie.Need-returns-3 Inv-loop μ-loop

@@ -18,7 +18,9 @@ use Rattle.terms.proofs.write_part.Tie as tie
 -- ---- the loop's invariant and its measure
 abbrev Inv-loop : tie.InvT-loop
 Inv-loop file judged part out₀ kept line text₀ s₀ out text s =
-    (512 ≤ length out₀) × (length out ≡ length out₀) × Handed (openIn (calendarAnswer judged) file) (s₀ .kept) (s₀ .line) part (text₀ .sent .bytes) (s .kept) (s .line) (drop (s .at) part) (text .sent .bytes)
+    (512 ≤ length out₀) × (length out ≡ length out₀)
+    × Handed (openIn (calendarAnswer judged) file) (s₀ .kept) (s₀ .line) part (text₀ .sent .bytes) (s .kept) (s .line) (drop (s .at) part)
+    (text .sent .bytes)
 
 abbrev μ-loop : tie.MeasureT-loop
 μ-loop file judged part out₀ kept line text₀ s₀ out text s = length part - s .at

@@ -48,10 +48,14 @@ outcome-line-requires : tie.Need-outcome-line-requires Inv-loop μ-loop
 outcome-line-requires c κs = tt
 
 mul-tables : tie.Need-mul-tables Inv-loop μ-loop
-mul-tables c = omega (arith, c .before .before .before .before .before .loop .inv .2 _ (c .before .before .before .before .loop-test .taken), c .before .before .before .before .before .loop .inv .3)
+mul-tables c =
+    let before-5 = c .before .before .before .before .before in
+    omega (arith, before-5 .loop .inv .2 _ (c .before .before .before .before .loop-test .taken), before-5 .loop .inv .3)
 
 array-set-from-tables : tie.Need-array-set-from-tables Inv-loop μ-loop
-array-set-from-tables c = omega (arith, c .before .before .before .before .before .loop .inv .2 _ (c .before .before .before .before .loop-test .taken), c .before .before .before .before .before .loop .inv .3)
+array-set-from-tables c =
+    let before-5 = c .before .before .before .before .before in
+    omega (arith, before-5 .loop .inv .2 _ (c .before .before .before .before .loop-test .taken), before-5 .loop .inv .3)
 
 add-i : tie.Need-add-i Inv-loop μ-loop
 add-i c = search needs

@@ -23,14 +23,18 @@ cast-ended c =
 returns-2 : tie.Need-returns-2
 returns-2 c =
     let e = c .ended2 .ensures in
-    let yes = c .before .before in
-    (ap finishedAnswer e ∙ sym (finish-refused _ (said-yes (yes .before .all-taken .ensures) (yes .if1 .left)) (c .before .if2 .taken)), ap (λ (r : Finished). r .state) e)
+    let yes = c .before .before in (
+      ap finishedAnswer e ∙ sym (finish-refused _ (said-yes (yes .before .all-taken .ensures) (yes .if1 .left)) (c .before .if2 .taken)),
+      ap (λ (r : Finished). r .state) e,
+    )
 
 returns-3 : tie.Need-returns-3
 returns-3 c =
     let e = c .ended3 .ensures in
-    let yes = c .before .before in
-    (ap finishedAnswer e ∙ sym (finish-accepted _ (said-yes (yes .before .all-taken .ensures) (yes .if1 .left)) (c .before .if2 .left)), ap (λ (r : Finished). r .state) e)
+    let yes = c .before .before in (
+      ap finishedAnswer e ∙ sym (finish-accepted _ (said-yes (yes .before .all-taken .ensures) (yes .if1 .left)) (c .before .if2 .left)),
+      ap (λ (r : Finished). r .state) e,
+    )
 
 pub finish-spec : {M : Type 1} → statement M
 finish-spec =

@@ -16,7 +16,8 @@ cast-write-number c = search needs
 
 write-number-requires : tie.Need-write-number-requires
 write-number-requires c κs =
-    no-number _ (c .before .before .before .if1 .taken) _ (omega (arith, c .before .write-piece .ensures .0, c .before .before .before .before .before .nothing-sent .ensures))
+    no-number _ (c .before .before .before .if1 .taken) _
+    (omega (arith, c .before .write-piece .ensures .0, c .before .before .before .before .before .nothing-sent .ensures))
 
 slice-aggregate-write-piece-2 : tie.Need-slice-aggregate-write-piece-2
 slice-aggregate-write-piece-2 c = search needs
@@ -24,7 +25,12 @@ slice-aggregate-write-piece-2 c = search needs
 write-piece-requires-2 : tie.Need-write-piece-requires-2
 write-piece-requires-2 c κs =
     no-feed _ (c .before .before .before .before .before .if1 .taken) _
-    (omega (arith, c .before .write-number .ensures, c .before .before .before .write-piece .ensures .0, c .before .before .before .before .before .before .before .nothing-sent .ensures))
+    (omega (
+      arith,
+      c .before .write-number .ensures,
+      c .before .before .before .write-piece .ensures .0,
+      c .before .before .before .before .before .before .before .nothing-sent .ensures,
+    ))
 
 returns : tie.Need-returns
 returns c =
@@ -34,7 +40,8 @@ returns c =
       c .before .before .write-number .ensures,
       c .before .before .before .before .write-piece .ensures .0,
       c .before .before .before .before .before .before .before .before .nothing-sent .ensures,
-      no-all (c .before .before .before .before .before .before .before .before .before .args .e) (c .before .before .before .before .before .before .if1 .taken),
+      no-all (c .before .before .before .before .before .before .before .before .before .args .e)
+          (c .before .before .before .before .before .before .if1 .taken),
     )
 
 slice-aggregate-write-piece-3 : tie.Need-slice-aggregate-write-piece-3
@@ -53,12 +60,23 @@ slice-aggregate-write-piece-4 c = search needs
 write-piece-requires-4 : tie.Need-write-piece-requires-4
 write-piece-requires-4 c κs =
     ok-space _ (c .before .before .before .before .if1 .left) _
-    (omega (arith, c .before .write-number2 .ensures, c .before .before .write-piece3 .ensures .0, c .before .before .before .before .before .before .nothing-sent .ensures))
+    (omega (
+      arith,
+      c .before .write-number2 .ensures,
+      c .before .before .write-piece3 .ensures .0,
+      c .before .before .before .before .before .before .nothing-sent .ensures,
+    ))
 
 write-number-requires-3 : tie.Need-write-number-requires-3
 write-number-requires-3 c κs =
     ok-records _ (c .before .before .before .before .before .if1 .left) _
-    (omega (arith, c .write-piece4 .ensures .0, c .before .before .write-number2 .ensures, c .before .before .before .write-piece3 .ensures .0, c .before .before .before .before .before .before .before .nothing-sent .ensures))
+    (omega (
+      arith,
+      c .write-piece4 .ensures .0,
+      c .before .before .write-number2 .ensures,
+      c .before .before .before .write-piece3 .ensures .0,
+      c .before .before .before .before .before .before .before .nothing-sent .ensures,
+    ))
 
 slice-aggregate-write-piece-5 : tie.Need-slice-aggregate-write-piece-5
 slice-aggregate-write-piece-5 c = search needs
@@ -85,7 +103,8 @@ returns-2 c =
       c .before .before .before .before .before .write-number2 .ensures,
       c .before .before .before .before .before .before .write-piece3 .ensures .0,
       c .before .before .before .before .before .before .before .before .before .before .nothing-sent .ensures,
-      ok-all (c .before .before .before .before .before .before .before .before .before .before .before .args .e) (c .before .before .before .before .before .before .before .before .if1 .left),
+      ok-all (c .before .before .before .before .before .before .before .before .before .before .before .args .e)
+          (c .before .before .before .before .before .before .before .before .if1 .left),
     )
 
 pub write-line-spec : {M : Type 1} → statement M

@@ -26,7 +26,13 @@ returns : tie.Need-returns
 returns c = λ o.
     let start = c .before .before .before .before .before in
     let f = text-fits _ heading-short (start .args .line) (start .pre) in
-    omega (arith, c .write-next .ensures o .1, c .before .before .before .nothing-sent .ensures .1, f .1, length-take-le (start .args .line .length) (start .args .line .bytes) (f .0))
+    omega (
+      arith,
+      c .write-next .ensures o .1,
+      c .before .before .before .nothing-sent .ensures .1,
+      f .1,
+      length-take-le (start .args .line .length) (start .args .line .bytes) (f .0),
+    )
 
 pub write-heading-spec : {M : Type 1} → statement M
 write-heading-spec =

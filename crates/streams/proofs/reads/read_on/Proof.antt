@@ -57,8 +57,11 @@ loop-again c =
     let v = at-loop .loop .inv in
     let t = test-yes (at-loop .loop .n) (start .args .enough) (length (at-loop .loop .part)) (at-loop .loop .so-far .left) (at-test .if1 .taken) in
     let at-part = at-after .before .before in
-    let at-read = at-part .before in
-    (search needs, omega (arith, at-read .read-some .ensures .0 .0, at-part .part .given, t .1), one-made _ _ _ _ _ (v .2) (t .0) (omega (arith, t .1, v .0)) (t .2) _ _ (at-after .after-read .ensures) _ refl)
+    let at-read = at-part .before in (
+      search needs,
+      omega (arith, at-read .read-some .ensures .0 .0, at-part .part .given, t .1),
+      one-made _ _ _ _ _ (v .2) (t .0) (omega (arith, t .1, v .0)) (t .2) _ _ (at-after .after-read .ensures) _ refl,
+    )
 
 same-length : tie.Need-same-length Inv-loop μ-loop
 same-length c = search needs
