@@ -2,14 +2,14 @@
 -- Assumes nothing.
 use mathlib.Core.Path.{_≡_, refl, sym, ap, _∙_}
 use mathlib.Core.Bool.{Bool, true, false, not, _&&_, cond}
-use mathlib.Core.List.{List, [], _∷_, _++_, append-nil, append-assoc}
+use mathlib.Core.List.{List, [], _++_, append-nil, append-assoc}
 use mathlib.Core.Logic.{_⊎_, inl, inr}
 use Prim.Native.Nat.{ℕ, _+_, _-_, _%_, _^_, _≤_, _<_}
 use native.Mathlib.Omega.{arith}
 use lib.Dec.{eqb, ltb}
 use lib.ListN.{length, take, drop, drop-of-length-le, length-drop, length-append}
 use lib.Seq.{take-all, length-take-le}
-use borrow.Author.Tests.{eq-eqb, ne-eqb, ltb-true, lt-ltb, not-true}
+use borrow.Author.Tests.{eq-eqb, ne-eqb, ltb-true, lt-ltb}
 use Rattle.questions.proofs.Bools.{clash, both, lt-or-ge}
 use Rattle.session_lines.specs.declared.Line.{Line}
 use Rattle.session_lines.specs.CommandLines.{emptyLine}
@@ -21,7 +21,7 @@ use Rattle.delivery_lines.specs.NoticeLines.{markLength, unmarked}
 use Rattle.delivery_lines.proofs.Marks.{unmarked-more}
 use Rattle.delivery_items.specs.declared.LongLine.{LongLine}
 use Rattle.delivery_items.specs.declared.LineRead.{LineRead}
-use Rattle.delivery_items.specs.Items.{emptyLong, lengthened, heldRead}
+use Rattle.delivery_items.specs.Items.{emptyLong, heldRead}
 use Rattle.delivery_receipts.specs.declared.LineEnd.{LineEnd}
 use Rattle.delivery_receipts.specs.Receipts.{Receipt, noReceipt, sortOf, lineBrought, lineReceived, receiptOf, restReceived}
 use Rattle.delivery_receipts.specs.Receiving.{Lists, receivedTo, roomIn, toldOf, receiptIn, SameLengths, LineFed}
@@ -32,7 +32,7 @@ use Rattle.delivery_inputs.proofs.ShortLines.{line-room, line-fits, line-long}
 use Rattle.delivery_inputs.proofs.BadLinesTold.{told-short, rows-append}
 use Rattle.delivery_reading.specs.declared.Reading.{Reading}
 use Rattle.delivery_reading.specs.declared.LinesRead.{LinesRead}
-use Rattle.delivery_reading.specs.Reading.{BadsTold, RowTold, EndTold, PartTold, LastTold, Told, Came, FirstTold, ReadTo, RowsIn, Nothing}
+use Rattle.delivery_reading.specs.Reading.{BadsTold, RowTold, EndTold, PartTold, LastTold, Told, FirstTold, ReadTo, RowsIn, Nothing}
 
 -- ---- one line
 

@@ -2,7 +2,7 @@
 -- Assumes nothing.
 use mathlib.Core.Path.{_≡_, refl, ap}
 use mathlib.Core.Bool.{cond}
-use mathlib.Core.List.{List, [], _∷_, _++_}
+use mathlib.Core.List.{[], _∷_, _++_}
 use mathlib.Core.Logic.{_⊎_, inl, inr}
 use Prim.Native.Nat.{ℕ, _/_, _%_, _≤_, _<_}
 use native.Mathlib.Omega.{arith}
@@ -10,15 +10,11 @@ use lib.Dec.{ltb}
 use lib.ListN.{length, length-append}
 use borrow.Author.Tests.{lt-ltb, le-ltb}
 use Rattle.questions.proofs.Bools.{lt-or-ge}
-use Rattle.session_lines.specs.declared.Line.{Line}
-use Rattle.session_lines.specs.CommandLines.{emptyLine}
 use Rattle.session_text.specs.TermsText.{inTwoDigits, inFourDigits, decimal}
 use Rattle.session_text.proofs.TermsTexts.{decimal-1}
-use Rattle.file_text_print.specs.Contents.{LineWith}
 use Rattle.file_text_print.proofs.TextLengths.{decimal-short}
 use Rattle.delivery_answers.specs.Numbers.{inEightDigits, decimalShort, numberText}
 use Rattle.delivery_answers.proofs.ReplyLengths.{short-most}
-use Rattle.delivery_inputs.proofs.ShortLines.{line-room, line-fits, line-long}
 use Rattle.delivery_reconciled.specs.Reconciled.{summaryText}
 
 four-long : (n : ℕ) → length (inFourDigits n) ≡ 4
@@ -92,12 +88,3 @@ summary-short products rows differ bad a b c d =
       number-five products a,
       second,
     )
-
--- such a line has room in its bytes, and is as long as its text
-pub summary-fits : (products rows differ bad : ℕ) → length (summaryText products rows differ bad) < 64 → (l : Line)
-    → LineWith emptyLine (summaryText products rows differ bad) l
-    → (l .length ≤ length (l .bytes)) × (l .length ≡ length (summaryText products rows differ bad))
-summary-fits products rows differ bad short l made =
-    let text = summaryText products rows differ bad in
-    let room : length (l .bytes) ≡ 64 = line-room text short l made in
-    (omega (arith, room, line-fits text short l made), line-long text short l made)

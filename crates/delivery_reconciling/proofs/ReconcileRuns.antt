@@ -1,10 +1,10 @@
 -- The pieces that a run writes and tells, in their order, make up the two texts of the definition.
 -- Assumes nothing.
 use mathlib.Core.Path.{_≡_, refl, sym, ap, _∙_, fun-ext}
-use mathlib.Core.Bool.{Bool, true, false, not, _&&_, cond}
-use mathlib.Core.List.{List, [], _∷_, _++_, append-nil}
+use mathlib.Core.Bool.{Bool, true, false, not, cond}
+use mathlib.Core.List.{List, [], _∷_, _++_}
 use mathlib.Core.Logic.{_⊎_, inl, inr}
-use Prim.Native.Nat.{ℕ, zero, suc, _+_, _*_, _%_, _^_, _≤_, _<_}
+use Prim.Native.Nat.{ℕ, zero, suc, _+_, _≤_, _<_}
 use native.Mathlib.Omega.{arith}
 use lib.Dec.{eqb, ltb}
 use lib.ListN.{length, length-append}
@@ -29,14 +29,13 @@ use Rattle.delivery_parts.specs.Handing.{Runs}
 use Rattle.delivery_parts.proofs.Handing.{count-few}
 use Rattle.delivery_reports.specs.Reports.{differencesHeading}
 use Rattle.delivery_items.specs.declared.ItemRead.{ItemRead}
-use Rattle.delivery_items.specs.declared.LineRead.{LineRead}
 use Rattle.delivery_items.specs.Items.{lineRead}
 use Rattle.delivery_receipts.specs.Receipts.{Receipt, Sort, ended, empty, heading, bad, tooMany, good, receivedOf, sortOf, lineBrought, lineReceived}
 use Rattle.delivery_receipts.specs.Receipts.{linesReceived, noReceipt, receiptOf}
 use Rattle.delivery_receipts.specs.Receiving.{Lists, receivedTo, receiptIn, firstUnknown}
 use Rattle.delivery_receipts.proofs.RowsSoFar.{good-room}
 use Rattle.delivery_inputs.specs.ReconcileInputs.{badRowsText, badsCounted}
-use Rattle.delivery_reconciled.specs.Reconciled.{sumTo, keysAt, placeText, strangerText, isStranger, differencesText, differCount, openingText, summaryText}
+use Rattle.delivery_reconciled.specs.Reconciled.{sumTo, keysAt, placeText, strangerText, differencesText, differCount, openingText, summaryText}
 use Rattle.delivery_reconciled.specs.Reconciled.{lastText, toldText, reconcileText, reconcileTold}
 use Rattle.delivery_reconciled.specs.Standings.{idRowText, rowCount}
 use Rattle.delivery_reconciled.proofs.RowIds.{received-count, strangers-are, strangers-counted}

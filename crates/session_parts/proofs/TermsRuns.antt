@@ -65,10 +65,6 @@ pub record Came (opening : List ℕ → ℕ → Outcome) (h : Kept) (l : Line) (
   -- a run from here on, put after what has come, is a run from the first command on
   pub on : (later : List (List ℕ)) (t : List ℕ) (n′ : ℕ) → Run opening h l n later t n′ → Run opening nothingKept emptyLine 0 (parts ++ later) (text ++ t) n′
 
--- before the first part nothing has come
-pub came-none : (opening : List ℕ → ℕ → Outcome) → Came opening nothingKept emptyLine 0
-came-none opening = record { parts = []; text = []; on = λ later t n′ r. r }
-
 -- what has come with one more part handed over
 pub came-more : (opening : List ℕ → ℕ → Outcome) (h h′ : Kept) (l l′ : Line) (n m : ℕ) (part : List ℕ) → Came opening h l n
     → Handed opening h l part n h′ l′ [] m → Came opening h′ l′ m

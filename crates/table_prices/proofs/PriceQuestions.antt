@@ -42,6 +42,7 @@ module _ (t : Table) (contracts agreed final : ℕ) where
 
   -- a table that is not sound gives refusal 10 for the cash amount
   pub cash-10 : sound t ≡ false → cashCall t contracts agreed final ≡ noCash 10
+  unfolding cashAsks
   cash-10 a = sym (cash-no 9 _ refl a)
 
   -- where no question refuses, the numbers are those for which the code works out cash

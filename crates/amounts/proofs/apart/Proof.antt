@@ -6,9 +6,6 @@ use borrow.Author.Needs.{needs}
 use Rattle.amounts.proofs.apart.Statement.{statement}
 use Rattle.amounts.proofs.apart.Tie as tie
 
-sub-result : tie.Need-sub-result
-sub-result c = search needs
-
 returns : tie.Need-returns
 unfolding distance
 returns c = rw (lt-ltb (c .before .args .final-price) (c .before .args .agreed) (omega arith))
@@ -18,4 +15,4 @@ unfolding distance
 returns-2 c = rw (le-ltb (c .before .args .final-price) (c .before .args .agreed) (omega arith))
 
 pub apart-spec : {M : Type 1} → statement M
-apart-spec = tie.close (tie.spec sub-result returns returns-2)
+apart-spec = tie.close (tie.spec (λ c. search needs) returns returns-2)

@@ -13,9 +13,6 @@ returns : tie.Need-returns
 unfolding cashOf
 returns c = rw (said-no (c .before .cash-admitted .ensures) (c .if1 .taken))
 
-cast-change : tie.Need-cast-change
-cast-change c = search needs
-
 -- ---- the products fit
 in-bounds : (c : tie.After-apart) → Bounds (c .before .before .before .args .contracts) (c .before .before .before .args .size)
     (c .before .before .before .args .agreed) (c .before .before .before .args .final-price)
@@ -23,12 +20,6 @@ in-bounds c = bounds _ _ _ _ (said-yes (c .before .before .cash-admitted .ensure
 
 mul-change : tie.Need-mul-change
 mul-change c = rw (c .apart .ensures) (omega (arith, change-most _ _ _ _ (in-bounds c)))
-
-cast-whole : tie.Need-cast-whole
-cast-whole c = search needs
-
-cast-part : tie.Need-cast-part
-cast-part c = search needs
 
 mul-parts : tie.Need-mul-parts
 mul-parts c = rw (c .apart .ensures) (omega (arith, parts-most _ _ _ _ (in-bounds c)))
@@ -39,9 +30,6 @@ mul-t11 c = rw (c .apart .ensures) (omega (arith, whole-most _ _ _ _ (in-bounds 
 add-t14 : tie.Need-add-t14
 add-t14 c = rw (c .apart .ensures) (omega (arith, whole-most _ _ _ _ (in-bounds c), parts-most _ _ _ _ (in-bounds c)))
 
-cast-t16 : tie.Need-cast-t16
-cast-t16 c = search needs
-
 -- ---- the parts
 returns-2 : tie.Need-returns-2
 unfolding cashOf
@@ -49,17 +37,5 @@ returns-2 c = rw (c .apart .ensures, said-yes (c .before .before .cash-admitted 
 
 pub cash-spec : {M : Type 1} → statement M
 cash-spec =
-    tie.close
-    (tie.spec
-    (λ c κs. tt)
-    returns
-    (λ c κs. tt)
-    cast-change
-    mul-change
-    cast-whole
-    cast-part
-    mul-parts
-    mul-t11
-    add-t14
-    cast-t16
-    returns-2)
+    tie.close (tie.spec (λ c κs. tt) returns (λ c κs. tt) (λ c. search needs) mul-change (λ c. search needs) (λ c. search needs) mul-parts mul-t11 add-t14
+    (λ c. search needs) returns-2)

@@ -11,11 +11,4 @@ returns c = ap₂ _&&_ (ap₂ _&&_ (ap₂ _&&_ (c .before .before .before .price
     (c .before .contracts-right .ensures)) (c .size-right .ensures)
 
 pub cash-admitted-spec : {M : Type 1} → statement M
-cash-admitted-spec =
-    tie.close
-    (tie.spec
-    (λ c κs. tt)
-    (λ c κs. tt)
-    (λ c κs. tt)
-    (λ c κs. tt)
-    returns)
+cash-admitted-spec = tie.close (tie.spec (λ c κs. tt) (λ c κs. tt) (λ c κs. tt) (λ c κs. tt) returns)

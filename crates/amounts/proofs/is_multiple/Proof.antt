@@ -9,11 +9,8 @@ use Rattle.amounts.proofs.is_multiple.Tie as tie
 returns : tie.Need-returns
 returns c = rw (c .if1 .taken)
 
-rem-result : tie.Need-rem-result
-rem-result c = search needs
-
 returns-2 : tie.Need-returns-2
 returns-2 c = let h : 0 < c .before .args .tick = omega arith in rw (lt-ltb _ _ h)
 
 pub is-multiple-spec : {M : Type 1} → statement M
-is-multiple-spec = tie.close (tie.spec returns rem-result returns-2)
+is-multiple-spec = tie.close (tie.spec returns (λ c. search needs) returns-2)

@@ -16,5 +16,4 @@ returns-2 : tie.Need-returns-2
 returns-2 c = measure-is _ _ _ _ _ _ (c .before .before .new-size .ensures) (not-false _ (c .before .if1 .left)) (c .new-price .ensures)
 
 pub measure-right-spec : {M : Type 1} → statement M
-measure-right-spec =
-    tie.close (tie.spec (λ c κs. tt) returns cast-new-price (λ c κs. tt) returns-2)
+measure-right-spec = tie.close (tie.spec (λ c κs. tt) returns cast-new-price (λ c κs. tt) returns-2)

@@ -11,20 +11,11 @@ use Rattle.amounts.proofs.nearest_to.Tie as tie
 returns : tie.Need-returns
 returns c = nearest-none _ _ (omega arith)
 
-rem-rest : tie.Need-rem-rest
-rem-rest c = search needs
-
 sub-if2 : tie.Need-sub-if2
 sub-if2 c = omega (arith, mod-lt (c .before .args .a) {m = c .before .args .b} (omega arith))
 
-div-result : tie.Need-div-result
-div-result c = search needs
-
 returns-2 : tie.Need-returns-2
 returns-2 c = sym (nearest-down _ _ (omega arith))
-
-div-result-2 : tie.Need-div-result-2
-div-result-2 c = search needs
 
 add-result : tie.Need-add-result
 add-result c = omega (arith, next-most (c .before .before .args .a) (c .before .before .args .b) (omega arith) (omega arith))
@@ -33,6 +24,4 @@ returns-3 : tie.Need-returns-3
 returns-3 c = sym (nearest-up _ _ (omega arith) (omega arith))
 
 pub nearest-to-spec : {M : Type 1} → statement M
-nearest-to-spec =
-    tie.close
-    (tie.spec returns rem-rest sub-if2 div-result returns-2 div-result-2 add-result returns-3)
+nearest-to-spec = tie.close (tie.spec returns (λ c. search needs) sub-if2 (λ c. search needs) returns-2 (λ c. search needs) add-result returns-3)

@@ -9,9 +9,6 @@ use Rattle.c_delivery.proofs.deliver.Tie as tie
 returns : tie.Need-returns
 returns c = not-ready _ _ _ _ _ (said-no (c .before .before .is-ready .ensures) (c .before .if1 .taken)) _ (c .not-delivered .ensures)
 
-same-length : tie.Need-same-length
-same-length c = search needs
-
 returns-2 : tie.Need-returns-2
 returns-2 c =
     let at-deliver = c .before .before .before in
@@ -20,13 +17,4 @@ returns-2 c =
     (at-deliver .deliver .ensures) _ (c .flat-table .ensures)
 
 pub deliver-spec : {M : Type 1} → statement M
-deliver-spec =
-    tie.close
-    (tie.spec
-    (λ c κs. tt)
-    (λ c κs. tt)
-    returns
-    (λ c κs. tt)
-    (λ c κs. tt)
-    same-length
-    returns-2)
+deliver-spec = tie.close (tie.spec (λ c κs. tt) (λ c κs. tt) returns (λ c κs. tt) (λ c κs. tt) (λ c. search needs) returns-2)

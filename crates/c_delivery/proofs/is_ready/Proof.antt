@@ -4,12 +4,9 @@ use borrow.Author.Needs.{needs}
 use Rattle.c_delivery.proofs.is_ready.Statement.{statement}
 use Rattle.c_delivery.proofs.is_ready.Tie as tie
 
-cast-result : tie.Need-cast-result
-cast-result c = search needs
-
 returns : tie.Need-returns
 unfolding ready
 returns c = search needs
 
 pub is-ready-spec : {M : Type 1} → statement M
-is-ready-spec = tie.close (tie.spec cast-result returns)
+is-ready-spec = tie.close (tie.spec (λ c. search needs) returns)

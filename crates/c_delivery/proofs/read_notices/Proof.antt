@@ -4,16 +4,8 @@ use borrow.Author.Needs.{needs}
 use Rattle.c_delivery.proofs.read_notices.Statement.{statement}
 use Rattle.c_delivery.proofs.read_notices.Tie as tie
 
-same-length : tie.Need-same-length
-same-length c = search needs
-
-same-length-2 : tie.Need-same-length-2
-same-length-2 c = search needs
-
 returns : tie.Need-returns
 returns c = read-in _ _ _ _ _ _ (c .before .before .before .before .before .read-notices .ensures) _ (c .notices-of .ensures)
 
 pub read-notices-spec : {M : Type 1} → statement M
-read-notices-spec =
-    tie.close
-    (tie.spec (λ c κs. tt) (λ c κs. tt) same-length same-length-2 returns)
+read-notices-spec = tie.close (tie.spec (λ c κs. tt) (λ c κs. tt) (λ c. search needs) (λ c. search needs) returns)

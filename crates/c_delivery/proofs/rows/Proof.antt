@@ -14,9 +14,6 @@ returns-2 c =
     rw (← c .before .before .before .unflat-table .ensures)
     (no-room _ _ (said-yes (c .before .before .is-sound .ensures) (c .before .if1 .left)) (c .if2 .taken))
 
-same-length : tie.Need-same-length
-same-length c = search needs
-
 returns-3 : tie.Need-returns-3
 returns-3 c =
     let at-print = c .before .before in
@@ -26,13 +23,4 @@ returns-3 c =
     (all-rows _ _ (said-yes (at-if1 .before .is-sound .ensures) (at-if1 .if1 .left)) (at-if2 .if2 .left) _ _ (at-print .print-rows .ensures))
 
 pub rows-spec : {M : Type 1} → statement M
-rows-spec =
-    tie.close
-    (tie.spec
-    (λ c κs. tt)
-    (λ c κs. tt)
-    returns
-    returns-2
-    (λ c κs. tt)
-    same-length
-    returns-3)
+rows-spec = tie.close (tie.spec (λ c κs. tt) (λ c κs. tt) returns returns-2 (λ c κs. tt) (λ c. search needs) returns-3)

@@ -19,12 +19,6 @@ own-lines-requires c κs =
     let at-if2 = c .before .before .before .before .before .before .before in
     room-parts _ _ (said-yes (at-if2 .before .has-room .ensures) (at-if2 .if2 .left))
 
-same-length : tie.Need-same-length
-same-length c = search needs
-
-same-length-2 : tie.Need-same-length-2
-same-length-2 c = search needs
-
 returns-3 : tie.Need-returns-3
 returns-3 c =
     let at-own = c .before .before .before .before in
@@ -37,17 +31,5 @@ returns-3 c =
 
 pub differences-spec : {M : Type 1} → statement M
 differences-spec =
-    tie.close
-    (tie.spec
-    (λ c κs. tt)
-    (λ c κs. tt)
-    returns
-    (λ c κs. tt)
-    (λ c κs. tt)
-    returns-2
-    (λ c κs. tt)
-    (λ c κs. tt)
-    own-lines-requires
-    same-length
-    same-length-2
-    returns-3)
+    tie.close (tie.spec (λ c κs. tt) (λ c κs. tt) returns (λ c κs. tt) (λ c κs. tt) returns-2 (λ c κs. tt) (λ c κs. tt) own-lines-requires (λ c. search needs)
+    (λ c. search needs) returns-3)

@@ -18,12 +18,4 @@ returns-3 c =
     (c .before .unflat-table .ensures) _ (c .is-sound .ensures)
 
 pub is-judgeable-spec : {M : Type 1} → statement M
-is-judgeable-spec =
-    tie.close
-    (tie.spec
-    (λ c κs. tt)
-    returns
-    returns-2
-    (λ c κs. tt)
-    (λ c κs. tt)
-    returns-3)
+is-judgeable-spec = tie.close (tie.spec (λ c κs. tt) returns returns-2 (λ c κs. tt) (λ c κs. tt) returns-3)

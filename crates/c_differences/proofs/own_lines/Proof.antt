@@ -6,17 +6,8 @@ use borrow.Author.Needs.{needs}
 use Rattle.c_differences.proofs.own_lines.Statement.{statement}
 use Rattle.c_differences.proofs.own_lines.Tie as tie
 
-slice-reshare-prefix-print-differences : tie.Need-slice-reshare-prefix-print-differences
-slice-reshare-prefix-print-differences c = search needs
-
 slice-aggregate-print-differences : tie.Need-slice-aggregate-print-differences
 slice-aggregate-print-differences c = sym (length-take-le _ _ (c .before .before .before .places-of .ensures .fits))
-
-same-length : tie.Need-same-length
-same-length c = search needs
-
-same-length-2 : tie.Need-same-length-2
-same-length-2 c = search needs
 
 returns : tie.Need-returns
 returns c =
@@ -28,12 +19,4 @@ returns c =
 
 pub own-lines-spec : {M : Type 1} → statement M
 own-lines-spec =
-    tie.close
-    (tie.spec
-    (λ c κs. tt)
-    slice-reshare-prefix-print-differences
-    slice-aggregate-print-differences
-    (λ c κs. tt)
-    same-length
-    same-length-2
-    returns)
+    tie.close (tie.spec (λ c κs. tt) (λ c. search needs) slice-aggregate-print-differences (λ c κs. tt) (λ c. search needs) (λ c. search needs) returns)

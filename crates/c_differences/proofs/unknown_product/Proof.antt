@@ -21,14 +21,4 @@ returns-2 c =
     (c .before .before .id-in .ensures) _ (c .before .unknown-line .ensures .is))
 
 pub unknown-product-spec : {M : Type 1} → statement M
-unknown-product-spec =
-    tie.close
-    (tie.spec
-    (λ c κs. tt)
-    (λ c κs. tt)
-    (λ c κs. tt)
-    returns
-    (λ c κs. tt)
-    (λ c κs. tt)
-    (λ c κs. tt)
-    returns-2)
+unknown-product-spec = tie.close (tie.spec (λ c κs. tt) (λ c κs. tt) (λ c κs. tt) returns (λ c κs. tt) (λ c κs. tt) (λ c κs. tt) returns-2)

@@ -4,12 +4,6 @@ use borrow.Author.Needs.{needs}
 use Rattle.c_types.proofs.reply_of_date.Statement.{statement}
 use Rattle.c_types.proofs.reply_of_date.Tie as tie
 
-enum-known-answer : tie.Need-enum-known-answer
-enum-known-answer c = search needs
-
-enum-told : tie.Need-enum-told
-enum-told c = search needs
-
 returns : tie.Need-returns
 returns c = rw (c .before .answer .given .1) refl
 
@@ -17,4 +11,4 @@ returns-2 : tie.Need-returns-2
 returns-2 c = rw (c .enum-told .given .1) refl
 
 pub reply-of-date-spec : {M : Type 1} → statement M
-reply-of-date-spec = tie.close (tie.spec enum-known-answer enum-told returns returns-2)
+reply-of-date-spec = tie.close (tie.spec (λ c. search needs) (λ c. search needs) returns returns-2)

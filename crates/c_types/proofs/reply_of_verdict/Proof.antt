@@ -4,15 +4,6 @@ use borrow.Author.Needs.{needs}
 use Rattle.c_types.proofs.reply_of_verdict.Statement.{statement}
 use Rattle.c_types.proofs.reply_of_verdict.Tie as tie
 
-enum-told : tie.Need-enum-told
-enum-told c = search needs
-
-enum-known-verdict : tie.Need-enum-known-verdict
-enum-known-verdict c = search needs
-
-enum-told-2 : tie.Need-enum-told-2
-enum-told-2 c = search needs
-
 returns : tie.Need-returns
 returns c = rw (c .enum-told .given .1) refl
 
@@ -23,5 +14,4 @@ returns-3 : tie.Need-returns-3
 returns-3 c = rw (c .enum-told2 .given .1) refl
 
 pub reply-of-verdict-spec : {M : Type 1} → statement M
-reply-of-verdict-spec =
-    tie.close (tie.spec enum-told enum-known-verdict enum-told-2 returns returns-2 returns-3)
+reply-of-verdict-spec = tie.close (tie.spec (λ c. search needs) (λ c. search needs) (λ c. search needs) returns returns-2 returns-3)

@@ -19,12 +19,4 @@ returns-2 c =
     (product-yes _ (said-yes (at-if1 .before .kind-right .ensures) (at-if1 .if1 .left)))
 
 pub unflat-product-spec : {M : Type 1} → statement M
-unflat-product-spec =
-    tie.close
-    (tie.spec
-    (λ c κs. tt)
-    (λ c κs. tt)
-    returns
-    (λ c κs. tt)
-    (λ c κs. tt)
-    returns-2)
+unflat-product-spec = tie.close (tie.spec (λ c κs. tt) (λ c κs. tt) returns (λ c κs. tt) (λ c κs. tt) returns-2)

@@ -18,36 +18,11 @@ returns-2 c =
     let l : length (start .args .cal .closed) ≡ 736 = simp length-map at (start .good .0 .1 .1 .1 .0 .1 .0 .1) in
     close-past _ _ (omega (arith, c .before .slot-of .ensures))
 
-sub-bit : tie.Need-sub-bit
-sub-bit c = search needs
-
-cast-bit : tie.Need-cast-bit
-cast-bit c = search needs
-
-shl-bit : tie.Need-shl-bit
-shl-bit c = search needs
-
-element-copy-out-next : tie.Need-element-copy-out-next
-element-copy-out-next c = search needs
-
-element-write-next : tie.Need-element-write-next
-element-write-next c = search needs
-
 returns-3 : tie.Need-returns-3
 returns-3 c = close-store _ _ _ (c .before .before .slot-of .ensures)
     (said-yes (c .before .before .before .before .in-cover .ensures) (c .before .before .before .if1 .left))
 
 pub close-day-spec : {M : Type 1} → statement M
 close-day-spec =
-    tie.close
-    (tie.spec
-    (λ c κs. tt)
-    returns
-    (λ c κs. tt)
-    returns-2
-    sub-bit
-    cast-bit
-    shl-bit
-    element-copy-out-next
-    element-write-next
-    returns-3)
+    tie.close (tie.spec (λ c κs. tt) returns (λ c κs. tt) returns-2 (λ c. search needs) (λ c. search needs) (λ c. search needs) (λ c. search needs)
+    (λ c. search needs) returns-3)

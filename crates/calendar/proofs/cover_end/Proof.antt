@@ -12,20 +12,13 @@ returns : tie.Need-returns
 unfolding coverEnd
 returns c = (sym (year-start-past _ (omega arith)), omega arith)
 
-sub-if2 : tie.Need-sub-if2
-sub-if2 c = search needs
-
 returns-2 : tie.Need-returns-2
 unfolding coverEnd
 returns-2 c = (sym (year-start-past _ (omega arith)), omega arith)
-
-add-year-start : tie.Need-add-year-start
-add-year-start c = search needs
 
 returns-3 : tie.Need-returns-3
 unfolding coverEnd
 returns-3 c = c .year-start .ensures
 
 pub cover-end-spec : {M : Type 1} → statement M
-cover-end-spec =
-    tie.close (tie.spec returns sub-if2 returns-2 add-year-start (λ c κs. tt) returns-3)
+cover-end-spec = tie.close (tie.spec returns (λ c. search needs) returns-2 (λ c. search needs) (λ c κs. tt) returns-3)

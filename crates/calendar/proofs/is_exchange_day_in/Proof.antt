@@ -12,6 +12,4 @@ returns-2 : tie.Need-returns-2
 returns-2 c = c .is-marked .ensures ∙ sym (exchange-other _ _ (sym (c .before .before .is-trading-day-in .ensures) ∙ c .before .if1 .left))
 
 pub is-exchange-day-in-spec : {M : Type 1} → statement M
-is-exchange-day-in-spec =
-    tie.close
-    (tie.spec (λ c κs. tt) returns (λ c κs. tt) returns-2)
+is-exchange-day-in-spec = tie.close (tie.spec (λ c κs. tt) returns (λ c κs. tt) returns-2)

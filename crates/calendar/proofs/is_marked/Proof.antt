@@ -19,18 +19,6 @@ returns-2 c =
     (rw (said-yes (at-has-year-of .has-year-of .ensures) (c .before .before .if1 .left))
     (bit-past _ _ (omega (arith, c .before .slot-of .ensures))))
 
-shared-slice-read-byte : tie.Need-shared-slice-read-byte
-shared-slice-read-byte c = search needs
-
-sub-result : tie.Need-sub-result
-sub-result c = search needs
-
-cast-result : tie.Need-cast-result
-cast-result c = search needs
-
-shr-result : tie.Need-shr-result
-shr-result c = search needs
-
 returns-3 : tie.Need-returns-3
 unfolding bitAt
 returns-3 c = simp (
@@ -40,14 +28,4 @@ returns-3 c = simp (
 
 pub is-marked-spec : {M : Type 1} → statement M
 is-marked-spec =
-    tie.close
-    (tie.spec
-    (λ c κs. tt)
-    returns
-    (λ c κs. tt)
-    returns-2
-    shared-slice-read-byte
-    sub-result
-    cast-result
-    shr-result
-    returns-3)
+    tie.close (tie.spec (λ c κs. tt) returns (λ c κs. tt) returns-2 (λ c. search needs) (λ c. search needs) (λ c. search needs) (λ c. search needs) returns-3)

@@ -37,18 +37,6 @@ returns-3 c =
     )
 
 -- ---- the bit in the map
-shared-slice-read-byte : tie.Need-shared-slice-read-byte
-shared-slice-read-byte c = search needs
-
-sub-result : tie.Need-sub-result
-sub-result c = search needs
-
-cast-result : tie.Need-cast-result
-cast-result c = search needs
-
-shr-result : tie.Need-shr-result
-shr-result c = search needs
-
 returns-4 : tie.Need-returns-4
 unfolding tradingDay closedOn bitAt
 returns-4 c =
@@ -62,16 +50,5 @@ returns-4 c =
 
 pub is-trading-day-in-spec : {M : Type 1} → statement M
 is-trading-day-in-spec =
-    tie.close
-    (tie.spec
-    (λ c κs. tt)
-    returns
-    (λ c κs. tt)
-    returns-2
-    (λ c κs. tt)
-    returns-3
-    shared-slice-read-byte
-    sub-result
-    cast-result
-    shr-result
-    returns-4)
+    tie.close (tie.spec (λ c κs. tt) returns (λ c κs. tt) returns-2 (λ c κs. tt) returns-3 (λ c. search needs) (λ c. search needs) (λ c. search needs)
+    (λ c. search needs) returns-4)

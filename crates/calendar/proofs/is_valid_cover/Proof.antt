@@ -26,13 +26,9 @@ returns-4 c =
     let over : 2100 < c .before .before .before .before .args .cover .«first_year» + c .before .before .before .before .args .cover .years = omega arith in
     simp (le-leb _ _ (c .before .before .before .if1 .left), le-leb _ _ (c .before .before .if2 .left), le-leb _ _ (c .before .if3 .left), lt-leb _ _ over)
 
-add-result : tie.Need-add-result
-add-result c = search needs
-
 returns-5 : tie.Need-returns-5
 unfolding validCover
 returns-5 c = simp (le-leb _ _ (c .before .before .before .if1 .left), le-leb _ _ (c .before .before .if2 .left), le-leb _ _ (c .before .if3 .left))
 
 pub is-valid-cover-spec : {M : Type 1} → statement M
-is-valid-cover-spec =
-    tie.close (tie.spec returns returns-2 returns-3 returns-4 add-result returns-5)
+is-valid-cover-spec = tie.close (tie.spec returns returns-2 returns-3 returns-4 (λ c. search needs) returns-5)

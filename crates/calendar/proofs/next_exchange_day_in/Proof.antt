@@ -60,17 +60,5 @@ returns-3 c = sym (search-none _ _ _ _ (c .loop-test .left)) ∙ c .before .loop
 
 pub next-exchange-day-in-spec : {M : Type 1} → statement M
 next-exchange-day-in-spec =
-    tie.close
-    (tie.spec
-    Inv-loop
-    μ-loop
-    cover-end-requires
-    returns
-    add-d
-    loop-holds
-    is-exchange-day-in-requires
-    returns-2
-    add-d-2
-    loop-less
-    loop-again
+    tie.close (tie.spec Inv-loop μ-loop cover-end-requires returns add-d loop-holds is-exchange-day-in-requires returns-2 add-d-2 loop-less loop-again
     returns-3)

@@ -38,14 +38,4 @@ returns c =
     nthExchangeDay (calendarOfMaps (start .args .cover) (start .args .closed .now) (start .args .exchange .now)) k (start .args .day)) e
 
 pub nth-exchange-day-in-spec : {M : Type 1} → statement M
-nth-exchange-day-in-spec =
-    tie.close
-    (tie.spec
-    Inv-loop
-    μ-loop
-    loop-holds
-    next-exchange-day-in-requires
-    add-i
-    loop-less
-    loop-again
-    returns)
+nth-exchange-day-in-spec = tie.close (tie.spec Inv-loop μ-loop loop-holds next-exchange-day-in-requires add-i loop-less loop-again returns)

@@ -21,34 +21,6 @@ returns-2 c =
     let m : length (start .args .cal .exchange) ≡ 736 = simp length-map at (start .good .0 .1 .1 .1 .1 .0 .1 .0 .1) in
     reopen-past _ _ (omega (arith, c .before .slot-of .ensures)) (omega (arith, c .before .slot-of .ensures))
 
--- ---- the bit, and the two bytes written
-sub-bit : tie.Need-sub-bit
-sub-bit c = search needs
-
-cast-bit : tie.Need-cast-bit
-cast-bit c = search needs
-
-shl-bit : tie.Need-shl-bit
-shl-bit c = search needs
-
-element-copy-out-next : tie.Need-element-copy-out-next
-element-copy-out-next c = search needs
-
-sub-next : tie.Need-sub-next
-sub-next c = search needs
-
-element-write-next : tie.Need-element-write-next
-element-write-next c = search needs
-
-element-copy-out-next-2 : tie.Need-element-copy-out-next-2
-element-copy-out-next-2 c = search needs
-
-sub-next-2 : tie.Need-sub-next-2
-sub-next-2 c = search needs
-
-element-write-next-2 : tie.Need-element-write-next-2
-element-write-next-2 c = search needs
-
 -- ---- both maps
 returns-3 : tie.Need-returns-3
 returns-3 c = reopen-store _ _ _ (c .before .before .before .slot-of .ensures)
@@ -56,19 +28,5 @@ returns-3 c = reopen-store _ _ _ (c .before .before .before .slot-of .ensures)
 
 pub reopen-day-spec : {M : Type 1} → statement M
 reopen-day-spec =
-    tie.close
-    (tie.spec
-    (λ c κs. tt)
-    returns
-    (λ c κs. tt)
-    returns-2
-    sub-bit
-    cast-bit
-    shl-bit
-    element-copy-out-next
-    sub-next
-    element-write-next
-    element-copy-out-next-2
-    sub-next-2
-    element-write-next-2
-    returns-3)
+    tie.close (tie.spec (λ c κs. tt) returns (λ c κs. tt) returns-2 (λ c. search needs) (λ c. search needs) (λ c. search needs) (λ c. search needs)
+    (λ c. search needs) (λ c. search needs) (λ c. search needs) (λ c. search needs) (λ c. search needs) returns-3)

@@ -17,5 +17,4 @@ unfolding everyWeek
 returns c = rw (← c .before .before .cover-start .ensures .0, ← c .before .cover-end .ensures .0) (c .weeks-trade .ensures)
 
 pub all-weeks-trade-spec : {M : Type 1} → statement M
-all-weeks-trade-spec =
-    tie.close (tie.spec (λ c κs. tt) (λ c κs. tt) weeks-trade-requires returns)
+all-weeks-trade-spec = tie.close (tie.spec (λ c κs. tt) (λ c κs. tt) weeks-trade-requires returns)

@@ -6,14 +6,8 @@ use borrow.Author.Needs.{needs}
 use Rattle.calendar_checks.proofs.byte_of.Statement.{statement}
 use Rattle.calendar_checks.proofs.byte_of.Tie as tie
 
-shared-slice-read-result : tie.Need-shared-slice-read-result
-shared-slice-read-result c = search needs
-
-returns : tie.Need-returns
-returns c = search needs
-
 returns-2 : tie.Need-returns-2
 returns-2 c = sym (List·getD-eq-default (now (c .before .args .closed)) 0 (c .if1 .left))
 
 pub byte-of-spec : {M : Type 1} → statement M
-byte-of-spec = tie.close (tie.spec shared-slice-read-result returns returns-2)
+byte-of-spec = tie.close (tie.spec (λ c. search needs) (λ c. search needs) returns-2)

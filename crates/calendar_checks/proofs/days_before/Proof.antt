@@ -16,12 +16,6 @@ returns c =
     let start = c .before in
     first-before (calendarWith (start .args .cover) (start .args .closed .now)) _ _ (c .if1 .taken)
 
-sub-rest-days : tie.Need-sub-rest-days
-sub-rest-days c = search needs
-
-sub-rest-length : tie.Need-sub-rest-length
-sub-rest-length c = search needs
-
 add-rest-length : tie.Need-add-rest-length
 add-rest-length c =
     let start = c .before in
@@ -49,13 +43,4 @@ returns-2 c =
     (c .rest-days .ensures .0))
 
 pub days-before-spec : {M : Type 1} → statement M
-days-before-spec =
-    tie.close
-    (tie.spec
-    returns
-    sub-rest-days
-    sub-rest-length
-    add-rest-length
-    rest-length-requires
-    rest-days-requires
-    returns-2)
+days-before-spec = tie.close (tie.spec returns (λ c. search needs) (λ c. search needs) add-rest-length rest-length-requires rest-days-requires returns-2)

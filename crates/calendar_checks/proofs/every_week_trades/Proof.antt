@@ -22,13 +22,4 @@ returns-3 : tie.Need-returns-3
 returns-3 c = c .all-weeks-trade2 .ensures ∙ weeks-second _ []
 
 pub every-week-trades-spec : {M : Type 1} → statement M
-every-week-trades-spec =
-    tie.close
-    (tie.spec
-    (λ c κs. tt)
-    (λ c κs. tt)
-    returns
-    years-trade-requires
-    returns-2
-    (λ c κs. tt)
-    returns-3)
+every-week-trades-spec = tie.close (tie.spec (λ c κs. tt) (λ c κs. tt) returns years-trade-requires returns-2 (λ c κs. tt) returns-3)

@@ -83,17 +83,5 @@ returns-2 c =
 
 pub first-is-clean-spec : {M : Type 1} → statement M
 first-is-clean-spec =
-    tie.close
-    (tie.spec
-    Inv-loop
-    μ-loop
-    maps-used-requires
-    loop-holds
-    add-year-is-clean
-    year-is-clean-requires
-    returns
-    add-k
-    loop-less
-    loop-again
-    is-empty-after-requires
-    returns-2)
+    tie.close (tie.spec Inv-loop μ-loop maps-used-requires loop-holds add-year-is-clean year-is-clean-requires returns add-k loop-less loop-again
+    is-empty-after-requires returns-2)

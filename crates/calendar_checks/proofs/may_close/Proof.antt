@@ -10,14 +10,8 @@ use Rattle.calendar_checks.proofs.may_close.Tie as tie
 returns : tie.Need-returns
 returns c = sym (may-past _ _ (c .if1 .taken))
 
-add-year-start : tie.Need-add-year-start
-add-year-start c = search needs
-
 returns-2 : tie.Need-returns-2
 returns-2 c = sym (may-not _ _ (omega (arith, c .before .year-start2 .ensures .0, c .if2 .taken)))
-
-sub-if3 : tie.Need-sub-if3
-sub-if3 c = search needs
 
 returns-3 : tie.Need-returns-3
 returns-3 c = sym (may-not _ _ (omega (
@@ -28,9 +22,6 @@ returns-3 c = sym (may-not _ _ (omega (
   c .if3 .taken,
 )))
 
-add-weekday : tie.Need-add-weekday
-add-weekday c = search needs
-
 returns-4 : tie.Need-returns-4
 returns-4 c =
     let start = c .before .before .before .before .year-start .ensures .0 in
@@ -39,15 +30,5 @@ returns-4 c =
 
 pub may-close-spec : {M : Type 1} → statement M
 may-close-spec =
-    tie.close
-    (tie.spec
-    returns
-    (λ c κs. tt)
-    add-year-start
-    (λ c κs. tt)
-    returns-2
-    sub-if3
-    returns-3
-    add-weekday
-    (λ c κs. tt)
+    tie.close (tie.spec returns (λ c κs. tt) (λ c. search needs) (λ c κs. tt) returns-2 (λ c. search needs) returns-3 (λ c. search needs) (λ c κs. tt)
     returns-4)

@@ -4,9 +4,6 @@ use borrow.Author.Needs.{needs}
 use Rattle.calendar_checks.proofs.next_first.Statement.{statement}
 use Rattle.calendar_checks.proofs.next_first.Tie as tie
 
-add-result : tie.Need-add-result
-add-result c = search needs
-
 returns : tie.Need-returns
 returns c = rw (c .if1 .taken) refl
 
@@ -14,4 +11,4 @@ returns-2 : tie.Need-returns-2
 returns-2 c = rw (c .if1 .left) refl
 
 pub next-first-spec : {M : Type 1} → statement M
-next-first-spec = tie.close (tie.spec add-result returns returns-2)
+next-first-spec = tie.close (tie.spec (λ c. search needs) returns returns-2)

@@ -6,15 +6,6 @@ use borrow.Author.Needs.{needs}
 use Rattle.calendar_checks.proofs.rest_days.Statement.{statement}
 use Rattle.calendar_checks.proofs.rest_days.Tie as tie
 
-rest-of-requires : tie.Need-rest-of-requires
-rest-of-requires c κs = search needs
-
-sub-result : tie.Need-sub-result
-sub-result c = search needs
-
-shr-result : tie.Need-shr-result
-shr-result c = search needs
-
 returns : tie.Need-returns
 returns c =
     let start = c .before in (
@@ -23,4 +14,4 @@ returns c =
     )
 
 pub rest-days-spec : {M : Type 1} → statement M
-rest-days-spec = tie.close (tie.spec rest-of-requires sub-result shr-result returns)
+rest-days-spec = tie.close (tie.spec (λ c κs. search needs) (λ c. search needs) (λ c. search needs) returns)

@@ -29,22 +29,6 @@ add-year-start c =
     let args = c .before .before .before .args in
     omega (arith, year-in-cover (args .cover) (args .k) (c .before .before .before .pre .1) (c .before .before .before .pre .0))
 
-year-start-requires : tie.Need-year-start-requires
-year-start-requires c κs = search needs
-
-moved-on-requires : tie.Need-moved-on-requires
-moved-on-requires c κs = search needs
-
--- ---- the window and the weekends
-add-weekends-from : tie.Need-add-weekends-from
-add-weekends-from c = search needs
-
-weekends-from-requires : tie.Need-weekends-from-requires
-weekends-from-requires c κs = search needs
-
-no-seven-requires : tie.Need-no-seven-requires
-no-seven-requires c κs = search needs
-
 -- ---- a yes
 returns : tie.Need-returns
 returns c = λ e u.
@@ -64,15 +48,5 @@ returns c = λ e u.
 
 pub rest-trades-spec : {M : Type 1} → statement M
 rest-trades-spec =
-    tie.close
-    (tie.spec
-    add-year
-    rest-length-requires
-    rest-days-requires
-    add-year-start
-    year-start-requires
-    moved-on-requires
-    add-weekends-from
-    weekends-from-requires
-    no-seven-requires
-    returns)
+    tie.close (tie.spec add-year rest-length-requires rest-days-requires add-year-start (λ c κs. search needs) (λ c κs. search needs) (λ c. search needs)
+    (λ c κs. search needs) (λ c κs. search needs) returns)

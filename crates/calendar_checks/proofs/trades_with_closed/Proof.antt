@@ -8,5 +8,4 @@ returns : tie.Need-returns
 returns c = c .every-week-trades .ensures ∙ ap everyWeek (c .before .close-day .ensures)
 
 pub trades-with-closed-spec : {M : Type 1} → statement M
-trades-with-closed-spec =
-    tie.close (tie.spec (λ c κs. tt) (λ c κs. tt) returns)
+trades-with-closed-spec = tie.close (tie.spec (λ c κs. tt) (λ c κs. tt) returns)

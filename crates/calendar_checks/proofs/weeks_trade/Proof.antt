@@ -102,19 +102,5 @@ returns-2 c = sym (passed-ends _ _ _ _ _ (c .before .loop .inv) (omega arith))
 
 pub weeks-trade-spec : {M : Type 1} → statement M
 weeks-trade-spec =
-    tie.close
-    (tie.spec
-    Inv-loop
-    μ-loop
-    add-day
-    loop-holds
-    add-loop
-    slot-of-requires
-    byte-of-requires
-    trades-on-requires
-    returns
-    next-first-requires
-    next-day-requires
-    loop-less
-    loop-again
-    returns-2)
+    tie.close (tie.spec Inv-loop μ-loop add-day loop-holds add-loop slot-of-requires byte-of-requires trades-on-requires returns next-first-requires
+    next-day-requires loop-less loop-again returns-2)

@@ -7,9 +7,6 @@ use borrow.Author.Needs.{needs}
 use Rattle.calendar_checks.proofs.year_barred.Statement.{statement}
 use Rattle.calendar_checks.proofs.year_barred.Tie as tie
 
-add-year-start : tie.Need-add-year-start
-add-year-start c = search needs
-
 returns : tie.Need-returns
 returns c = (λ h. absurd (omega (arith, h, c .if1 .taken)), λ h. all-days)
 
@@ -21,12 +18,4 @@ returns-2 c =
     )
 
 pub year-barred-spec : {M : Type 1} → statement M
-year-barred-spec =
-    tie.close
-    (tie.spec
-    (λ c κs. tt)
-    add-year-start
-    (λ c κs. tt)
-    returns
-    (λ c κs. tt)
-    returns-2)
+year-barred-spec = tie.close (tie.spec (λ c κs. tt) (λ c. search needs) (λ c κs. tt) returns (λ c κs. tt) returns-2)

@@ -105,19 +105,5 @@ returns-2 c =
 
 pub year-is-clean-spec : {M : Type 1} → statement M
 year-is-clean-spec =
-    tie.close
-    (tie.spec
-    Inv-loop
-    μ-loop
-    year-barred-requires
-    loop-holds
-    weeks-of-requires
-    is-apart-requires
-    returns
-    add-j
-    loop-less
-    loop-again
-    rest-of-requires
-    rest-barred-requires
-    is-apart-requires-2
-    returns-2)
+    tie.close (tie.spec Inv-loop μ-loop year-barred-requires loop-holds weeks-of-requires is-apart-requires returns add-j loop-less loop-again rest-of-requires
+    rest-barred-requires is-apart-requires-2 returns-2)

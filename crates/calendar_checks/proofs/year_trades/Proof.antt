@@ -93,22 +93,5 @@ returns-2 c = λ e u.
 
 pub year-trades-spec : {M : Type 1} → statement M
 year-trades-spec =
-    tie.close
-    (tie.spec
-    Inv-loop
-    μ-loop
-    add-year-start
-    year-start-requires
-    add-weekends-from
-    weekends-from-requires
-    days-before-requires
-    loop-holds
-    weeks-of-requires
-    moved-on-requires
-    no-seven-requires
-    returns
-    add-j
-    loop-less
-    loop-again
-    rest-trades-requires
-    returns-2)
+    tie.close (tie.spec Inv-loop μ-loop add-year-start year-start-requires add-weekends-from weekends-from-requires days-before-requires loop-holds
+    weeks-of-requires moved-on-requires no-seven-requires returns add-j loop-less loop-again rest-trades-requires returns-2)

@@ -52,15 +52,4 @@ returns-2 c = λ e.
     all-trade cal (rw q at (at-loop .loop .inv .1))
 
 pub years-trade-spec : {M : Type 1} → statement M
-years-trade-spec =
-    tie.close
-    (tie.spec
-    Inv-loop
-    μ-loop
-    loop-holds
-    year-trades-requires
-    returns
-    add-k
-    loop-less
-    loop-again
-    returns-2)
+years-trade-spec = tie.close (tie.spec Inv-loop μ-loop loop-holds year-trades-requires returns add-k loop-less loop-again returns-2)

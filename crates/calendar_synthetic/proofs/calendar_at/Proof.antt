@@ -25,13 +25,4 @@ returns-4 c =
     (sym (ap everyWeek (c .before .before .close-day .ensures)) ∙ said-yes (c .before .every-week-trades .ensures) (c .if3 .left))
 
 pub calendar-at-spec : {M : Type 1} → statement M
-calendar-at-spec =
-    tie.close
-    (tie.spec
-    (λ c κs. tt)
-    returns
-    returns-2
-    (λ c κs. tt)
-    (λ c κs. tt)
-    returns-3
-    returns-4)
+calendar-at-spec = tie.close (tie.spec (λ c κs. tt) returns returns-2 (λ c κs. tt) (λ c κs. tt) returns-3 returns-4)

@@ -72,20 +72,5 @@ returns-2 c =
 
 pub make-spec : {M : Type 1} → statement M
 make-spec =
-    tie.close
-    (tie.spec
-    Inv-loop
-    μ-loop
-    is-valid-cover-requires
-    zero-calendar-requires
-    returns
-    cover-end-requires
-    open-calendar-requires
-    cover-start-requires
-    loop-holds
-    value-at-requires
-    calendar-at-requires
-    add-day
-    loop-less
-    loop-again
-    returns-2)
+    tie.close (tie.spec Inv-loop μ-loop is-valid-cover-requires zero-calendar-requires returns cover-end-requires open-calendar-requires cover-start-requires
+    loop-holds value-at-requires calendar-at-requires add-day loop-less loop-again returns-2)

@@ -50,15 +50,5 @@ returns c =
 
 pub all-beyond-spec : {M : Type 1} → statement M
 all-beyond-spec =
-    tie.close
-    (tie.spec
-    Inv-loop
-    μ-loop
-    loop-holds
-    element-copy-out-days-beyond
-    element-copy-out-days-beyond-2
-    days-beyond-requires
-    add-i
-    loop-less
-    loop-again
+    tie.close (tie.spec Inv-loop μ-loop loop-holds element-copy-out-days-beyond element-copy-out-days-beyond-2 days-beyond-requires add-i loop-less loop-again
     returns)

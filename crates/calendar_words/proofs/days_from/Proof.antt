@@ -60,15 +60,4 @@ returns c =
     rw e at (c .before .loop .inv .2)
 
 pub days-from-spec : {M : Type 1} → statement M
-days-from-spec =
-    tie.close
-    (tie.spec
-    Inv-loop
-    μ-loop
-    loop-holds
-    element-copy-out-days-of
-    days-of-requires
-    add-i
-    loop-less
-    loop-again
-    returns)
+days-from-spec = tie.close (tie.spec Inv-loop μ-loop loop-holds element-copy-out-days-of days-of-requires add-i loop-less loop-again returns)

@@ -14,14 +14,8 @@ returns c =
     let e : 5888 - 368 * c .before .args .k ≡ 0 = omega (arith, c .if1 .taken) in
     rw e (sym (every-none _))
 
-mul-days-from : tie.Need-mul-days-from
-mul-days-from c = search needs
-
-days-from-requires : tie.Need-days-from-requires
-days-from-requires c κs = search needs
-
 returns-2 : tie.Need-returns-2
 returns-2 c = c .days-from .ensures ∙ none-after _ _ (omega (arith, c .before .if1 .left))
 
 pub is-empty-after-spec : {M : Type 1} → statement M
-is-empty-after-spec = tie.close (tie.spec returns mul-days-from days-from-requires returns-2)
+is-empty-after-spec = tie.close (tie.spec returns (λ c. search needs) (λ c κs. search needs) returns-2)

@@ -10,17 +10,11 @@ use Rattle.calendar_words.proofs.moved_on.Tie as tie
 returns : tie.Need-returns
 returns c = not-moved _ _ _ (inl (c .if1 .taken))
 
-shr-if2 : tie.Need-shr-if2
-shr-if2 c = search needs
-
 returns-2 : tie.Need-returns-2
 returns-2 c = not-moved _ _ _ (inr (no-word _ _ (omega (arith, c .if2 .taken))))
-
-shl-result : tie.Need-shl-result
-shl-result c = search needs
 
 returns-3 : tie.Need-returns-3
 returns-3 c = moved-is _ _ _ (omega arith) (is-word _ _ (omega (arith, c .if2 .left)))
 
 pub moved-on-spec : {M : Type 1} → statement M
-moved-on-spec = tie.close (tie.spec returns shr-if2 returns-2 shl-result returns-3)
+moved-on-spec = tie.close (tie.spec returns (λ c. search needs) returns-2 (λ c. search needs) returns-3)

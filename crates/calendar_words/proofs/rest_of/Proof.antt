@@ -13,15 +13,6 @@ use Rattle.calendar_words.proofs.rest_of.Tie as tie
 returns : tie.Need-returns
 returns c = no-year _ _ (c .if1 .taken)
 
-mul-four-at : tie.Need-mul-four-at
-mul-four-at c = search needs
-
-add-four-at : tie.Need-add-four-at
-add-four-at c = search needs
-
-four-at-requires : tie.Need-four-at-requires
-four-at-requires c κs = search needs
-
 returns-2 : tie.Need-returns-2
 returns-2 c =
     let start = c .before .before in
@@ -31,4 +22,4 @@ returns-2 c =
     rest-is b (start .args .k) _ (omega arith) (omega arith) (λ p q. rw (c .four-at .ensures .0) (bytes-show b at 4 p q ∙ ap (λ (s : ℕ). bitAt b (s + p)) e))
 
 pub rest-of-spec : {M : Type 1} → statement M
-rest-of-spec = tie.close (tie.spec returns mul-four-at add-four-at four-at-requires returns-2)
+rest-of-spec = tie.close (tie.spec returns (λ c. search needs) (λ c. search needs) (λ c κs. search needs) returns-2)

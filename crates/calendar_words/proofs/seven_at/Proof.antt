@@ -5,21 +5,6 @@ use borrow.Author.Needs.{needs}
 use Rattle.calendar_words.proofs.seven_at.Statement.{statement}
 use Rattle.calendar_words.proofs.seven_at.Tie as tie
 
-four-at-requires : tie.Need-four-at-requires
-four-at-requires c κs = search needs
-
-mul-result : tie.Need-mul-result
-mul-result c = search needs
-
-add-three-at : tie.Need-add-three-at
-add-three-at c = search needs
-
-three-at-requires : tie.Need-three-at-requires
-three-at-requires c κs = search needs
-
-add-result : tie.Need-add-result
-add-result c = search needs
-
 returns : tie.Need-returns
 returns c =
     let start = c .before .before in
@@ -27,6 +12,4 @@ returns c =
     (omega (arith, j), omega arith)
 
 pub seven-at-spec : {M : Type 1} → statement M
-seven-at-spec =
-    tie.close
-    (tie.spec four-at-requires mul-result add-three-at three-at-requires add-result returns)
+seven-at-spec = tie.close (tie.spec (λ c κs. search needs) (λ c. search needs) (λ c. search needs) (λ c κs. search needs) (λ c. search needs) returns)

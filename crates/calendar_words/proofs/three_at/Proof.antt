@@ -6,24 +6,6 @@ use borrow.Author.Needs.{needs}
 use Rattle.calendar_words.proofs.three_at.Statement.{statement}
 use Rattle.calendar_words.proofs.three_at.Tie as tie
 
-two-at-requires : tie.Need-two-at-requires
-two-at-requires c κs = search needs
-
-mul-result : tie.Need-mul-result
-mul-result c = search needs
-
-add-wide : tie.Need-add-wide
-add-wide c = search needs
-
-element-copy-out-wide : tie.Need-element-copy-out-wide
-element-copy-out-wide c = search needs
-
-wide-requires : tie.Need-wide-requires
-wide-requires c κs = search needs
-
-add-result : tie.Need-add-result
-add-result c = search needs
-
 returns : tie.Need-returns
 returns c =
     let start = c .before .before .before in
@@ -33,12 +15,4 @@ returns c =
 
 pub three-at-spec : {M : Type 1} → statement M
 three-at-spec =
-    tie.close
-    (tie.spec
-    two-at-requires
-    mul-result
-    add-wide
-    element-copy-out-wide
-    wide-requires
-    add-result
-    returns)
+    tie.close (tie.spec (λ c κs. search needs) (λ c. search needs) (λ c. search needs) (λ c. search needs) (λ c κs. search needs) (λ c. search needs) returns)

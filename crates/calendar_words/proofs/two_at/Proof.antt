@@ -6,21 +6,6 @@ use borrow.Author.Needs.{needs}
 use Rattle.calendar_words.proofs.two_at.Statement.{statement}
 use Rattle.calendar_words.proofs.two_at.Tie as tie
 
-element-copy-out-wide : tie.Need-element-copy-out-wide
-element-copy-out-wide c = search needs
-
-mul-result : tie.Need-mul-result
-mul-result c = search needs
-
-add-wide : tie.Need-add-wide
-add-wide c = search needs
-
-element-copy-out-wide-2 : tie.Need-element-copy-out-wide-2
-element-copy-out-wide-2 c = search needs
-
-add-result : tie.Need-add-result
-add-result c = search needs
-
 returns : tie.Need-returns
 returns c =
     let start = c .before .before .before .before in
@@ -30,13 +15,4 @@ returns c =
 
 pub two-at-spec : {M : Type 1} → statement M
 two-at-spec =
-    tie.close
-    (tie.spec
-    element-copy-out-wide
-    (λ c κs. tt)
-    mul-result
-    add-wide
-    element-copy-out-wide-2
-    (λ c κs. tt)
-    add-result
-    returns)
+    tie.close (tie.spec (λ c. search needs) (λ c κs. tt) (λ c. search needs) (λ c. search needs) (λ c. search needs) (λ c κs. tt) (λ c. search needs) returns)

@@ -10,9 +10,6 @@ use borrow.Author.Needs.{needs}
 use Rattle.calendar_words.proofs.weekends_from.Statement.{statement}
 use Rattle.calendar_words.proofs.weekends_from.Tie as tie
 
-weekday-requires : tie.Need-weekday-requires
-weekday-requires c κs = search needs
-
 weekends-on-requires : tie.Need-weekends-on-requires
 weekends-on-requires c κs = omega (arith, c .weekday .ensures)
 
@@ -25,4 +22,4 @@ returns c =
     c .weekends-on .ensures ∙ ap (dayWord 64) (fun-ext (λ p. ap (λ (n : ℕ). not (ltb n 5)) (e p)))
 
 pub weekends-from-spec : {M : Type 1} → statement M
-weekends-from-spec = tie.close (tie.spec weekday-requires weekends-on-requires returns)
+weekends-from-spec = tie.close (tie.spec (λ c κs. search needs) weekends-on-requires returns)

@@ -42,5 +42,4 @@ returns-7 : tie.Need-returns-7
 returns-7 c = let e : c .before .args .weekday ≡ 6 = omega (arith, c .before .pre) in rw e last-mask
 
 pub weekends-on-spec : {M : Type 1} → statement M
-weekends-on-spec =
-    tie.close (tie.spec returns returns-2 returns-3 returns-4 returns-5 returns-6 returns-7)
+weekends-on-spec = tie.close (tie.spec returns returns-2 returns-3 returns-4 returns-5 returns-6 returns-7)

@@ -17,18 +17,6 @@ returns c = no-weeks _ _ _ (inl (c .if1 .taken))
 returns-2 : tie.Need-returns-2
 returns-2 c = no-weeks _ _ _ (inr (c .if2 .taken))
 
-mul-seven-at : tie.Need-mul-seven-at
-mul-seven-at c = search needs
-
-mul-seven-at-2 : tie.Need-mul-seven-at-2
-mul-seven-at-2 c = search needs
-
-add-seven-at : tie.Need-add-seven-at
-add-seven-at c = search needs
-
-seven-at-requires : tie.Need-seven-at-requires
-seven-at-requires c κs = search needs
-
 returns-3 : tie.Need-returns-3
 returns-3 c =
     let start = c .before .before .before in
@@ -39,13 +27,4 @@ returns-3 c =
     (λ p q. rw (c .seven-at .ensures .0) (bytes-show b at 7 p q ∙ ap (λ (s : ℕ). bitAt b (s + p)) e))
 
 pub weeks-of-spec : {M : Type 1} → statement M
-weeks-of-spec =
-    tie.close
-    (tie.spec
-    returns
-    returns-2
-    mul-seven-at
-    mul-seven-at-2
-    add-seven-at
-    seven-at-requires
-    returns-3)
+weeks-of-spec = tie.close (tie.spec returns returns-2 (λ c. search needs) (λ c. search needs) (λ c. search needs) (λ c κs. search needs) returns-3)

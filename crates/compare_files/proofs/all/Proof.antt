@@ -41,17 +41,4 @@ returns-2 : tie.Need-returns-2 Inv-loop μ-loop
 returns-2 c = search needs
 
 pub all-spec : {M : Type 1} → statement M
-all-spec =
-    tie.close
-    (tie.spec
-    Inv-loop
-    μ-loop
-    loop-holds
-    one-requires
-    same-length
-    returns
-    add-index
-    loop-less
-    loop-again
-    same-length-2
-    returns-2)
+all-spec = tie.close (tie.spec Inv-loop μ-loop loop-holds one-requires same-length returns add-index loop-less loop-again same-length-2 returns-2)

@@ -49,18 +49,5 @@ returns-2 c = search needs
 
 pub run-spec : {M : Type 1} → statement M
 run-spec =
-    tie.close
-    (tie.spec
-    Inv-loop
-    μ-loop
-    empty-requires
-    nothing-opened-requires
-    loop-holds
-    next-requires
-    step-requires
-    step-requires-2
-    sub-turns
-    loop-less
-    loop-again
-    returns
-    returns-2)
+    tie.close (tie.spec Inv-loop μ-loop empty-requires nothing-opened-requires loop-holds next-requires step-requires step-requires-2 sub-turns loop-less
+    loop-again returns returns-2)

@@ -38,17 +38,4 @@ returns-2 : tie.Need-returns-2 Inv-loop μ-loop
 returns-2 c = search needs
 
 pub run-script-spec : {M : Type 1} → statement M
-run-script-spec =
-    tie.close
-    (tie.spec
-    Inv-loop
-    μ-loop
-    no-table-requires
-    loop-holds
-    next-requires
-    step-requires
-    sub-turns
-    loop-less
-    loop-again
-    returns
-    returns-2)
+run-script-spec = tie.close (tie.spec Inv-loop μ-loop no-table-requires loop-holds next-requires step-requires sub-turns loop-less loop-again returns returns-2)

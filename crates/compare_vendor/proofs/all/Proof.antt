@@ -47,17 +47,4 @@ returns-2 c = search needs
 
 pub all-spec : {M : Type 1} → statement M
 all-spec =
-    tie.close
-    (tie.spec
-    Inv-loop
-    μ-loop
-    loop-holds
-    next-number-requires
-    same-length
-    returns
-    one-requires
-    add-turns
-    loop-less
-    loop-again
-    same-length-2
-    returns-2)
+    tie.close (tie.spec Inv-loop μ-loop loop-holds next-number-requires same-length returns one-requires add-turns loop-less loop-again same-length-2 returns-2)

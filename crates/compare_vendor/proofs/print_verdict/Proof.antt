@@ -6,57 +6,11 @@ use borrow.Author.Needs.{needs}
 use Rattle.compare_vendor.proofs.print_verdict.Statement.{statement}
 use Rattle.compare_vendor.proofs.print_verdict.Tie as tie
 
-within-requires : tie.Need-within-requires
-within-requires c κs = search needs
-
 -- ---- the part of the list that is judged
 slice-aggregate-judge : tie.Need-slice-aggregate-judge
 slice-aggregate-judge c = sym (length-take-le _ _ (c .before .within .ensures))
 
-judge-requires : tie.Need-judge-requires
-judge-requires c κs = search needs
-
-enum-told : tie.Need-enum-told
-enum-told c = search needs
-
-verdict-line-requires : tie.Need-verdict-line-requires
-verdict-line-requires c κs = search needs
-
-enum-known-key : tie.Need-enum-known-key
-enum-known-key c = search needs
-
-verdict-line-requires-2 : tie.Need-verdict-line-requires-2
-verdict-line-requires-2 c κs = search needs
-
-enum-told-2 : tie.Need-enum-told-2
-enum-told-2 c = search needs
-
-verdict-line-requires-3 : tie.Need-verdict-line-requires-3
-verdict-line-requires-3 c κs = search needs
-
--- ---- the three verdicts
-returns : tie.Need-returns
-returns c = search needs
-
-returns-2 : tie.Need-returns-2
-returns-2 c = search needs
-
-returns-3 : tie.Need-returns-3
-returns-3 c = search needs
-
 pub print-verdict-spec : {M : Type 1} → statement M
 print-verdict-spec =
-    tie.close
-    (tie.spec
-    within-requires
-    slice-aggregate-judge
-    judge-requires
-    enum-told
-    verdict-line-requires
-    enum-known-key
-    verdict-line-requires-2
-    enum-told-2
-    verdict-line-requires-3
-    returns
-    returns-2
-    returns-3)
+    tie.close (tie.spec (λ c κs. search needs) slice-aggregate-judge (λ c κs. search needs) (λ c. search needs) (λ c κs. search needs) (λ c. search needs)
+    (λ c κs. search needs) (λ c. search needs) (λ c κs. search needs) (λ c. search needs) (λ c. search needs) (λ c. search needs))

@@ -6,32 +6,10 @@ use native.Mathlib.Omega.{arith}
 use Rattle.compare_writing.proofs.again_in.Statement.{statement}
 use Rattle.compare_writing.proofs.again_in.Tie as tie
 
-same-length : tie.Need-same-length
-same-length c = omega arith
-
-slice-reshare-prefix-write : tie.Need-slice-reshare-prefix-write
-slice-reshare-prefix-write c = omega arith
-
 slice-aggregate-write : tie.Need-slice-aggregate-write
 slice-aggregate-write c = sym (length-take-le _ _ (omega arith))
 
-same-length-2 : tie.Need-same-length-2
-same-length-2 c = omega arith
-
-same-length-3 : tie.Need-same-length-3
-same-length-3 c = omega arith
-
 pub again-in-spec : {M : Type 1} → statement M
 again-in-spec =
-    tie.close
-    (tie.spec
-    (λ c κs. tt)
-    same-length
-    (λ c. tt)
-    (λ c κs. tt)
-    slice-reshare-prefix-write
-    slice-aggregate-write
-    (λ c κs. tt)
-    same-length-2
-    same-length-3
-    (λ c. tt))
+    tie.close (tie.spec (λ c κs. tt) (λ c. omega arith) (λ c. tt) (λ c κs. tt) (λ c. omega arith) slice-aggregate-write (λ c κs. tt) (λ c. omega arith)
+    (λ c. omega arith) (λ c. tt))

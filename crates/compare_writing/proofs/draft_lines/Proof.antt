@@ -9,34 +9,10 @@ use Rattle.compare_writing.proofs.draft_lines.Tie as tie
 slice-aggregate-write : tie.Need-slice-aggregate-write
 slice-aggregate-write c = sym (length-take-le _ _ (omega arith))
 
-same-length : tie.Need-same-length
-same-length c = omega arith
-
-same-length-2 : tie.Need-same-length-2
-same-length-2 c = omega arith
-
-slice-reshare-prefix-file-lines : tie.Need-slice-reshare-prefix-file-lines
-slice-reshare-prefix-file-lines c = omega arith
-
 slice-aggregate-file-lines : tie.Need-slice-aggregate-file-lines
 slice-aggregate-file-lines c = sym (length-take-le _ _ (omega arith))
 
-same-length-3 : tie.Need-same-length-3
-same-length-3 c = omega arith
-
 pub draft-lines-spec : {M : Type 1} → statement M
 draft-lines-spec =
-    tie.close
-    (tie.spec
-    (λ c. tt)
-    slice-aggregate-write
-    (λ c κs. tt)
-    same-length
-    (λ c. tt)
-    same-length-2
-    (λ c. tt)
-    slice-reshare-prefix-file-lines
-    slice-aggregate-file-lines
-    (λ c κs. tt)
-    same-length-3
-    (λ c. tt))
+    tie.close (tie.spec (λ c. tt) slice-aggregate-write (λ c κs. tt) (λ c. omega arith) (λ c. tt) (λ c. omega arith) (λ c. tt) (λ c. omega arith)
+    slice-aggregate-file-lines (λ c κs. tt) (λ c. omega arith) (λ c. tt))

@@ -32,15 +32,4 @@ returns-2 : tie.Need-returns-2 Inv-loop μ-loop
 returns-2 c = tt
 
 pub files-spec : {M : Type 1} → statement M
-files-spec =
-    tie.close
-    (tie.spec
-    Inv-loop
-    μ-loop
-    loop-holds
-    one-requires
-    returns
-    add-index
-    loop-less
-    loop-again
-    returns-2)
+files-spec = tie.close (tie.spec Inv-loop μ-loop loop-holds one-requires returns add-index loop-less loop-again returns-2)

@@ -9,5 +9,4 @@ slice-aggregate-file-lines : tie.Need-slice-aggregate-file-lines
 slice-aggregate-file-lines c = sym (length-take-le _ _ (omega arith))
 
 pub prefix-lines-spec : {M : Type 1} → statement M
-prefix-lines-spec =
-    tie.close (tie.spec slice-aggregate-file-lines (λ c κs. tt) (λ c. tt) (λ c. tt))
+prefix-lines-spec = tie.close (tie.spec slice-aggregate-file-lines (λ c κs. tt) (λ c. tt) (λ c. tt))

@@ -5,22 +5,8 @@ use native.Mathlib.Omega.{arith}
 use Rattle.compare_writing.proofs.read.Statement.{statement}
 use Rattle.compare_writing.proofs.read.Tie as tie
 
-slice-relend-prefix-read-full : tie.Need-slice-relend-prefix-read-full
-slice-relend-prefix-read-full c = omega arith
-
 slice-aggregate-read-full : tie.Need-slice-aggregate-read-full
 slice-aggregate-read-full c = sym (length-take-le _ _ (omega arith))
 
-same-length : tie.Need-same-length
-same-length c = omega arith
-
 pub read-spec : {M : Type 1} → statement M
-read-spec =
-    tie.close
-    (tie.spec
-    (λ c. tt)
-    slice-relend-prefix-read-full
-    slice-aggregate-read-full
-    (λ c κs. tt)
-    same-length
-    (λ c. tt))
+read-spec = tie.close (tie.spec (λ c. tt) (λ c. omega arith) slice-aggregate-read-full (λ c κs. tt) (λ c. omega arith) (λ c. tt))

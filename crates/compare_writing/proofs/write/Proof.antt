@@ -5,25 +5,9 @@ use native.Mathlib.Omega.{arith}
 use Rattle.compare_writing.proofs.write.Statement.{statement}
 use Rattle.compare_writing.proofs.write.Tie as tie
 
-slice-relend-prefix-write : tie.Need-slice-relend-prefix-write
-slice-relend-prefix-write c = omega arith
-
 slice-aggregate-write : tie.Need-slice-aggregate-write
 slice-aggregate-write c = sym (length-take-le _ _ (omega arith))
 
-same-length : tie.Need-same-length
-same-length c = omega arith
-
 pub write-spec : {M : Type 1} → statement M
 write-spec =
-    tie.close
-    (tie.spec
-    (λ c. tt)
-    (λ c κs. tt)
-    slice-relend-prefix-write
-    slice-aggregate-write
-    (λ c κs. tt)
-    (λ c κs. tt)
-    (λ c κs. tt)
-    same-length
-    (λ c. tt))
+    tie.close (tie.spec (λ c. tt) (λ c κs. tt) (λ c. omega arith) slice-aggregate-write (λ c κs. tt) (λ c κs. tt) (λ c κs. tt) (λ c. omega arith) (λ c. tt))

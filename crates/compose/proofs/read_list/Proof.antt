@@ -81,22 +81,6 @@ returns c = (omega (arith, c .before .reads-left .ensures, c .if1 .left), c .bef
 
 pub read-list-spec : {M : Type 1} → statement M
 read-list-spec =
-    tie.close
-    (tie.spec
-    Inv-loop
-    μ-loop
-    large-buffer-requires
-    nothing-taken-requires
-    empty-long-line-requires
-    nothing-read-requires
-    loop-holds
-    reads-left-requires
-    slice-aggregate-read-part
-    read-part-requires
-    array-share-prefix-part
-    slice-aggregate-take-part
-    take-part-requires
-    loop-less
-    loop-again
-    same-length
-    returns)
+    tie.close (tie.spec Inv-loop μ-loop large-buffer-requires nothing-taken-requires empty-long-line-requires nothing-read-requires loop-holds
+    reads-left-requires slice-aggregate-read-part read-part-requires array-share-prefix-part slice-aggregate-take-part take-part-requires loop-less
+    loop-again same-length returns)

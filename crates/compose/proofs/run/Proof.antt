@@ -5,9 +5,6 @@ use mathlib.Core.Bool.{true≢false}
 use Rattle.compose.proofs.run.Statement.{statement}
 use Rattle.compose.proofs.run.Tie as tie
 
-slice-aggregate-read-list : tie.Need-slice-aggregate-read-list
-slice-aggregate-read-list c = search needs
-
 read-list-requires : tie.Need-read-list-requires
 read-list-requires c κs = sym (c .before .large-buffer .ensures)
 
@@ -16,9 +13,6 @@ returns c =
     let at-failed = c .before .before in
     let at-read = at-failed .before .before .before in
     (at-read .read-list .ensures .0, (λ e. absurd (true≢false (sym (c .before .if1 .taken) ∙ at-failed .has-failed .ensures ∙ e))))
-
-slice-aggregate-answer : tie.Need-slice-aggregate-answer
-slice-aggregate-answer c = search needs
 
 answer-requires : tie.Need-answer-requires
 answer-requires c κs =
@@ -34,14 +28,4 @@ returns-2 c =
 
 pub run-spec : {M : Type 1} → statement M
 run-spec =
-    tie.close
-    (tie.spec
-    (λ c κs. tt)
-    slice-aggregate-read-list
-    read-list-requires
-    (λ c κs. tt)
-    (λ c κs. tt)
-    returns
-    slice-aggregate-answer
-    answer-requires
-    returns-2)
+    tie.close (tie.spec (λ c κs. tt) (λ c. search needs) read-list-requires (λ c κs. tt) (λ c κs. tt) returns (λ c. search needs) answer-requires returns-2)

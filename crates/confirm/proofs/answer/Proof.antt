@@ -5,9 +5,6 @@ use borrow.Author.Needs.{needs}
 use Rattle.confirm.proofs.answer.Statement.{statement}
 use Rattle.confirm.proofs.answer.Tie as tie
 
-slice-aggregate-write-out : tie.Need-slice-aggregate-write-out
-slice-aggregate-write-out c = search needs
-
 write-out-requires : tie.Need-write-out-requires
 write-out-requires c κs =
     let at-line = c .before .before .before .before in
@@ -15,18 +12,5 @@ write-out-requires c κs =
     let made = at-line .confirm-line .ensures in
     (omega (arith, line-room _ _ _ (start .pre) _ made, line-fits _ _ _ (start .pre) _ made), line-is _ _ _ (start .pre) _ made)
 
-same-length : tie.Need-same-length
-same-length c = search needs
-
-returns : tie.Need-returns
-returns c = search needs
-
 pub answer-spec : {M : Type 1} → statement M
-answer-spec =
-    tie.close
-    (tie.spec
-    (λ c κs. tt)
-    slice-aggregate-write-out
-    write-out-requires
-    same-length
-    returns)
+answer-spec = tie.close (tie.spec (λ c κs. tt) (λ c. search needs) write-out-requires (λ c. search needs) (λ c. search needs))

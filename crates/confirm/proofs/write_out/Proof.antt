@@ -8,9 +8,6 @@ use borrow.Author.Needs.{needs}
 use Rattle.confirm.proofs.write_out.Statement.{statement}
 use Rattle.confirm.proofs.write_out.Tie as tie
 
-slice-aggregate-write-next : tie.Need-slice-aggregate-write-next
-slice-aggregate-write-next c = search needs
-
 slice-aggregate-write-next-2 : tie.Need-slice-aggregate-write-next-2
 slice-aggregate-write-next-2 c = sym (length-take-le _ _ (c .before .before .before .before .before .before .pre .0))
 
@@ -23,11 +20,4 @@ returns c =
     omega (arith, w, z, ap length (start .pre .1), confirm-short (start .args .file .now) (start .args .input .now))
 
 pub write-out-spec : {M : Type 1} → statement M
-write-out-spec =
-    tie.close
-    (tie.spec
-    (λ c κs. tt)
-    slice-aggregate-write-next
-    slice-aggregate-write-next-2
-    (λ c κs. tt)
-    returns)
+write-out-spec = tie.close (tie.spec (λ c κs. tt) (λ c. search needs) slice-aggregate-write-next-2 (λ c κs. tt) returns)

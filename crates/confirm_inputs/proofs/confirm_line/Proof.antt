@@ -20,9 +20,6 @@ read-lines-requires c κs =
     let at-length = c .before .before in
     (part-long _ _ (at-length .read-length .ensures), at-length .before .if1 .left)
 
-same-length : tie.Need-same-length
-same-length c = search needs
-
 returns-2 : tie.Need-returns-2
 returns-2 c =
     let at-read = c .before .before in
@@ -30,13 +27,4 @@ returns-2 c =
     said (at-read .read-lines .ensures) (said-part _ _ (at-length .read-length .ensures) _ _ (at-length .before .if1 .left))
 
 pub confirm-line-spec : {M : Type 1} → statement M
-confirm-line-spec =
-    tie.close
-    (tie.spec
-    (λ c κs. tt)
-    returns
-    (λ c κs. tt)
-    slice-aggregate-read-lines
-    read-lines-requires
-    same-length
-    returns-2)
+confirm-line-spec = tie.close (tie.spec (λ c κs. tt) returns (λ c κs. tt) slice-aggregate-read-lines read-lines-requires (λ c. search needs) returns-2)

@@ -18,12 +18,4 @@ returns-2 c =
     said (c .judged-line .ensures) (end-judged _ _ (not-false _ (at-if .if1 .left)) _ (c .before .judge .ensures))
 
 pub end-line-spec : {M : Type 1} → statement M
-end-line-spec =
-    tie.close
-    (tie.spec
-    (λ c κs. tt)
-    returns
-    slice-aggregate-judge
-    (λ c κs. tt)
-    (λ c κs. tt)
-    returns-2)
+end-line-spec = tie.close (tie.spec (λ c κs. tt) returns slice-aggregate-judge (λ c κs. tt) (λ c κs. tt) returns-2)

@@ -4,15 +4,6 @@ use borrow.Author.Needs.{needs}
 use Rattle.confirm_inputs.proofs.judged_line.Statement.{statement}
 use Rattle.confirm_inputs.proofs.judged_line.Tie as tie
 
-enum-told : tie.Need-enum-told
-enum-told c = search needs
-
-enum-known-verdict : tie.Need-enum-known-verdict
-enum-known-verdict c = search needs
-
-enum-told-2 : tie.Need-enum-told-2
-enum-told-2 c = search needs
-
 returns : tie.Need-returns
 unfolding judgedText
 returns c = rw (c .before .enum-told .given .1) (c .yes-line .ensures)
@@ -27,14 +18,4 @@ returns-3 c = rw (c .before .enum-told2 .given .1) (c .refused-line .ensures)
 
 pub judged-line-spec : {M : Type 1} → statement M
 judged-line-spec =
-    tie.close
-    (tie.spec
-    enum-told
-    (λ c κs. tt)
-    enum-known-verdict
-    (λ c κs. tt)
-    enum-told-2
-    (λ c κs. tt)
-    returns
-    returns-2
-    returns-3)
+    tie.close (tie.spec (λ c. search needs) (λ c κs. tt) (λ c. search needs) (λ c κs. tt) (λ c. search needs) (λ c κs. tt) returns returns-2 returns-3)

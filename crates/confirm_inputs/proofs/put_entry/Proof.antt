@@ -11,40 +11,13 @@ use Rattle.confirm_inputs.proofs.put_entry.Tie as tie
 returns : tie.Need-returns
 returns c = put-none _ _ _ (not-true _ (c .if1 .taken))
 
-mul-list : tie.Need-mul-list
-mul-list c = search needs
-
-slice-write-list : tie.Need-slice-write-list
-slice-write-list c = search needs
-
-add-list : tie.Need-add-list
-add-list c = search needs
-
-mul-list-2 : tie.Need-mul-list-2
-mul-list-2 c = search needs
-
 slice-write-list-2 : tie.Need-slice-write-list-2
 slice-write-list-2 c = simp length-set (omega (arith, c .before .before .pre))
-
-add-result : tie.Need-add-result
-add-result c = search needs
-
-same-length : tie.Need-same-length
-same-length c = search needs
 
 returns-2 : tie.Need-returns-2
 returns-2 c = put-both _ _ _ (not-false _ (c .if1 .left)) (c .before .before .pre) _ refl
 
 pub put-entry-spec : {M : Type 1} → statement M
 put-entry-spec =
-    tie.close
-    (tie.spec
-    returns
-    mul-list
-    slice-write-list
-    add-list
-    mul-list-2
-    slice-write-list-2
-    add-result
-    same-length
-    returns-2)
+    tie.close (tie.spec returns (λ c. search needs) (λ c. search needs) (λ c. search needs) (λ c. search needs) slice-write-list-2 (λ c. search needs)
+    (λ c. search needs) returns-2)

@@ -125,29 +125,6 @@ returns-3 c =
 
 pub read-lines-spec : {M : Type 1} → statement M
 read-lines-spec =
-    tie.close
-    (tie.spec
-    Inv-loop
-    μ-loop
-    nothing-read-requires
-    loop-holds
-    (λ c κs. tt)
-    add-cut
-    add-number
-    sub-read-listing-line
-    part-read-listing-line-start
-    part-read-listing-line-end
-    read-listing-line-requires
-    bad-input-line-requires
-    same-length
-    returns
-    refused-line-requires
-    same-length-2
-    returns-2
-    put-entry-requires
-    add-from
-    loop-less
-    loop-again
-    end-line-requires
-    same-length-3
-    returns-3)
+    tie.close (tie.spec Inv-loop μ-loop nothing-read-requires loop-holds (λ c κs. tt) add-cut add-number sub-read-listing-line part-read-listing-line-start
+    part-read-listing-line-end read-listing-line-requires bad-input-line-requires same-length returns refused-line-requires same-length-2 returns-2
+    put-entry-requires add-from loop-less loop-again end-line-requires same-length-3 returns-3)

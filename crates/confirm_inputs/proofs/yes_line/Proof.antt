@@ -5,11 +5,8 @@ use borrow.Author.Needs.{needs}
 use Rattle.confirm_inputs.proofs.yes_line.Statement.{statement}
 use Rattle.confirm_inputs.proofs.yes_line.Tie as tie
 
-slice-aggregate-feed : tie.Need-slice-aggregate-feed
-slice-aggregate-feed c = search needs
-
 returns : tie.Need-returns
 returns c = first (c .before .before .empty-line .ensures) (bytes (c .feed .ensures))
 
 pub yes-line-spec : {M : Type 1} → statement M
-yes-line-spec = tie.close (tie.spec (λ c κs. tt) slice-aggregate-feed (λ c κs. tt) returns)
+yes-line-spec = tie.close (tie.spec (λ c κs. tt) (λ c. search needs) (λ c κs. tt) returns)

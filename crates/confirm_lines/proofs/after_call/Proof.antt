@@ -4,12 +4,9 @@ use borrow.Author.Needs.{needs}
 use Rattle.confirm_lines.proofs.after_call.Statement.{statement}
 use Rattle.confirm_lines.proofs.after_call.Tie as tie
 
-no-entry-requires : tie.Need-no-entry-requires
-no-entry-requires c κs = search needs
-
 returns : tie.Need-returns
 unfolding afterCall
 returns c = rw (c .no-entry .ensures)
 
 pub after-call-spec : {M : Type 1} → statement M
-after-call-spec = tie.close (tie.spec no-entry-requires returns)
+after-call-spec = tie.close (tie.spec (λ c κs. search needs) returns)

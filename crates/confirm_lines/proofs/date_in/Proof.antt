@@ -5,17 +5,8 @@ use borrow.Author.Needs.{needs}
 use Rattle.confirm_lines.proofs.date_in.Statement.{statement}
 use Rattle.confirm_lines.proofs.date_in.Tie as tie
 
-roll-begun-requires : tie.Need-roll-begun-requires
-roll-begun-requires c κs = search needs
-
-feed-requires : tie.Need-feed-requires
-feed-requires c κs = search needs
-
-command-of-requires : tie.Need-command-of-requires
-command-of-requires c κs = search needs
-
 returns : tie.Need-returns
 returns c = c .command-of .ensures ∙ rw (c .before .feed .ensures, c .before .before .roll-begun .ensures) (date-read _)
 
 pub date-in-spec : {M : Type 1} → statement M
-date-in-spec = tie.close (tie.spec roll-begun-requires feed-requires command-of-requires returns)
+date-in-spec = tie.close (tie.spec (λ c κs. search needs) (λ c κs. search needs) (λ c κs. search needs) returns)

@@ -5,33 +5,6 @@ use borrow.Author.Needs.{needs}
 use Rattle.confirm_lines.proofs.day_name.Statement.{statement}
 use Rattle.confirm_lines.proofs.day_name.Tie as tie
 
-date-or-zeros-requires : tie.Need-date-or-zeros-requires
-date-or-zeros-requires c κs = search needs
-
-digit-requires : tie.Need-digit-requires
-digit-requires c κs = search needs
-
-digit-requires-2 : tie.Need-digit-requires-2
-digit-requires-2 c κs = search needs
-
-digit-requires-3 : tie.Need-digit-requires-3
-digit-requires-3 c κs = search needs
-
-digit-requires-4 : tie.Need-digit-requires-4
-digit-requires-4 c κs = search needs
-
-digit-requires-5 : tie.Need-digit-requires-5
-digit-requires-5 c κs = search needs
-
-digit-requires-6 : tie.Need-digit-requires-6
-digit-requires-6 c κs = search needs
-
-digit-requires-7 : tie.Need-digit-requires-7
-digit-requires-7 c κs = search needs
-
-digit-requires-8 : tie.Need-digit-requires-8
-digit-requires-8 c κs = search needs
-
 returns : tie.Need-returns
 unfolding dayText dateText yearMonth inFourDigits inTwoDigits
 returns c = simp (
@@ -48,15 +21,5 @@ returns c = simp (
 
 pub day-name-spec : {M : Type 1} → statement M
 day-name-spec =
-    tie.close
-    (tie.spec
-    date-or-zeros-requires
-    digit-requires
-    digit-requires-2
-    digit-requires-3
-    digit-requires-4
-    digit-requires-5
-    digit-requires-6
-    digit-requires-7
-    digit-requires-8
-    returns)
+    tie.close (tie.spec (λ c κs. search needs) (λ c κs. search needs) (λ c κs. search needs) (λ c κs. search needs) (λ c κs. search needs)
+    (λ c κs. search needs) (λ c κs. search needs) (λ c κs. search needs) (λ c κs. search needs) returns)

@@ -6,24 +6,13 @@ use borrow.Author.Needs.{needs}
 use Rattle.confirm_lines.proofs.entry_in.Statement.{statement}
 use Rattle.confirm_lines.proofs.entry_in.Tie as tie
 
-is-weekly-requires : tie.Need-is-weekly-requires
-is-weekly-requires c κs = search needs
-
-friday-entry-requires : tie.Need-friday-entry-requires
-friday-entry-requires c κs = search needs
-
 returns : tie.Need-returns
 unfolding entryIn
 returns c = rw (sym (c .before .before .is-weekly .ensures) ∙ c .before .if1 .taken) (c .friday-entry .ensures)
-
-month-entry-requires : tie.Need-month-entry-requires
-month-entry-requires c κs = search needs
 
 returns-2 : tie.Need-returns-2
 unfolding entryIn
 returns-2 c = rw (sym (c .before .before .is-weekly .ensures) ∙ c .before .if1 .left) (c .month-entry .ensures)
 
 pub entry-in-spec : {M : Type 1} → statement M
-entry-in-spec =
-    tie.close
-    (tie.spec is-weekly-requires friday-entry-requires returns month-entry-requires returns-2)
+entry-in-spec = tie.close (tie.spec (λ c κs. search needs) (λ c κs. search needs) returns (λ c κs. search needs) returns-2)

@@ -10,17 +10,8 @@ use Rattle.confirm_lines.proofs.friday_entry.Statement.{statement}
 use Rattle.confirm_lines.proofs.friday_entry.Tie as tie
 
 -- ---- the lines that are no entry
-no-entry-requires : tie.Need-no-entry-requires
-no-entry-requires c κs = search needs
-
 returns : tie.Need-returns
 returns c = c .no-entry .ensures ∙ sym (friday-short _ (c .before .if1 .taken))
-
-shared-slice-read-if2 : tie.Need-shared-slice-read-if2
-shared-slice-read-if2 c = search needs
-
-no-entry-requires-2 : tie.Need-no-entry-requires-2
-no-entry-requires-2 c κs = search needs
 
 returns-2 : tie.Need-returns-2
 returns-2 c = c .no-entry2 .ensures ∙ sym (friday-unspaced _ (c .before .before .before .if1 .left) (c .before .if2 .taken))
@@ -29,24 +20,6 @@ returns-2 c = c .no-entry2 .ensures ∙ sym (friday-unspaced _ (c .before .befor
 slice-aggregate-date-in : tie.Need-slice-aggregate-date-in
 slice-aggregate-date-in c = sym (length-take-le 10 (now (c .before .before .before .before .before .args .line))
     (omega (arith, c .before .before .before .if1 .left)))
-
-date-in-requires : tie.Need-date-in-requires
-date-in-requires c κs = search needs
-
-sub-date-in : tie.Need-sub-date-in
-sub-date-in c = search needs
-
-part-date-in-start : tie.Need-part-date-in-start
-part-date-in-start c = search needs
-
-part-date-in-end : tie.Need-part-date-in-end
-part-date-in-end c = search needs
-
-date-in-requires-2 : tie.Need-date-in-requires-2
-date-in-requires-2 c κs = search needs
-
-entry-from-requires : tie.Need-entry-from-requires
-entry-from-requires c κs = search needs
 
 returns-3 : tie.Need-returns-3
 returns-3 c =
@@ -57,18 +30,5 @@ returns-3 c =
 
 pub friday-entry-spec : {M : Type 1} → statement M
 friday-entry-spec =
-    tie.close
-    (tie.spec
-    no-entry-requires
-    returns
-    shared-slice-read-if2
-    no-entry-requires-2
-    returns-2
-    slice-aggregate-date-in
-    date-in-requires
-    sub-date-in
-    part-date-in-start
-    part-date-in-end
-    date-in-requires-2
-    entry-from-requires
-    returns-3)
+    tie.close (tie.spec (λ c κs. search needs) returns (λ c. search needs) (λ c κs. search needs) returns-2 slice-aggregate-date-in (λ c κs. search needs)
+    (λ c. search needs) (λ c. search needs) (λ c. search needs) (λ c κs. search needs) (λ c κs. search needs) returns-3)

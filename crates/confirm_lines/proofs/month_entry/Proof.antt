@@ -12,17 +12,8 @@ use Rattle.confirm_lines.proofs.month_entry.Statement.{statement}
 use Rattle.confirm_lines.proofs.month_entry.Tie as tie
 
 -- ---- the lines that are no entry
-no-entry-requires : tie.Need-no-entry-requires
-no-entry-requires c κs = search needs
-
 returns : tie.Need-returns
 returns c = c .no-entry .ensures ∙ sym (month-short _ (c .before .if1 .taken))
-
-shared-slice-read-if2 : tie.Need-shared-slice-read-if2
-shared-slice-read-if2 c = search needs
-
-no-entry-requires-2 : tie.Need-no-entry-requires-2
-no-entry-requires-2 c κs = search needs
 
 returns-2 : tie.Need-returns-2
 returns-2 c = c .no-entry2 .ensures ∙ sym (month-unspaced _ (c .before .before .before .if1 .left) (c .before .if2 .taken))
@@ -31,27 +22,6 @@ returns-2 c = c .no-entry2 .ensures ∙ sym (month-unspaced _ (c .before .before
 slice-aggregate-month-in : tie.Need-slice-aggregate-month-in
 slice-aggregate-month-in c = sym (length-take-le 7 (now (c .before .before .before .before .before .args .line))
     (omega (arith, c .before .before .before .if1 .left)))
-
-month-in-requires : tie.Need-month-in-requires
-month-in-requires c κs = search needs
-
-sub-date-in : tie.Need-sub-date-in
-sub-date-in c = search needs
-
-part-date-in-start : tie.Need-part-date-in-start
-part-date-in-start c = search needs
-
-part-date-in-end : tie.Need-part-date-in-end
-part-date-in-end c = search needs
-
-date-in-requires : tie.Need-date-in-requires
-date-in-requires c κs = search needs
-
-month-of-requires : tie.Need-month-of-requires
-month-of-requires c κs = search needs
-
-entry-from-requires : tie.Need-entry-from-requires
-entry-from-requires c κs = search needs
 
 returns-3 : tie.Need-returns-3
 returns-3 c =
@@ -63,19 +33,5 @@ returns-3 c =
 
 pub month-entry-spec : {M : Type 1} → statement M
 month-entry-spec =
-    tie.close
-    (tie.spec
-    no-entry-requires
-    returns
-    shared-slice-read-if2
-    no-entry-requires-2
-    returns-2
-    slice-aggregate-month-in
-    month-in-requires
-    sub-date-in
-    part-date-in-start
-    part-date-in-end
-    date-in-requires
-    month-of-requires
-    entry-from-requires
-    returns-3)
+    tie.close (tie.spec (λ c κs. search needs) returns (λ c. search needs) (λ c κs. search needs) returns-2 slice-aggregate-month-in (λ c κs. search needs)
+    (λ c. search needs) (λ c. search needs) (λ c. search needs) (λ c κs. search needs) (λ c κs. search needs) (λ c κs. search needs) returns-3)

@@ -8,36 +8,18 @@ use Rattle.confirm_lines.proofs.read_listing_line.Statement.{statement}
 use Rattle.confirm_lines.proofs.read_listing_line.Tie as tie
 
 -- ---- before a table is open
-command-in-requires : tie.Need-command-in-requires
-command-in-requires c κs = search needs
-
-read-first-requires : tie.Need-read-first-requires
-read-first-requires c κs = search needs
-
 returns : tie.Need-returns
 returns c =
     let at-if1 = c .before in
     c .read-first .ensures ∙ sym (line-first _ _ _ _ (at-if1 .before .before .command-in .ensures) (at-if1 .if1 .taken))
 
 -- ---- a roll or a close before the listing
-roll-requires : tie.Need-roll-requires
-roll-requires c κs = search needs
-
-after-call-requires : tie.Need-after-call-requires
-after-call-requires c κs = search needs
-
 returns-2 : tie.Need-returns-2
 returns-2 c =
     let at-if2 = c .before .before in
     let at-if1 = at-if2 .before .before .before .before in
     c .after-call .ensures ∙ ap afterCall (c .before .roll .ensures)
     ∙ sym (line-roll _ _ _ _ (at-if1 .before .before .command-in .ensures) (at-if1 .if1 .left) (at-if2 .if2 .taken))
-
-close-requires : tie.Need-close-requires
-close-requires c κs = search needs
-
-after-call-requires-2 : tie.Need-after-call-requires-2
-after-call-requires-2 c κs = search needs
 
 returns-3 : tie.Need-returns-3
 returns-3 c =
@@ -48,12 +30,6 @@ returns-3 c =
     ∙ sym (line-close _ _ _ _ (at-if1 .before .before .command-in .ensures) (at-if1 .if1 .left) (at-if2 .if2 .left) (at-if3 .if3 .taken))
 
 -- ---- a line of the listing
-entry-in-requires : tie.Need-entry-in-requires
-entry-in-requires c κs = search needs
-
-after-entry-requires : tie.Need-after-entry-requires
-after-entry-requires c κs = search needs
-
 returns-4 : tie.Need-returns-4
 returns-4 c =
     let at-if3 = c .before .before .before in
@@ -64,17 +40,5 @@ returns-4 c =
 
 pub read-listing-line-spec : {M : Type 1} → statement M
 read-listing-line-spec =
-    tie.close
-    (tie.spec
-    command-in-requires
-    read-first-requires
-    returns
-    roll-requires
-    after-call-requires
-    returns-2
-    close-requires
-    after-call-requires-2
-    returns-3
-    entry-in-requires
-    after-entry-requires
-    returns-4)
+    tie.close (tie.spec (λ c κs. search needs) (λ c κs. search needs) returns (λ c κs. search needs) (λ c κs. search needs) returns-2 (λ c κs. search needs)
+    (λ c κs. search needs) returns-3 (λ c κs. search needs) (λ c κs. search needs) returns-4)

@@ -23,12 +23,6 @@ month-in-year-requires c κs =
     (c .before .day-in-year .ensures)
 
 -- ---- the fields of the date
-add-t7 : tie.Need-add-t7
-add-t7 c = search needs
-
-add-t8 : tie.Need-add-t8
-add-t8 c = search needs
-
 start-in-year-requires : tie.Need-start-in-year-requires
 start-in-year-requires c κs = (c .before .march-in .ensures .1, c .month-in-year .ensures .0)
 
@@ -48,17 +42,5 @@ returns-2 c =
 
 pub date-of-day-spec : {M : Type 1} → statement M
 date-of-day-spec =
-    tie.close
-    (tie.spec
-    returns
-    (λ c κs. tt)
-    sub-i
-    (λ c κs. tt)
-    (λ c κs. tt)
-    month-in-year-requires
-    add-t7
-    add-t8
-    start-in-year-requires
-    sub-t10
-    add-t11
-    returns-2)
+    tie.close (tie.spec returns (λ c κs. tt) sub-i (λ c κs. tt) (λ c κs. tt) month-in-year-requires (λ c. search needs) (λ c. search needs)
+    start-in-year-requires sub-t10 add-t11 returns-2)

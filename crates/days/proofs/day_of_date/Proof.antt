@@ -42,16 +42,4 @@ returns-2 : tie.Need-returns-2
 returns-2 c = sym (day-refused _ _ _ (sym (c .before .is-date .ensures) ∙ c .if1 .left))
 
 pub day-of-date-spec : {M : Type 1} → statement M
-day-of-date-spec =
-    tie.close
-    (tie.spec
-    (λ c κs. tt)
-    sub-first-day
-    mul-first-day
-    add-first-day
-    sub-first-day-2
-    (λ c κs. tt)
-    add-t11
-    sub-t12
-    returns
-    returns-2)
+day-of-date-spec = tie.close (tie.spec (λ c κs. tt) sub-first-day mul-first-day add-first-day sub-first-day-2 (λ c κs. tt) add-t11 sub-t12 returns returns-2)

@@ -10,14 +10,8 @@ use Rattle.days.proofs.first_day.Tie as tie
 returns : tie.Need-returns
 returns c = sym (first-out _ (c .if1 .taken))
 
-mul-result : tie.Need-mul-result
-mul-result c = search needs
-
-array-read-result : tie.Need-array-read-result
-array-read-result c = search needs
-
 returns-2 : tie.Need-returns-2
 returns-2 c = first-at (c .first-days .result) (c .first-days .ensures) _ (c .before .if1 .left) ∙ sym (first-in _ (c .before .if1 .left))
 
 pub first-day-spec : {M : Type 1} → statement M
-first-day-spec = tie.close (tie.spec returns (λ c κs. tt) mul-result array-read-result returns-2)
+first-day-spec = tie.close (tie.spec returns (λ c κs. tt) (λ c. search needs) (λ c. search needs) returns-2)

@@ -52,6 +52,4 @@ returns-6 c =
     )
 
 pub is-date-spec : {M : Type 1} → statement M
-is-date-spec =
-    tie.close
-    (tie.spec returns returns-2 returns-3 returns-4 returns-5 (λ c κs. tt) returns-6)
+is-date-spec = tie.close (tie.spec returns returns-2 returns-3 returns-4 returns-5 (λ c κs. tt) returns-6)

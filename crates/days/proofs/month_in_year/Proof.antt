@@ -8,14 +8,8 @@ use Rattle.days.proofs.month_in_year.Tie as tie
 returns : tie.Need-returns
 returns c = early-month _ _ (c .before .pre) (c .if1 .taken)
 
-mul-result : tie.Need-mul-result
-mul-result c = search needs
-
-add-result : tie.Need-add-result
-add-result c = search needs
-
 returns-2 : tie.Need-returns-2
 returns-2 c = late-month _ _ (c .before .pre) (c .if1 .left)
 
 pub month-in-year-spec : {M : Type 1} → statement M
-month-in-year-spec = tie.close (tie.spec returns mul-result add-result returns-2)
+month-in-year-spec = tie.close (tie.spec returns (λ c. search needs) (λ c. search needs) returns-2)

@@ -43,6 +43,4 @@ returns-6 c =
     ))
 
 pub month-length-spec : {M : Type 1} → statement M
-month-length-spec =
-    tie.close
-    (tie.spec (λ c κs. tt) returns returns-2 returns-3 returns-4 returns-5 returns-6)
+month-length-spec = tie.close (tie.spec (λ c κs. tt) returns returns-2 returns-3 returns-4 returns-5 returns-6)

@@ -31,15 +31,4 @@ returns-2 c =
     (c .before .before .march-in .ensures .0) (c .before .day-in-year .ensures) _ (c .month-in-year .ensures)
 
 pub month-of-spec : {M : Type 1} → statement M
-month-of-spec =
-    tie.close
-    (tie.spec
-    returns
-    (λ c κs. tt)
-    sub-i
-    mul-result
-    (λ c κs. tt)
-    (λ c κs. tt)
-    month-in-year-requires
-    add-result
-    returns-2)
+month-of-spec = tie.close (tie.spec returns (λ c κs. tt) sub-i mul-result (λ c κs. tt) (λ c κs. tt) month-in-year-requires add-result returns-2)

@@ -10,23 +10,8 @@ use Rattle.days.proofs.month_start.Tie as tie
 returns : tie.Need-returns
 returns c = sym (first-out _ (c .if1 .taken))
 
-mul-result : tie.Need-mul-result
-mul-result c = search needs
-
-add-result : tie.Need-add-result
-add-result c = search needs
-
-add-result-2 : tie.Need-add-result-2
-add-result-2 c = search needs
-
-march-in-requires : tie.Need-march-in-requires
-march-in-requires c κs = search needs
-
 start-in-year-requires : tie.Need-start-in-year-requires
 start-in-year-requires c κs = (omega arith, omega arith)
-
-add-result-3 : tie.Need-add-result-3
-add-result-3 c = omega arith
 
 returns-2 : tie.Need-returns-2
 returns-2 c = sym (first-in _ (c .before .before .if1 .left) ∙ first-rule _ (c .before .before .if1 .left) ∙
@@ -34,13 +19,5 @@ returns-2 c = sym (first-in _ (c .before .before .if1 .left) ∙ first-rule _ (c
 
 pub month-start-spec : {M : Type 1} → statement M
 month-start-spec =
-    tie.close
-    (tie.spec
-    returns
-    mul-result
-    add-result
-    add-result-2
-    march-in-requires
-    start-in-year-requires
-    add-result-3
+    tie.close (tie.spec returns (λ c. search needs) (λ c. search needs) (λ c. search needs) (λ c κs. search needs) start-in-year-requires (λ c. omega arith)
     returns-2)

@@ -7,24 +7,11 @@ use borrow.Author.Needs.{needs}
 use Rattle.days.proofs.start_in_year.Statement.{statement}
 use Rattle.days.proofs.start_in_year.Tie as tie
 
-mul-result : tie.Need-mul-result
-mul-result c = search needs
-
 returns : tie.Need-returns
 returns c = (sym (start-early _ _ (c .if1 .taken)), omega arith)
-
-mul-result-2 : tie.Need-mul-result-2
-mul-result-2 c = search needs
-
-sub-result : tie.Need-sub-result
-sub-result c = search needs
-
-add-result : tie.Need-add-result
-add-result c = search needs
 
 returns-2 : tie.Need-returns-2
 returns-2 c = (sym (start-late _ _ (c .if1 .left)), omega (arith, c .before .pre))
 
 pub start-in-year-spec : {M : Type 1} → statement M
-start-in-year-spec =
-    tie.close (tie.spec mul-result returns mul-result-2 sub-result add-result returns-2)
+start-in-year-spec = tie.close (tie.spec (λ c. search needs) returns (λ c. search needs) (λ c. search needs) (λ c. search needs) returns-2)

@@ -8,17 +8,8 @@ use Rattle.days.proofs.year_of.Tie as tie
 returns : tie.Need-returns
 returns c = sym (year-of-past _ (c .if1 .taken))
 
-mul-result : tie.Need-mul-result
-mul-result c = search needs
-
-cast-result : tie.Need-cast-result
-cast-result c = search needs
-
-add-result : tie.Need-add-result
-add-result c = search needs
-
 returns-2 : tie.Need-returns-2
 returns-2 c = sym (year-of-is _ (c .if1 .left))
 
 pub year-of-spec : {M : Type 1} → statement M
-year-of-spec = tie.close (tie.spec returns mul-result cast-result add-result returns-2)
+year-of-spec = tie.close (tie.spec returns (λ c. search needs) (λ c. search needs) (λ c. search needs) returns-2)

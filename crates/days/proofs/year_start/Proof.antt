@@ -12,18 +12,8 @@ returns c = (sym (year-start-before _ (c .if1 .taken)), omega arith)
 returns-2 : tie.Need-returns-2
 returns-2 c = (sym (year-start-past _ (c .if2 .taken)), omega arith)
 
-mul-result : tie.Need-mul-result
-mul-result c = search needs
-
-add-result : tie.Need-add-result
-add-result c = search needs
-
-add-result-2 : tie.Need-add-result-2
-add-result-2 c = search needs
-
 returns-3 : tie.Need-returns-3
 returns-3 c = let e = year-start-is _ (c .before .if1 .left) (omega arith) in (sym e, omega arith)
 
 pub year-start-spec : {M : Type 1} → statement M
-year-start-spec =
-    tie.close (tie.spec returns returns-2 mul-result add-result add-result-2 returns-3)
+year-start-spec = tie.close (tie.spec returns returns-2 (λ c. search needs) (λ c. search needs) (λ c. search needs) returns-3)

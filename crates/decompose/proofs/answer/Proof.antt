@@ -7,9 +7,6 @@ use Rattle.file_load.specs.declared.Counts.{Counts}
 use Rattle.decompose.proofs.answer.Statement.{statement}
 use Rattle.decompose.proofs.answer.Tie as tie
 
-slice-aggregate-write-refusal : tie.Need-slice-aggregate-write-refusal
-slice-aggregate-write-refusal c = search needs
-
 write-refusal-requires : tie.Need-write-refusal-requires
 write-refusal-requires c κs =
     let at-load = c .before .before in (
@@ -21,9 +18,6 @@ write-refusal-requires c κs =
 
 returns : tie.Need-returns
 returns c = c .before .write-refusal .ensures
-
-slice-aggregate-write-text : tie.Need-slice-aggregate-write-text
-slice-aggregate-write-text c = search needs
 
 write-text-requires : tie.Need-write-text-requires
 write-text-requires c κs =
@@ -39,14 +33,5 @@ returns-2 c = c .before .write-text .ensures
 
 pub answer-spec : {M : Type 1} → statement M
 answer-spec =
-    tie.close
-    (tie.spec
-    (λ c κs. tt)
-    (λ c κs. tt)
-    slice-aggregate-write-refusal
-    write-refusal-requires
-    returns
-    (λ c κs. tt)
-    slice-aggregate-write-text
-    write-text-requires
+    tie.close (tie.spec (λ c κs. tt) (λ c κs. tt) (λ c. search needs) write-refusal-requires returns (λ c κs. tt) (λ c. search needs) write-text-requires
     returns-2)

@@ -17,9 +17,6 @@ write-out-requires c κs =
       rw (at-sent .nothing-sent .ensures .1) (next-refused _ _ (pre .2) (pre .3) _ _ _ p (pre .0)),
     )
 
-same-length : tie.Need-same-length
-same-length c = search needs
-
 returns : tie.Need-returns
 returns c = λ e.
     let at-sent = c .before .before in
@@ -33,6 +30,4 @@ returns c = λ e.
     )
 
 pub write-refusal-spec : {M : Type 1} → statement M
-write-refusal-spec =
-    tie.close
-    (tie.spec (λ c κs. tt) (λ c κs. tt) write-out-requires same-length returns)
+write-refusal-spec = tie.close (tie.spec (λ c κs. tt) (λ c κs. tt) write-out-requires (λ c. search needs) returns)

@@ -83,19 +83,5 @@ returns-2 c = λ e.
 
 pub write-text-spec : {M : Type 1} → statement M
 write-text-spec =
-    tie.close
-    (tie.spec
-    Inv-loop
-    μ-loop
-    line-count-requires
-    nothing-sent-requires
-    loop-holds
-    print-lines-requires
-    write-out-requires
-    is-open-requires
-    same-length
-    returns
-    loop-less
-    loop-again
-    same-length-2
-    returns-2)
+    tie.close (tie.spec Inv-loop μ-loop line-count-requires nothing-sent-requires loop-holds print-lines-requires write-out-requires is-open-requires
+    same-length returns loop-less loop-again same-length-2 returns-2)

@@ -55,12 +55,6 @@ tell-requires-2 c κs =
           (line-next made (bad-short _) (next-bad _ _ _ (start .pre .0) (at-else .if1 .left) _ _ (at-read .read-notices .result) held (at-then .if2 .taken))),
     )
 
-same-length : tie.Need-same-length
-same-length c = search needs
-
-same-length-2 : tie.Need-same-length-2
-same-length-2 c = search needs
-
 returns-2 : tie.Need-returns-2
 returns-2 c = λ e.
     let at-line = c .before .before in
@@ -98,39 +92,10 @@ print-all-requires c κs =
       pre .5,
     )
 
-same-length-3 : tie.Need-same-length-3
-same-length-3 c = search needs
-
-same-length-4 : tie.Need-same-length-4
-same-length-4 c = search needs
-
-same-length-5 : tie.Need-same-length-5
-same-length-5 c = search needs
-
-same-length-6 : tie.Need-same-length-6
-same-length-6 c = search needs
-
 returns-3 : tie.Need-returns-3
 returns-3 c = c .before .before .before .before .print-all .ensures
 
 pub answer-spec : {M : Type 1} → statement M
 answer-spec =
-    tie.close
-    (tie.spec
-    (λ c κs. tt)
-    (λ c κs. tt)
-    tell-requires
-    returns
-    (λ c κs. tt)
-    (λ c κs. tt)
-    (λ c κs. tt)
-    tell-requires-2
-    same-length
-    same-length-2
-    returns-2
-    print-all-requires
-    same-length-3
-    same-length-4
-    same-length-5
-    same-length-6
-    returns-3)
+    tie.close (tie.spec (λ c κs. tt) (λ c κs. tt) tell-requires returns (λ c κs. tt) (λ c κs. tt) (λ c κs. tt) tell-requires-2 (λ c. search needs)
+    (λ c. search needs) returns-2 print-all-requires (λ c. search needs) (λ c. search needs) (λ c. search needs) (λ c. search needs) returns-3)

@@ -46,12 +46,6 @@ print-places-requires c κs =
       pre .2,
     )
 
-same-length : tie.Need-same-length
-same-length c = search needs
-
-same-length-2 : tie.Need-same-length-2
-same-length-2 c = search needs
-
 returns-2 : tie.Need-returns-2
 returns-2 c = λ e. absurd (true≢false (sym e ∙ said-no (c .before .is-open2 .ensures) (c .if2 .taken)))
 
@@ -64,12 +58,6 @@ tell-unknown-requires c κs =
     let pre = start .pre in
     let w = at-places .print-places .ensures (said-yes (at-open .is-open2 .ensures) (c .if2 .left)) in
     (count-few _ _ _ (start .args .t) (pre .0 .held), omega (arith, w .told-few, pre .0 .size), next-unknowns _ _ _ _ _ _ (pre .0) _ _ w)
-
-same-length-3 : tie.Need-same-length-3
-same-length-3 c = search needs
-
-same-length-4 : tie.Need-same-length-4
-same-length-4 c = search needs
 
 returns-3 : tie.Need-returns-3
 returns-3 c = λ e.
@@ -84,19 +72,5 @@ returns-3 c = λ e.
 
 pub print-all-spec : {M : Type 1} → statement M
 print-all-spec =
-    tie.close
-    (tie.spec
-    (λ c κs. tt)
-    (λ c κs. tt)
-    write-line-requires
-    (λ c κs. tt)
-    returns
-    print-places-requires
-    (λ c κs. tt)
-    same-length
-    same-length-2
-    returns-2
-    tell-unknown-requires
-    same-length-3
-    same-length-4
-    returns-3)
+    tie.close (tie.spec (λ c κs. tt) (λ c κs. tt) write-line-requires (λ c κs. tt) returns print-places-requires (λ c κs. tt) (λ c. search needs)
+    (λ c. search needs) returns-2 tell-unknown-requires (λ c. search needs) (λ c. search needs) returns-3)

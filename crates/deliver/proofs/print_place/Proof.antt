@@ -70,15 +70,5 @@ returns-2 c = λ e.
 
 pub print-place-spec : {M : Type 1} → statement M
 print-place-spec =
-    tie.close
-    (tie.spec
-    (λ c κs. tt)
-    write-out-requires
-    (λ c κs. tt)
-    same-length
-    same-length-2
-    returns
-    tell-place-requires
-    same-length-3
-    same-length-4
+    tie.close (tie.spec (λ c κs. tt) write-out-requires (λ c κs. tt) same-length same-length-2 returns tell-place-requires same-length-3 same-length-4
     returns-2)

@@ -74,20 +74,5 @@ returns-2 c = λ e.
 
 pub print-places-spec : {M : Type 1} → statement M
 print-places-spec =
-    tie.close
-    (tie.spec
-    Inv-loop
-    μ-loop
-    mul-places
-    loop-holds
-    print-place-requires
-    is-open-requires
-    same-length
-    same-length-2
-    returns
-    add-p
-    loop-less
-    loop-again
-    same-length-3
-    same-length-4
-    returns-2)
+    tie.close (tie.spec Inv-loop μ-loop mul-places loop-holds print-place-requires is-open-requires same-length same-length-2 returns add-p loop-less loop-again
+    same-length-3 same-length-4 returns-2)

@@ -121,17 +121,4 @@ returns-2 c =
     )
 
 pub tell-place-spec : {M : Type 1} → statement M
-tell-place-spec =
-    tie.close
-    (tie.spec
-    Inv-loop
-    μ-loop
-    returns
-    loop-holds
-    add-loop
-    refusal-line-requires
-    tell-requires
-    add-i
-    loop-less
-    loop-again
-    returns-2)
+tell-place-spec = tie.close (tie.spec Inv-loop μ-loop returns loop-holds add-loop refusal-line-requires tell-requires add-i loop-less loop-again returns-2)

@@ -74,15 +74,4 @@ returns c =
     (v .1, v .2 ∙ ap (λ (n : ℕ). start .args .handed .told + length (lines n)) e)
 
 pub tell-unknown-spec : {M : Type 1} → statement M
-tell-unknown-spec =
-    tie.close
-    (tie.spec
-    Inv-loop
-    μ-loop
-    loop-holds
-    unknown-measure-line-requires
-    tell-requires
-    add-i
-    loop-less
-    loop-again
-    returns)
+tell-unknown-spec = tie.close (tie.spec Inv-loop μ-loop loop-holds unknown-measure-line-requires tell-requires add-i loop-less loop-again returns)

@@ -6,13 +6,10 @@ use Rattle.delivery_answers.specs.Replies.{badQuestionText}
 use Rattle.delivery_answers.proofs.bad_question_line.Statement.{statement}
 use Rattle.delivery_answers.proofs.bad_question_line.Tie as tie
 
-slice-aggregate-feed : tie.Need-slice-aggregate-feed
-slice-aggregate-feed c = refl
-
 returns : tie.Need-returns
 unfolding badQuestionText
 returns c = first (c .before .before .before .before .empty-line .ensures)
     (then (bytes _ _ _ (c .before .before .feed .ensures)) (then (c .before .with-number .ensures) (one _ _ _ (c .extend .ensures))))
 
 pub bad-question-line-spec : {M : Type 1} → statement M
-bad-question-line-spec = tie.close (tie.spec (λ c κs. tt) slice-aggregate-feed (λ c κs. tt) (λ c κs. tt) (λ c κs. tt) returns)
+bad-question-line-spec = tie.close (tie.spec (λ c κs. tt) (λ c. refl) (λ c κs. tt) (λ c κs. tt) (λ c κs. tt) returns)

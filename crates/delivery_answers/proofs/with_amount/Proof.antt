@@ -5,9 +5,6 @@ use Rattle.delivery_answers.specs.Replies.{amountText}
 use Rattle.delivery_answers.proofs.with_amount.Statement.{statement}
 use Rattle.delivery_answers.proofs.with_amount.Tie as tie
 
-cast-with-four : tie.Need-cast-with-four
-cast-with-four c = omega arith
-
 returns : tie.Need-returns
 unfolding amountText
 returns c = then (c .before .before .before .before .before .before .with-sign .ensures)
@@ -15,4 +12,4 @@ returns c = then (c .before .before .before .before .before .before .with-sign .
     (then (one _ _ _ (c .before .before .before .extend .ensures)) (then (c .before .with-four .ensures) (c .with-four2 .ensures))))
 
 pub with-amount-spec : {M : Type 1} → statement M
-with-amount-spec = tie.close (tie.spec (λ c κs. tt) (λ c κs. tt) (λ c κs. tt) cast-with-four (λ c κs. tt) (λ c κs. tt) returns)
+with-amount-spec = tie.close (tie.spec (λ c κs. tt) (λ c κs. tt) (λ c κs. tt) (λ c. omega arith) (λ c κs. tt) (λ c κs. tt) returns)

@@ -25,5 +25,6 @@ returns-5 c = held-size _ _ _ _ (c .before .before .before .before .before .befo
     (c .with-size .ensures)
 
 pub with-answer-spec : {M : Type 1} → statement M
-with-answer-spec = tie.close (tie.spec (λ c κs. tt) (λ c κs. tt) returns (λ c κs. tt) (λ c κs. tt) returns-2 (λ c κs. tt) (λ c κs. tt) returns-3 (λ c κs. tt)
-    (λ c κs. tt) returns-4 (λ c κs. tt) returns-5)
+with-answer-spec =
+    tie.close (tie.spec (λ c κs. tt) (λ c κs. tt) returns (λ c κs. tt) (λ c κs. tt) returns-2 (λ c κs. tt) (λ c κs. tt) returns-3 (λ c κs. tt) (λ c κs. tt)
+    returns-4 (λ c κs. tt) returns-5)

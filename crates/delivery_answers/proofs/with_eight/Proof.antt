@@ -5,15 +5,9 @@ use Rattle.delivery_answers.specs.Numbers.{inEightDigits}
 use Rattle.delivery_answers.proofs.with_eight.Statement.{statement}
 use Rattle.delivery_answers.proofs.with_eight.Tie as tie
 
-cast-with-four : tie.Need-cast-with-four
-cast-with-four c = omega arith
-
-cast-with-four-2 : tie.Need-cast-with-four-2
-cast-with-four-2 c = omega arith
-
 returns : tie.Need-returns
 unfolding inEightDigits
 returns c = then (c .before .with-four .ensures) (c .with-four2 .ensures)
 
 pub with-eight-spec : {M : Type 1} → statement M
-with-eight-spec = tie.close (tie.spec cast-with-four (λ c κs. tt) cast-with-four-2 (λ c κs. tt) returns)
+with-eight-spec = tie.close (tie.spec (λ c. omega arith) (λ c κs. tt) (λ c. omega arith) (λ c κs. tt) returns)

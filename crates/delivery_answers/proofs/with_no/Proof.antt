@@ -6,12 +6,9 @@ use Rattle.delivery_answers.proofs.ReplyTexts.{bytes}
 use Rattle.delivery_answers.proofs.with_no.Statement.{statement}
 use Rattle.delivery_answers.proofs.with_no.Tie as tie
 
-slice-aggregate-feed : tie.Need-slice-aggregate-feed
-slice-aggregate-feed c = refl
-
 returns : tie.Need-returns
 unfolding noText
 returns c = then (bytes _ _ _ (c .before .feed .ensures)) (c .with-spaced .ensures)
 
 pub with-no-spec : {M : Type 1} → statement M
-with-no-spec = tie.close (tie.spec slice-aggregate-feed (λ c κs. tt) (λ c κs. tt) returns)
+with-no-spec = tie.close (tie.spec (λ c. refl) (λ c κs. tt) (λ c κs. tt) returns)

@@ -6,20 +6,11 @@ use Rattle.delivery_answers.proofs.ReplyTexts.{short-few, short-many}
 use Rattle.delivery_answers.proofs.with_short.Statement.{statement}
 use Rattle.delivery_answers.proofs.with_short.Tie as tie
 
-cast-with-decimal : tie.Need-cast-with-decimal
-cast-with-decimal c = omega arith
-
 returns : tie.Need-returns
 returns c = short-few _ _ _ (c .before .if1 .taken) (c .with-decimal .ensures)
-
-cast-with-decimal-2 : tie.Need-cast-with-decimal-2
-cast-with-decimal-2 c = omega arith
-
-cast-with-four : tie.Need-cast-with-four
-cast-with-four c = omega arith
 
 returns-2 : tie.Need-returns-2
 returns-2 c = short-many _ _ _ (c .before .before .if1 .left) (then (c .before .with-decimal2 .ensures) (c .with-four .ensures))
 
 pub with-short-spec : {M : Type 1} → statement M
-with-short-spec = tie.close (tie.spec cast-with-decimal (λ c κs. tt) returns cast-with-decimal-2 (λ c κs. tt) cast-with-four (λ c κs. tt) returns-2)
+with-short-spec = tie.close (tie.spec (λ c. omega arith) (λ c κs. tt) returns (λ c. omega arith) (λ c κs. tt) (λ c. omega arith) (λ c κs. tt) returns-2)

@@ -6,15 +6,9 @@ use Rattle.delivery_answers.specs.Replies.{sizeText}
 use Rattle.delivery_answers.proofs.with_size.Statement.{statement}
 use Rattle.delivery_answers.proofs.with_size.Tie as tie
 
-cast-with-number : tie.Need-cast-with-number
-cast-with-number c = search needs
-
-cast-with-part : tie.Need-cast-with-part
-cast-with-part c = omega arith
-
 returns : tie.Need-returns
 unfolding sizeText
 returns c = then (c .before .with-number .ensures) (c .with-part .ensures)
 
 pub with-size-spec : {M : Type 1} → statement M
-with-size-spec = tie.close (tie.spec cast-with-number (λ c κs. tt) cast-with-part (λ c κs. tt) returns)
+with-size-spec = tie.close (tie.spec (λ c. search needs) (λ c κs. tt) (λ c. omega arith) (λ c κs. tt) returns)

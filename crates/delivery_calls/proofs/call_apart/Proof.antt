@@ -4,12 +4,6 @@ use Rattle.delivery_calls.proofs.Making.{kind-0, kind-1}
 use Rattle.delivery_calls.proofs.call_apart.Statement.{statement}
 use Rattle.delivery_calls.proofs.call_apart.Tie as tie
 
-returns : tie.Need-returns
-returns c = search needs
-
-cast-day : tie.Need-cast-day
-cast-day c = search needs
-
 returns-2 : tie.Need-returns-2
 returns-2 c = λ k.
     let at-if2 = c .before .before .before in
@@ -20,19 +14,6 @@ returns-3 c = λ k.
     let at-if3 = c .before .before .before in
     rw (← kind-1 _ _ _ (at-if3 .before .before .if1 .left) _ (at-if3 .if3 .taken)) (c .close-apart .ensures k)
 
-returns-4 : tie.Need-returns-4
-returns-4 c = search needs
-
 pub call-apart-spec : {M : Type 1} → statement M
 call-apart-spec =
-    tie.close
-    (tie.spec
-    (λ c κs. tt)
-    returns
-    cast-day
-    (λ c κs. tt)
-    returns-2
-    (λ c κs. tt)
-    returns-3
-    (λ c κs. tt)
-    returns-4)
+    tie.close (tie.spec (λ c κs. tt) (λ c. search needs) (λ c. search needs) (λ c κs. tt) returns-2 (λ c κs. tt) returns-3 (λ c κs. tt) (λ c. search needs))

@@ -9,12 +9,6 @@ use borrow.Author.Needs.{needs}
 use Rattle.delivery_differences.proofs.difference_at.Statement.{statement}
 use Rattle.delivery_differences.proofs.difference_at.Tie as tie
 
-within-requires : tie.Need-within-requires
-within-requires c κs = search needs
-
-told-of-requires : tie.Need-told-of-requires
-told-of-requires c κs = search needs
-
 returns : tie.Need-returns
 returns c =
     let args = c .before .before .before .before .before .before .before .before .args in
@@ -24,4 +18,4 @@ returns c =
     (c .before .within .ensures .1))
 
 pub difference-at-spec : {M : Type 1} → statement M
-difference-at-spec = tie.close (tie.spec within-requires told-of-requires returns)
+difference-at-spec = tie.close (tie.spec (λ c κs. search needs) (λ c κs. search needs) returns)

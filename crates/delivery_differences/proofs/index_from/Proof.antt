@@ -56,15 +56,4 @@ returns-2 c =
     c .before .loop .inv
 
 pub index-from-spec : {M : Type 1} → statement M
-index-from-spec =
-    tie.close
-    (tie.spec
-    Inv-loop
-    μ-loop
-    loop-holds
-    key-at-requires
-    returns
-    add-j
-    loop-less
-    loop-again
-    returns-2)
+index-from-spec = tie.close (tie.spec Inv-loop μ-loop loop-holds key-at-requires returns add-j loop-less loop-again returns-2)

@@ -67,16 +67,4 @@ returns c =
     v .2
 
 pub least-listed-spec : {M : Type 1} → statement M
-least-listed-spec =
-    tie.close
-    (tie.spec
-    Inv-loop
-    μ-loop
-    loop-holds
-    mul-m
-    array-copy-out-m
-    lesser-listed-requires
-    add-i
-    loop-less
-    loop-again
-    returns)
+least-listed-spec = tie.close (tie.spec Inv-loop μ-loop loop-holds mul-m array-copy-out-m lesser-listed-requires add-i loop-less loop-again returns)

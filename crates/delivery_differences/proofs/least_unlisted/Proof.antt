@@ -54,15 +54,4 @@ returns c =
     (omega (arith, keys-long (args .keys .now) (args .places .now), c .loop-test .left))) ∙ v .1
 
 pub least-unlisted-spec : {M : Type 1} → statement M
-least-unlisted-spec =
-    tie.close
-    (tie.spec
-    Inv-loop
-    μ-loop
-    loop-holds
-    key-at-requires
-    lesser-unlisted-requires
-    add-j
-    loop-less
-    loop-again
-    returns)
+least-unlisted-spec = tie.close (tie.spec Inv-loop μ-loop loop-holds key-at-requires lesser-unlisted-requires add-j loop-less loop-again returns)

@@ -15,12 +15,6 @@ returns c = too-small _ _ _ _ (c .if1 .taken)
 returns-2 : tie.Need-returns-2
 returns-2 c = too-large _ _ _ _ (c .if2 .taken)
 
-told-of-requires : tie.Need-told-of-requires
-told-of-requires c κs = search needs
-
-is-same-requires : tie.Need-is-same-requires
-is-same-requires c κs = search needs
-
 returns-3 : tie.Need-returns-3
 unfolding differsIn differenceOf
 returns-3 c = passing _ _ _ _ (ap (λ (d : Difference). not (isSame (d .why))) (sym (c .before .before .told-of .ensures)) ∙
@@ -32,5 +26,4 @@ returns-4 c = failing _ _ _ _ (c .before .before .before .before .if1 .left) (c 
     (ap (λ (d : Difference). not (isSame (d .why))) (sym (c .before .before .told-of .ensures)) ∙ ap not (sym (c .before .is-same .ensures) ∙ c .if3 .left))
 
 pub lesser-listed-spec : {M : Type 1} → statement M
-lesser-listed-spec =
-    tie.close (tie.spec returns returns-2 told-of-requires is-same-requires returns-3 returns-4)
+lesser-listed-spec = tie.close (tie.spec returns returns-2 (λ c κs. search needs) (λ c κs. search needs) returns-3 returns-4)

@@ -15,9 +15,6 @@ returns c = too-small _ _ _ _ (c .if1 .taken)
 returns-2 : tie.Need-returns-2
 returns-2 c = too-large _ _ _ _ (c .if2 .taken)
 
-right-of-requires : tie.Need-right-of-requires
-right-of-requires c κs = search needs
-
 returns-3 : tie.Need-returns-3
 unfolding unlisted
 returns-3 c = passing _ _ _ _ (ap (λ (r : Right). not (r .listed)) (sym (c .before .right-of .ensures)) ∙ ap not (c .if3 .taken))
@@ -28,4 +25,4 @@ returns-4 c = failing _ _ _ _ (c .before .before .before .if1 .left) (c .before 
     (ap (λ (r : Right). not (r .listed)) (sym (c .before .right-of .ensures)) ∙ ap not (c .if3 .left))
 
 pub lesser-unlisted-spec : {M : Type 1} → statement M
-lesser-unlisted-spec = tie.close (tie.spec returns returns-2 right-of-requires returns-3 returns-4)
+lesser-unlisted-spec = tie.close (tie.spec returns returns-2 (λ c κs. search needs) returns-3 returns-4)

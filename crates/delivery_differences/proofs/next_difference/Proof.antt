@@ -13,15 +13,6 @@ use borrow.Author.Needs.{needs}
 use Rattle.delivery_differences.proofs.next_difference.Statement.{statement}
 use Rattle.delivery_differences.proofs.next_difference.Tie as tie
 
-within-requires : tie.Need-within-requires
-within-requires c κs = search needs
-
-least-unlisted-requires : tie.Need-least-unlisted-requires
-least-unlisted-requires c κs = search needs
-
-least-listed-requires : tie.Need-least-listed-requires
-least-listed-requires c κs = search needs
-
 returns : tie.Need-returns
 returns c =
     let args = c .before .before .before .before .before .before .before .before .before .args in
@@ -37,5 +28,4 @@ returns c =
     (c .before .before .within .ensures .1))
 
 pub next-difference-spec : {M : Type 1} → statement M
-next-difference-spec =
-    tie.close (tie.spec within-requires least-unlisted-requires least-listed-requires returns)
+next-difference-spec = tie.close (tie.spec (λ c κs. search needs) (λ c κs. search needs) (λ c κs. search needs) returns)

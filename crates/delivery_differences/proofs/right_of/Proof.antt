@@ -44,16 +44,4 @@ returns-2 : tie.Need-returns-2 Inv-loop μ-loop
 returns-2 c = sym (right-none _ _ (c .before .loop .inv .0) _ _ (c .loop-test .left)) ∙ c .before .loop .inv .1
 
 pub right-of-spec : {M : Type 1} → statement M
-right-of-spec =
-    tie.close
-    (tie.spec
-    Inv-loop
-    μ-loop
-    loop-holds
-    mul-m
-    array-copy-out-m
-    returns
-    add-i
-    loop-less
-    loop-again
-    returns-2)
+right-of-spec = tie.close (tie.spec Inv-loop μ-loop loop-holds mul-m array-copy-out-m returns add-i loop-less loop-again returns-2)

@@ -4,21 +4,6 @@ use borrow.Author.Needs.{needs}
 use Rattle.delivery_differences.proofs.row_at.Statement.{statement}
 use Rattle.delivery_differences.proofs.row_at.Tie as tie
 
-list-number-requires : tie.Need-list-number-requires
-list-number-requires c κs = search needs
-
-list-number-requires-2 : tie.Need-list-number-requires-2
-list-number-requires-2 c κs = search needs
-
-byte-at-requires : tie.Need-byte-at-requires
-byte-at-requires c κs = search needs
-
-list-number-requires-3 : tie.Need-list-number-requires-3
-list-number-requires-3 c κs = search needs
-
-list-number-requires-4 : tie.Need-list-number-requires-4
-list-number-requires-4 c κs = search needs
-
 returns : tie.Need-returns
 returns c = rw (
   c .list-number4 .ensures,
@@ -29,12 +14,4 @@ returns c = rw (
 ) refl
 
 pub row-at-spec : {M : Type 1} → statement M
-row-at-spec =
-    tie.close
-    (tie.spec
-    list-number-requires
-    list-number-requires-2
-    byte-at-requires
-    list-number-requires-3
-    list-number-requires-4
-    returns)
+row-at-spec = tie.close (tie.spec (λ c κs. search needs) (λ c κs. search needs) (λ c κs. search needs) (λ c κs. search needs) (λ c κs. search needs) returns)

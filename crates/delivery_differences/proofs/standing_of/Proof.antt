@@ -8,9 +8,6 @@ use borrow.Author.Needs.{needs}
 use Rattle.delivery_differences.proofs.standing_of.Statement.{statement}
 use Rattle.delivery_differences.proofs.standing_of.Tie as tie
 
-index-from-requires : tie.Need-index-from-requires
-index-from-requires c κs = search needs
-
 -- ---- none
 returns : tie.Need-returns
 returns c =
@@ -18,24 +15,9 @@ returns c =
     none-stands (now (args .keys)) (now (args .days)) (now (args .fulls)) (now (args .numbers)) (now (args .backs)) (now (args .places)) (args .key) _
     (c .before .index-from .ensures) (c .if1 .taken)
 
-mul-row-at : tie.Need-mul-row-at
-mul-row-at c = search needs
-
-shared-slice-read-row-at : tie.Need-shared-slice-read-row-at
-shared-slice-read-row-at c = search needs
-
 -- ---- one
 cast-row-at : tie.Need-cast-row-at
 cast-row-at c = omega (arith, c .shared-slice-known7 .given (c .before .before .index-from .result))
-
-row-at-requires : tie.Need-row-at-requires
-row-at-requires c κs = search needs
-
-add-index-from : tie.Need-add-index-from
-add-index-from c = search needs
-
-index-from-requires-2 : tie.Need-index-from-requires-2
-index-from-requires-2 c κs = search needs
 
 returns-2 : tie.Need-returns-2
 returns-2 c =
@@ -62,15 +44,5 @@ returns-3 c =
 
 pub standing-of-spec : {M : Type 1} → statement M
 standing-of-spec =
-    tie.close
-    (tie.spec
-    index-from-requires
-    returns
-    mul-row-at
-    shared-slice-read-row-at
-    cast-row-at
-    row-at-requires
-    add-index-from
-    index-from-requires-2
-    returns-2
-    returns-3)
+    tie.close (tie.spec (λ c κs. search needs) returns (λ c. search needs) (λ c. search needs) cast-row-at (λ c κs. search needs) (λ c. search needs)
+    (λ c κs. search needs) returns-2 returns-3)

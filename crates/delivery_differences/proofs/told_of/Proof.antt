@@ -7,15 +7,6 @@ use borrow.Author.Needs.{needs}
 use Rattle.delivery_differences.proofs.told_of.Statement.{statement}
 use Rattle.delivery_differences.proofs.told_of.Tie as tie
 
-standing-of-requires : tie.Need-standing-of-requires
-standing-of-requires c κs = search needs
-
-right-of-requires : tie.Need-right-of-requires
-right-of-requires c κs = search needs
-
-why-from-requires : tie.Need-why-from-requires
-why-from-requires c κs = search needs
-
 returns : tie.Need-returns
 unfolding differenceOf whyOf
 returns c =
@@ -23,5 +14,4 @@ returns c =
     rw (c .why-from .ensures, c .before .before .before .right-of .ensures, s .0, s .1, up-to-two _ _ _) refl
 
 pub told-of-spec : {M : Type 1} → statement M
-told-of-spec =
-    tie.close (tie.spec standing-of-requires right-of-requires why-from-requires returns)
+told-of-spec = tie.close (tie.spec (λ c κs. search needs) (λ c κs. search needs) (λ c κs. search needs) returns)

@@ -61,5 +61,4 @@ returns-7 c = sym (rw (
 ) refl)
 
 pub why-from-spec : {M : Type 1} → statement M
-why-from-spec =
-    tie.close (tie.spec returns returns-2 returns-3 returns-4 returns-5 returns-6 returns-7)
+why-from-spec = tie.close (tie.spec returns returns-2 returns-3 returns-4 returns-5 returns-6 returns-7)

@@ -6,12 +6,6 @@ use Rattle.delivery_inputs.specs.ReconcileInputs.{badRowText}
 use Rattle.delivery_inputs.proofs.bad_row_line.Statement.{statement}
 use Rattle.delivery_inputs.proofs.bad_row_line.Tie as tie
 
-slice-aggregate-feed : tie.Need-slice-aggregate-feed
-slice-aggregate-feed c = search needs
-
-slice-aggregate-feed-2 : tie.Need-slice-aggregate-feed-2
-slice-aggregate-feed-2 c = search needs
-
 returns : tie.Need-returns
 unfolding badRowText
 returns c =
@@ -19,13 +13,4 @@ returns c =
     (then (bytes _ _ _ (c .before .before .before .feed .ensures)) (then (c .before .before .with-number .ensures) (bytes _ _ _ (c .feed2 .ensures))))
 
 pub bad-row-line-spec : {M : Type 1} → statement M
-bad-row-line-spec =
-    tie.close
-    (tie.spec
-    (λ c κs. tt)
-    slice-aggregate-feed
-    (λ c κs. tt)
-    (λ c κs. tt)
-    slice-aggregate-feed-2
-    (λ c κs. tt)
-    returns)
+bad-row-line-spec = tie.close (tie.spec (λ c κs. tt) (λ c. search needs) (λ c κs. tt) (λ c κs. tt) (λ c. search needs) (λ c κs. tt) returns)

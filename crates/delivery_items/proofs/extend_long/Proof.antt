@@ -7,22 +7,13 @@ use borrow.Author.Needs.{needs}
 use Rattle.delivery_items.proofs.extend_long.Statement.{statement}
 use Rattle.delivery_items.proofs.extend_long.Tie as tie
 
-is-blank-requires : tie.Need-is-blank-requires
-is-blank-requires c κs = search needs
-
 returns : tie.Need-returns
 unfolding lengthened
 returns c = sym (rw (le-ltb _ _ (c .before .before .if1 .taken), c .before .is-blank .ensures) refl)
-
-array-write-bytes : tie.Need-array-write-bytes
-array-write-bytes c = search needs
-
-add-t13 : tie.Need-add-t13
-add-t13 c = search needs
 
 returns-2 : tie.Need-returns-2
 unfolding lengthened
 returns-2 c = sym (rw (lt-ltb _ _ (c .if1 .left)) refl)
 
 pub extend-long-spec : {M : Type 1} → statement M
-extend-long-spec = tie.close (tie.spec is-blank-requires returns array-write-bytes add-t13 returns-2)
+extend-long-spec = tie.close (tie.spec (λ c κs. search needs) returns (λ c. search needs) (λ c. search needs) returns-2)

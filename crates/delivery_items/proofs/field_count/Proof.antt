@@ -60,15 +60,4 @@ returns c =
 
 pub field-count-spec : {M : Type 1} → statement M
 field-count-spec =
-    tie.close
-    (tie.spec
-    Inv-loop
-    μ-loop
-    separator-from-requires
-    loop-holds
-    add-count
-    add-separator-from
-    separator-from-requires-2
-    loop-less
-    loop-again
-    returns)
+    tie.close (tie.spec Inv-loop μ-loop separator-from-requires loop-holds add-count add-separator-from separator-from-requires-2 loop-less loop-again returns)

@@ -10,46 +10,10 @@ use borrow.Author.Needs.{needs}
 use Rattle.delivery_items.proofs.fields_item.Statement.{statement}
 use Rattle.delivery_items.proofs.fields_item.Tie as tie
 
-field-count-requires : tie.Need-field-count-requires
-field-count-requires c κs = search needs
-
-line-field-requires : tie.Need-line-field-requires
-line-field-requires c κs = search needs
-
-line-field-requires-2 : tie.Need-line-field-requires-2
-line-field-requires-2 c κs = search needs
-
-line-field-requires-3 : tie.Need-line-field-requires-3
-line-field-requires-3 c κs = search needs
-
-short-item-requires : tie.Need-short-item-requires
-short-item-requires c κs = search needs
-
 -- ---- three fields
 returns : tie.Need-returns
 returns c = three-fields _ _ (c .before .before .before .before .before .field-count .ensures) _ _ _ (c .before .before .before .before .line-field .ensures)
     (c .before .before .before .if1 .taken) (c .before .before .line-field2 .ensures) (c .before .line-field3 .ensures) _ (c .short-item .ensures)
-
-line-field-requires-4 : tie.Need-line-field-requires-4
-line-field-requires-4 c κs = search needs
-
-line-field-requires-5 : tie.Need-line-field-requires-5
-line-field-requires-5 c κs = search needs
-
-short-item-requires-2 : tie.Need-short-item-requires-2
-short-item-requires-2 c κs = search needs
-
-line-field-requires-6 : tie.Need-line-field-requires-6
-line-field-requires-6 c κs = search needs
-
-word-number-requires : tie.Need-word-number-requires
-word-number-requires c κs = search needs
-
-line-field-requires-7 : tie.Need-line-field-requires-7
-line-field-requires-7 c κs = search needs
-
-word-number-requires-2 : tie.Need-word-number-requires-2
-word-number-requires-2 c κs = search needs
 
 -- ---- five fields
 full-item-requires : tie.Need-full-item-requires
@@ -64,9 +28,6 @@ returns-2 c = five-fields _ _ (c .before .before .before .before .before .before
     (c .before .before .before .word-number .ensures ∙ ap (λ (w : List ℕ). wordNumber w 65535) (c .before .before .before .before .line-field6 .ensures))
     (c .before .word-number2 .ensures ∙ ap (λ (w : List ℕ). wordNumber w 65535) (c .before .before .line-field7 .ensures)) _ (c .full-item .ensures)
 
-no-item-requires : tie.Need-no-item-requires
-no-item-requires c κs = search needs
-
 -- ---- another number of fields
 returns-3 : tie.Need-returns-3
 returns-3 c = c .no-item .ensures ∙ other-fields _ _ (c .before .before .before .before .field-count .ensures) (c .before .before .if1 .left)
@@ -74,22 +35,6 @@ returns-3 c = c .no-item .ensures ∙ other-fields _ _ (c .before .before .befor
 
 pub fields-item-spec : {M : Type 1} → statement M
 fields-item-spec =
-    tie.close
-    (tie.spec
-    field-count-requires
-    line-field-requires
-    line-field-requires-2
-    line-field-requires-3
-    short-item-requires
-    returns
-    line-field-requires-4
-    line-field-requires-5
-    short-item-requires-2
-    line-field-requires-6
-    word-number-requires
-    line-field-requires-7
-    word-number-requires-2
-    full-item-requires
-    returns-2
-    no-item-requires
-    returns-3)
+    tie.close (tie.spec (λ c κs. search needs) (λ c κs. search needs) (λ c κs. search needs) (λ c κs. search needs) (λ c κs. search needs) returns
+    (λ c κs. search needs) (λ c κs. search needs) (λ c κs. search needs) (λ c κs. search needs) (λ c κs. search needs) (λ c κs. search needs)
+    (λ c κs. search needs) full-item-requires returns-2 (λ c κs. search needs) returns-3)

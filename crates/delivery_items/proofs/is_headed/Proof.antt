@@ -5,15 +5,9 @@ use borrow.Author.Needs.{needs}
 use Rattle.delivery_items.proofs.is_headed.Statement.{statement}
 use Rattle.delivery_items.proofs.is_headed.Tie as tie
 
-line-field-requires : tie.Need-line-field-requires
-line-field-requires c κs = search needs
-
-is-product-word-requires : tie.Need-is-product-word-requires
-is-product-word-requires c κs = search needs
-
 returns : tie.Need-returns
 unfolding headed
 returns c = c .is-product-word .ensures ∙ ap isProductWord (c .before .line-field .ensures)
 
 pub is-headed-spec : {M : Type 1} → statement M
-is-headed-spec = tie.close (tie.spec line-field-requires is-product-word-requires returns)
+is-headed-spec = tie.close (tie.spec (λ c κs. search needs) (λ c κs. search needs) returns)

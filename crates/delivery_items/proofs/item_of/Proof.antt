@@ -5,17 +5,11 @@ use borrow.Author.Needs.{needs}
 use Rattle.delivery_items.proofs.item_of.Statement.{statement}
 use Rattle.delivery_items.proofs.item_of.Tie as tie
 
-no-item-requires : tie.Need-no-item-requires
-no-item-requires c κs = search needs
-
 returns : tie.Need-returns
 returns c = c .no-item .ensures ∙ too-long _ (c .before .if1 .taken)
-
-fields-item-requires : tie.Need-fields-item-requires
-fields-item-requires c κs = search needs
 
 returns-2 : tie.Need-returns-2
 returns-2 c = c .fields-item .ensures ∙ not-too-long _ (c .before .if1 .left)
 
 pub item-of-spec : {M : Type 1} → statement M
-item-of-spec = tie.close (tie.spec no-item-requires returns fields-item-requires returns-2)
+item-of-spec = tie.close (tie.spec (λ c κs. search needs) returns (λ c κs. search needs) returns-2)

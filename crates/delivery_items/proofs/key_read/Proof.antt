@@ -5,9 +5,6 @@ use borrow.Author.Needs.{needs}
 use Rattle.delivery_items.proofs.key_read.Statement.{statement}
 use Rattle.delivery_items.proofs.key_read.Tie as tie
 
-month-of-requires : tie.Need-month-of-requires
-month-of-requires c κs = search needs
-
 returns : tie.Need-returns
 returns c = c .month-of .ensures ∙ key-month _ _ (c .before .if1 .taken)
 
@@ -15,4 +12,4 @@ returns-2 : tie.Need-returns-2
 returns-2 c = key-friday _ _ (c .if1 .left)
 
 pub key-read-spec : {M : Type 1} → statement M
-key-read-spec = tie.close (tie.spec month-of-requires returns returns-2)
+key-read-spec = tie.close (tie.spec (λ c κs. search needs) returns returns-2)

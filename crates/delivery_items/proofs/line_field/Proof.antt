@@ -5,15 +5,9 @@ use borrow.Author.Needs.{needs}
 use Rattle.delivery_items.proofs.line_field.Statement.{statement}
 use Rattle.delivery_items.proofs.line_field.Tie as tie
 
-raw-field-requires : tie.Need-raw-field-requires
-raw-field-requires c κs = search needs
-
-unquote-requires : tie.Need-unquote-requires
-unquote-requires c κs = search needs
-
 returns : tie.Need-returns
 unfolding fieldAt
 returns c = c .unquote .ensures ∙ ap unquoted (c .before .raw-field .ensures)
 
 pub line-field-spec : {M : Type 1} → statement M
-line-field-spec = tie.close (tie.spec raw-field-requires unquote-requires returns)
+line-field-spec = tie.close (tie.spec (λ c κs. search needs) (λ c κs. search needs) returns)

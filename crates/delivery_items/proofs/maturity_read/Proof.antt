@@ -5,17 +5,11 @@ use borrow.Author.Needs.{needs}
 use Rattle.delivery_items.proofs.maturity_read.Statement.{statement}
 use Rattle.delivery_items.proofs.maturity_read.Tie as tie
 
-month-in-requires : tie.Need-month-in-requires
-month-in-requires c κs = search needs
-
 returns : tie.Need-returns
 returns c = c .month-in .ensures ∙ maturity-month _ (c .before .if1 .taken)
-
-date-in-requires : tie.Need-date-in-requires
-date-in-requires c κs = search needs
 
 returns-2 : tie.Need-returns-2
 returns-2 c = c .date-in .ensures ∙ maturity-friday _ (c .before .if1 .left)
 
 pub maturity-read-spec : {M : Type 1} → statement M
-maturity-read-spec = tie.close (tie.spec month-in-requires returns date-in-requires returns-2)
+maturity-read-spec = tie.close (tie.spec (λ c κs. search needs) returns (λ c κs. search needs) returns-2)

@@ -79,22 +79,5 @@ returns-2 c =
 
 pub raw-field-spec : {M : Type 1} → statement M
 raw-field-spec =
-    tie.close
-    (tie.spec
-    Inv-loop
-    μ-loop
-    loop-holds
-    separator-from-requires
-    sub-result
-    part-result-start
-    part-result-end
-    returns
-    add-from
-    add-i
-    loop-less
-    loop-again
-    separator-from-requires-2
-    sub-result-2
-    part-result-start-2
-    part-result-end-2
-    returns-2)
+    tie.close (tie.spec Inv-loop μ-loop loop-holds separator-from-requires sub-result part-result-start part-result-end returns add-from add-i loop-less
+    loop-again separator-from-requires-2 sub-result-2 part-result-start-2 part-result-end-2 returns-2)

@@ -9,9 +9,6 @@ use borrow.Author.Needs.{needs}
 use Rattle.delivery_items.proofs.read_held.Statement.{statement}
 use Rattle.delivery_items.proofs.read_held.Tie as tie
 
-held-length-requires : tie.Need-held-length-requires
-held-length-requires c κs = search needs
-
 -- ---- a line that is too long
 array-share-prefix-bytes : tie.Need-array-share-prefix-bytes
 array-share-prefix-bytes c =
@@ -24,12 +21,6 @@ slice-aggregate-is-headed c =
     let l : length (args .line .bytes) ≡ 255 = simp length-map at (c .before .before .before .before .good .0 .1 .1 .0 .1 .0 .1) in
     sym (length-take-le (c .before .before .before .held-length .result) (args .line .bytes)
     (omega (arith, c .before .before .before .held-length .ensures .0, l)))
-
-is-headed-requires : tie.Need-is-headed-requires
-is-headed-requires c κs = search needs
-
-no-item-requires : tie.Need-no-item-requires
-no-item-requires c κs = search needs
 
 returns : tie.Need-returns
 returns c =
@@ -50,9 +41,6 @@ slice-aggregate-read-line c =
     sym (length-take-le (c .before .before .before .held-length .result) (args .line .bytes)
     (omega (arith, c .before .before .before .held-length .ensures .0, l)))
 
-read-line-requires : tie.Need-read-line-requires
-read-line-requires c κs = search needs
-
 returns-2 : tie.Need-returns-2
 returns-2 c =
     let before-4 = c .before .before .before .before in
@@ -61,15 +49,5 @@ returns-2 c =
 
 pub read-held-spec : {M : Type 1} → statement M
 read-held-spec =
-    tie.close
-    (tie.spec
-    held-length-requires
-    array-share-prefix-bytes
-    slice-aggregate-is-headed
-    is-headed-requires
-    no-item-requires
-    returns
-    array-share-prefix-bytes-2
-    slice-aggregate-read-line
-    read-line-requires
-    returns-2)
+    tie.close (tie.spec (λ c κs. search needs) array-share-prefix-bytes slice-aggregate-is-headed (λ c κs. search needs) (λ c κs. search needs) returns
+    array-share-prefix-bytes-2 slice-aggregate-read-line (λ c κs. search needs) returns-2)

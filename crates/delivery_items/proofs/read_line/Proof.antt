@@ -7,20 +7,12 @@ use borrow.Author.Needs.{needs}
 use Rattle.delivery_items.proofs.read_line.Statement.{statement}
 use Rattle.delivery_items.proofs.read_line.Tie as tie
 
-trimmed-length-requires : tie.Need-trimmed-length-requires
-trimmed-length-requires c κs = search needs
-
 slice-aggregate-read-trimmed : tie.Need-slice-aggregate-read-trimmed
 slice-aggregate-read-trimmed c = sym (length-take-le _ _ (c .before .trimmed-length .ensures .1))
-
-read-trimmed-requires : tie.Need-read-trimmed-requires
-read-trimmed-requires c κs = search needs
 
 returns : tie.Need-returns
 returns c = line-is _ _ _ (c .before .before .trimmed-length .ensures .0) (c .read-trimmed .ensures .0) (c .read-trimmed .ensures .1)
     (c .read-trimmed .ensures .2)
 
 pub read-line-spec : {M : Type 1} → statement M
-read-line-spec =
-    tie.close
-    (tie.spec trimmed-length-requires slice-aggregate-read-trimmed read-trimmed-requires returns)
+read-line-spec = tie.close (tie.spec (λ c κs. search needs) slice-aggregate-read-trimmed (λ c κs. search needs) returns)

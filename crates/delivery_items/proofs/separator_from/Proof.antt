@@ -56,15 +56,4 @@ returns-2 c =
 
 pub separator-from-spec : {M : Type 1} → statement M
 separator-from-spec =
-    tie.close
-    (tie.spec
-    Inv-loop
-    μ-loop
-    loop-holds
-    shared-slice-read-is-separator
-    is-separator-requires
-    returns
-    add-i
-    loop-less
-    loop-again
-    returns-2)
+    tie.close (tie.spec Inv-loop μ-loop loop-holds shared-slice-read-is-separator is-separator-requires returns add-i loop-less loop-again returns-2)

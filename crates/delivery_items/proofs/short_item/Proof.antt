@@ -7,28 +7,10 @@ use borrow.Author.Needs.{needs}
 use Rattle.delivery_items.proofs.short_item.Statement.{statement}
 use Rattle.delivery_items.proofs.short_item.Tie as tie
 
-maturity-read-requires : tie.Need-maturity-read-requires
-maturity-read-requires c κs = search needs
-
-date-in-requires : tie.Need-date-in-requires
-date-in-requires c κs = search needs
-
-is-id-requires : tie.Need-is-id-requires
-is-id-requires c κs = search needs
-
-no-item-requires : tie.Need-no-item-requires
-no-item-requires c κs = search needs
-
 returns : tie.Need-returns
 returns c = c .no-item .ensures ∙ item-none _ _ _ _ _ _ (c .before .before .before .before .is-id .ensures)
     (c .before .before .before .before .before .before .maturity-read .ensures) (c .before .before .before .before .before .date-in .ensures)
     (not-true _ (c .before .if1 .taken))
-
-id-bytes-requires : tie.Need-id-bytes-requires
-id-bytes-requires c κs = search needs
-
-key-read-requires : tie.Need-key-read-requires
-key-read-requires c κs = search needs
 
 returns-2 : tie.Need-returns-2
 returns-2 c = item-is _ _ _ _ _ _ (c .before .before .before .before .before .is-id .ensures)
@@ -37,13 +19,5 @@ returns-2 c = item-is _ _ _ _ _ _ (c .before .before .before .before .before .is
 
 pub short-item-spec : {M : Type 1} → statement M
 short-item-spec =
-    tie.close
-    (tie.spec
-    maturity-read-requires
-    date-in-requires
-    is-id-requires
-    no-item-requires
-    returns
-    id-bytes-requires
-    key-read-requires
-    returns-2)
+    tie.close (tie.spec (λ c κs. search needs) (λ c κs. search needs) (λ c κs. search needs) (λ c κs. search needs) returns (λ c κs. search needs)
+    (λ c κs. search needs) returns-2)

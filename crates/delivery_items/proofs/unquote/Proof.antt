@@ -8,48 +8,16 @@ use Rattle.delivery_items.proofs.unquote.Tie as tie
 returns : tie.Need-returns
 returns c = short-field _ (c .if1 .taken)
 
-shared-slice-read-if2 : tie.Need-shared-slice-read-if2
-shared-slice-read-if2 c = search needs
-
 returns-2 : tie.Need-returns-2
 returns-2 c = unquoted-start _ (c .before .before .if1 .left) (c .if2 .taken)
 
-sub-if3 : tie.Need-sub-if3
-sub-if3 c = search needs
-
-shared-slice-read-if3 : tie.Need-shared-slice-read-if3
-shared-slice-read-if3 c = search needs
-
 returns-3 : tie.Need-returns-3
 returns-3 c = unquoted-end _ (c .before .before .before .before .if1 .left) (c .if3 .taken)
-
-sub-end : tie.Need-sub-end
-sub-end c = search needs
-
-sub-result : tie.Need-sub-result
-sub-result c = search needs
-
-part-result-start : tie.Need-part-result-start
-part-result-start c = search needs
-
-part-result-end : tie.Need-part-result-end
-part-result-end c = search needs
 
 returns-4 : tie.Need-returns-4
 returns-4 c = quoted _ (c .before .before .before .before .before .if1 .left) (c .before .before .before .if2 .left) (c .before .if3 .left)
 
 pub unquote-spec : {M : Type 1} → statement M
 unquote-spec =
-    tie.close
-    (tie.spec
-    returns
-    shared-slice-read-if2
-    returns-2
-    sub-if3
-    shared-slice-read-if3
-    returns-3
-    sub-end
-    sub-result
-    part-result-start
-    part-result-end
-    returns-4)
+    tie.close (tie.spec returns (λ c. search needs) returns-2 (λ c. search needs) (λ c. search needs) returns-3 (λ c. search needs) (λ c. search needs)
+    (λ c. search needs) (λ c. search needs) returns-4)

@@ -66,18 +66,5 @@ returns c = goes-all _ _ _ _ _ _ _ _ (c .before .loop .inv .0) (c .loop-test .le
 
 pub print-keys-spec : {M : Type 1} → statement M
 print-keys-spec =
-    tie.close
-    (tie.spec
-    Inv-loop
-    μ-loop
-    buffer-requires
-    loop-holds
-    slice-aggregate-print-differences
-    print-differences-requires
-    slice-aggregate-write-keys
-    write-keys-requires
-    cast-lines
-    add-lines
-    loop-less
-    loop-again
-    returns)
+    tie.close (tie.spec Inv-loop μ-loop buffer-requires loop-holds slice-aggregate-print-differences print-differences-requires slice-aggregate-write-keys
+    write-keys-requires cast-lines add-lines loop-less loop-again returns)

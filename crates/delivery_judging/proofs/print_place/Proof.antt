@@ -10,9 +10,6 @@ use Rattle.delivery_judging.proofs.print_place.Tie as tie
 returns : tie.Need-returns
 returns c = place-none _ _ _ _ _ _ _ _ _ _ _ (c .before .before .listed-of .result) (c .before .before .listed-of .ensures) (not-true _ (c .if1 .taken))
 
-slice-reshare-prefix-print-keys : tie.Need-slice-reshare-prefix-print-keys
-slice-reshare-prefix-print-keys c = search needs
-
 slice-aggregate-print-keys : tie.Need-slice-aggregate-print-keys
 slice-aggregate-print-keys c = sym (length-take-le _ _ (c .before .before .before .places-of .ensures .fits))
 
@@ -27,14 +24,4 @@ returns-2 c =
     (c .before .before .before .before .places-of .ensures) _ (c .print-keys .ensures)
 
 pub print-place-spec : {M : Type 1} → statement M
-print-place-spec =
-    tie.close
-    (tie.spec
-    (λ c κs. tt)
-    returns
-    (λ c κs. tt)
-    slice-reshare-prefix-print-keys
-    slice-aggregate-print-keys
-    (λ c κs. tt)
-    same-length
-    returns-2)
+print-place-spec = tie.close (tie.spec (λ c κs. tt) returns (λ c κs. tt) (λ c. search needs) slice-aggregate-print-keys (λ c κs. tt) same-length returns-2)

@@ -64,17 +64,4 @@ returns-2 c = λ h. let v = c .before .loop .inv in places-at _ _ _ _ _ _ _ _ _ 
 
 pub print-places-spec : {M : Type 1} → statement M
 print-places-spec =
-    tie.close
-    (tie.spec
-    Inv-loop
-    μ-loop
-    returns
-    mul-count
-    loop-holds
-    print-place-requires
-    add-lines
-    add-p
-    loop-less
-    loop-again
-    same-length
-    returns-2)
+    tie.close (tie.spec Inv-loop μ-loop returns mul-count loop-holds print-place-requires add-lines add-p loop-less loop-again same-length returns-2)

@@ -67,18 +67,5 @@ returns c = goes-all _ _ _ _ _ _ _ (c .before .loop .inv .0) (c .loop-test .left
 
 pub print-strangers-spec : {M : Type 1} → statement M
 print-strangers-spec =
-    tie.close
-    (tie.spec
-    Inv-loop
-    μ-loop
-    buffer-requires
-    loop-holds
-    slice-aggregate-print-strangers
-    print-strangers-requires
-    slice-aggregate-write-strangers
-    write-strangers-requires
-    cast-lines
-    add-lines
-    loop-less
-    loop-again
-    returns)
+    tie.close (tie.spec Inv-loop μ-loop buffer-requires loop-holds slice-aggregate-print-strangers print-strangers-requires slice-aggregate-write-strangers
+    write-strangers-requires cast-lines add-lines loop-less loop-again returns)

@@ -6,9 +6,6 @@ use borrow.Author.Needs.{needs}
 use Rattle.delivery_judging.proofs.write_keys.Statement.{statement}
 use Rattle.delivery_judging.proofs.write_keys.Tie as tie
 
-slice-aggregate-write-next : tie.Need-slice-aggregate-write-next
-slice-aggregate-write-next c = search needs
-
 slice-aggregate-write-next-2 : tie.Need-slice-aggregate-write-next-2
 slice-aggregate-write-next-2 c = sym (length-take-le _ _ (search needs))
 
@@ -26,10 +23,4 @@ returns c =
     )
 
 pub write-keys-spec : {M : Type 1} → statement M
-write-keys-spec =
-    tie.close
-    (tie.spec
-    slice-aggregate-write-next
-    slice-aggregate-write-next-2
-    (λ c κs. tt)
-    returns)
+write-keys-spec = tie.close (tie.spec (λ c. search needs) slice-aggregate-write-next-2 (λ c κs. tt) returns)

@@ -6,9 +6,6 @@ use borrow.Author.Needs.{needs}
 use Rattle.delivery_judging.proofs.write_strangers.Statement.{statement}
 use Rattle.delivery_judging.proofs.write_strangers.Tie as tie
 
-slice-aggregate-write-next : tie.Need-slice-aggregate-write-next
-slice-aggregate-write-next c = search needs
-
 slice-aggregate-write-next-2 : tie.Need-slice-aggregate-write-next-2
 slice-aggregate-write-next-2 c = sym (length-take-le _ _ (search needs))
 
@@ -19,10 +16,4 @@ returns c =
     (w .0, omega (arith, w .1, length-take-le (args .p .length) (args .out .now) (c .before .before .before .before .before .before .pre .0)))
 
 pub write-strangers-spec : {M : Type 1} → statement M
-write-strangers-spec =
-    tie.close
-    (tie.spec
-    slice-aggregate-write-next
-    slice-aggregate-write-next-2
-    (λ c κs. tt)
-    returns)
+write-strangers-spec = tie.close (tie.spec (λ c. search needs) slice-aggregate-write-next-2 (λ c κs. tt) returns)

@@ -20,13 +20,4 @@ returns-3 c =
     (said-yes (c .before .before .is-date-letter .ensures) (c .before .if2 .left))
 
 pub day-notice-spec : {M : Type 1} → statement M
-day-notice-spec =
-    tie.close
-    (tie.spec
-    (λ c κs. tt)
-    returns
-    (λ c κs. tt)
-    (λ c κs. tt)
-    returns-2
-    (λ c κs. tt)
-    returns-3)
+day-notice-spec = tie.close (tie.spec (λ c κs. tt) returns (λ c κs. tt) (λ c κs. tt) returns-2 (λ c κs. tt) returns-3)

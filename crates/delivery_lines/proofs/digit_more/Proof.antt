@@ -5,20 +5,11 @@ use Rattle.delivery_lines.proofs.NoticeValues.{held-small, held-large}
 use Rattle.delivery_lines.proofs.digit_more.Statement.{statement}
 use Rattle.delivery_lines.proofs.digit_more.Tie as tie
 
-mul-next : tie.Need-mul-next
-mul-next c = search needs
-
-add-next : tie.Need-add-next
-add-next c = search needs
-
 returns : tie.Need-returns
 returns c = held-large _ (c .if1 .taken)
-
-cast-result : tie.Need-cast-result
-cast-result c = search needs
 
 returns-2 : tie.Need-returns-2
 returns-2 c = held-small _ (c .if1 .left)
 
 pub digit-more-spec : {M : Type 1} → statement M
-digit-more-spec = tie.close (tie.spec mul-next add-next returns cast-result returns-2)
+digit-more-spec = tie.close (tie.spec (λ c. search needs) (λ c. search needs) returns (λ c. search needs) returns-2)

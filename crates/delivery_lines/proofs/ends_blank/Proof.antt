@@ -8,16 +8,8 @@ use Rattle.delivery_lines.proofs.ends_blank.Tie as tie
 returns : tie.Need-returns
 returns c = ends-none _ _ (c .if1 .taken)
 
-sub-is-blank : tie.Need-sub-is-blank
-sub-is-blank c = search needs
-
-shared-slice-read-is-blank : tie.Need-shared-slice-read-is-blank
-shared-slice-read-is-blank c = search needs
-
 returns-2 : tie.Need-returns-2
 returns-2 c = c .is-blank .ensures ∙ ends-some _ _ (c .before .before .if1 .left)
 
 pub ends-blank-spec : {M : Type 1} → statement M
-ends-blank-spec =
-    tie.close
-    (tie.spec returns sub-is-blank shared-slice-read-is-blank (λ c κs. tt) returns-2)
+ends-blank-spec = tie.close (tie.spec returns (λ c. search needs) (λ c. search needs) (λ c κs. tt) returns-2)

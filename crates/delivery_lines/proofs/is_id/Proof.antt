@@ -64,17 +64,5 @@ returns-4 c =
 
 pub is-id-spec : {M : Type 1} → statement M
 is-id-spec =
-    tie.close
-    (tie.spec
-    Inv-loop
-    μ-loop
-    returns
-    returns-2
-    loop-holds
-    shared-slice-read-is-id-character
-    is-id-character-requires
-    returns-3
-    add-i
-    loop-less
-    loop-again
-    returns-4)
+    tie.close (tie.spec Inv-loop μ-loop returns returns-2 loop-holds shared-slice-read-is-id-character is-id-character-requires returns-3 add-i loop-less
+    loop-again returns-4)

@@ -15,6 +15,4 @@ returns : tie.Need-returns
 returns c = c .trimmed-line .ensures ∙ ap (λ (l : List ℕ). lineHeld (trimmedSaid l)) (c .before .before .trimmed-length .ensures .0)
 
 pub notice-of-spec : {M : Type 1} → statement M
-notice-of-spec =
-    tie.close
-    (tie.spec (λ c κs. tt) slice-aggregate-trimmed-line (λ c κs. tt) returns)
+notice-of-spec = tie.close (tie.spec (λ c κs. tt) slice-aggregate-trimmed-line (λ c κs. tt) returns)

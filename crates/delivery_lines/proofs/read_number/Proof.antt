@@ -76,19 +76,5 @@ returns-3 c =
 
 pub read-number-spec : {M : Type 1} → statement M
 read-number-spec =
-    tie.close
-    (tie.spec
-    Inv-loop
-    μ-loop
-    returns
-    loop-holds
-    shared-slice-read-is-digit
-    is-digit-requires
-    returns-2
-    shared-slice-read-digit-value
-    digit-value-requires
-    digit-more-requires
-    add-i
-    loop-less
-    loop-again
-    returns-3)
+    tie.close (tie.spec Inv-loop μ-loop returns loop-holds shared-slice-read-is-digit is-digit-requires returns-2 shared-slice-read-digit-value
+    digit-value-requires digit-more-requires add-i loop-less loop-again returns-3)

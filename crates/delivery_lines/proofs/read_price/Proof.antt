@@ -18,9 +18,6 @@ returns-2 c =
     price-large _ _ _ (c .before .before .before .before .before .before .read-whole .ensures) (c .before .before .before .before .before .part-read .ensures)
     (not-false _ (c .before .before .if1 .left)) (c .if2 .taken)
 
-mul-t6 : tie.Need-mul-t6
-mul-t6 c = search needs
-
 add-t7 : tie.Need-add-t7
 add-t7 c =
     let before-7 = c .before .before .before .before .before .before .before in
@@ -34,6 +31,4 @@ returns-3 c =
     (not-false _ (c .before .before .before .before .if1 .left)) (c .before .before .if2 .left) (part-most _ _ (before-7 .part-read .ensures))
 
 pub read-price-spec : {M : Type 1} → statement M
-read-price-spec =
-    tie.close
-    (tie.spec (λ c κs. tt) (λ c κs. tt) returns returns-2 mul-t6 add-t7 returns-3)
+read-price-spec = tie.close (tie.spec (λ c κs. tt) (λ c κs. tt) returns returns-2 (λ c. search needs) add-t7 returns-3)

@@ -22,13 +22,4 @@ returns-2 : tie.Need-returns-2
 returns-2 c = c .read-number2 .ensures ∙ ap numberHeld (whole-bare _ (sym (c .before .before .is-pointed .ensures) ∙ c .before .if1 .left))
 
 pub read-whole-spec : {M : Type 1} → statement M
-read-whole-spec =
-    tie.close
-    (tie.spec
-    (λ c κs. tt)
-    sub-end
-    slice-aggregate-read-number
-    (λ c κs. tt)
-    returns
-    (λ c κs. tt)
-    returns-2)
+read-whole-spec = tie.close (tie.spec (λ c κs. tt) sub-end slice-aggregate-read-number (λ c κs. tt) returns (λ c κs. tt) returns-2)

@@ -43,6 +43,4 @@ returns c = (
 )
 
 pub trimmed-length-spec : {M : Type 1} → statement M
-trimmed-length-spec =
-    tie.close
-    (tie.spec Inv-loop μ-loop loop-holds ends-blank-requires sub-n loop-less loop-again returns)
+trimmed-length-spec = tie.close (tie.spec Inv-loop μ-loop loop-holds ends-blank-requires sub-n loop-less loop-again returns)

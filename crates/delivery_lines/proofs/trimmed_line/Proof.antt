@@ -9,9 +9,6 @@ use Rattle.delivery_lines.proofs.trimmed_line.Tie as tie
 returns : tie.Need-returns
 returns c = c .notice-day-held .ensures ∙ line-empty _ (c .before .if1 .taken)
 
-shared-slice-read-if2 : tie.Need-shared-slice-read-if2
-shared-slice-read-if2 c = search needs
-
 returns-2 : tie.Need-returns-2
 returns-2 c = c .notice-day-held2 .ensures ∙ line-comment _ (c .before .before .before .if1 .left) (c .before .if2 .taken)
 
@@ -19,13 +16,4 @@ returns-3 : tie.Need-returns-3
 returns-3 c = c .words-line .ensures ∙ line-words _ (c .before .before .before .if1 .left) (c .before .if2 .left)
 
 pub trimmed-line-spec : {M : Type 1} → statement M
-trimmed-line-spec =
-    tie.close
-    (tie.spec
-    (λ c κs. tt)
-    returns
-    shared-slice-read-if2
-    (λ c κs. tt)
-    returns-2
-    (λ c κs. tt)
-    returns-3)
+trimmed-line-spec = tie.close (tie.spec (λ c κs. tt) returns (λ c. search needs) (λ c κs. tt) returns-2 (λ c κs. tt) returns-3)

@@ -92,21 +92,5 @@ returns c = all-lines _ _ _ _ _ _ _ _ (c .before .loop .inv .3) (c .loop-test .l
 
 pub read-lines-spec : {M : Type 1} → statement M
 read-lines-spec =
-    tie.close
-    (tie.spec
-    Inv-loop
-    μ-loop
-    no-notices-taken-requires
-    loop-holds
-    (λ c κs. tt)
-    add-cut
-    sub-take-line
-    part-take-line-start
-    part-take-line-end
-    take-line-requires
-    add-from
-    loop-less
-    loop-again
-    same-length
-    same-length-2
-    returns)
+    tie.close (tie.spec Inv-loop μ-loop no-notices-taken-requires loop-holds (λ c κs. tt) add-cut sub-take-line part-take-line-start part-take-line-end
+    take-line-requires add-from loop-less loop-again same-length same-length-2 returns)

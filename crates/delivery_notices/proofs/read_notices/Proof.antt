@@ -17,15 +17,6 @@ slice-aggregate-part : tie.Need-slice-aggregate-part
 slice-aggregate-part c = sym (length-take-le _ _
     (part-few (c .before .before .before .before .before .before .before .args .text .now) _ (c .before .read-length .ensures)))
 
-sub-read-lines : tie.Need-sub-read-lines
-sub-read-lines c = search needs
-
-part-read-lines-start : tie.Need-part-read-lines-start
-part-read-lines-start c = search needs
-
-part-read-lines-end : tie.Need-part-read-lines-end
-part-read-lines-end c = search needs
-
 read-lines-requires : tie.Need-read-lines-requires
 read-lines-requires c κs =
     let args = c .before .before .before .before .before .before .before .before .before .before .before .args in
@@ -35,12 +26,6 @@ read-lines-requires c κs =
 
 whole-taken-requires : tie.Need-whole-taken-requires
 whole-taken-requires c κs = c .before .before .before .before .read-lines .ensures .lines
-
-same-length : tie.Need-same-length
-same-length c = search needs
-
-same-length-2 : tie.Need-same-length-2
-same-length-2 c = search needs
 
 -- ---- what was read is the text's
 returns-2 : tie.Need-returns-2
@@ -53,19 +38,5 @@ returns-2 c =
 
 pub read-notices-spec : {M : Type 1} → statement M
 read-notices-spec =
-    tie.close
-    (tie.spec
-    (λ c κs. tt)
-    (λ c κs. tt)
-    returns
-    (λ c κs. tt)
-    slice-aggregate-part
-    (λ c κs. tt)
-    sub-read-lines
-    part-read-lines-start
-    part-read-lines-end
-    read-lines-requires
-    whole-taken-requires
-    same-length
-    same-length-2
-    returns-2)
+    tie.close (tie.spec (λ c κs. tt) (λ c κs. tt) returns (λ c κs. tt) slice-aggregate-part (λ c κs. tt) (λ c. search needs) (λ c. search needs)
+    (λ c. search needs) read-lines-requires whole-taken-requires (λ c. search needs) (λ c. search needs) returns-2)

@@ -8,26 +8,8 @@ use Rattle.delivery_notices.proofs.store_notice.Tie as tie
 put-call-requires : tie.Need-put-call-requires
 put-call-requires c κs = c .before .before .before .before .before .before .pre .0
 
-array-read-put-id : tie.Need-array-read-put-id
-array-read-put-id c = search needs
-
-array-read-put-id-2 : tie.Need-array-read-put-id-2
-array-read-put-id-2 c = search needs
-
-array-read-put-id-3 : tie.Need-array-read-put-id-3
-array-read-put-id-3 c = search needs
-
-array-read-put-id-4 : tie.Need-array-read-put-id-4
-array-read-put-id-4 c = search needs
-
 put-id-requires : tie.Need-put-id-requires
 put-id-requires c κs = c .before .before .before .before .before .before .before .before .before .before .pre .1
-
-same-length : tie.Need-same-length
-same-length c = search needs
-
-same-length-2 : tie.Need-same-length-2
-same-length-2 c = search needs
 
 returns : tie.Need-returns
 returns c =
@@ -38,16 +20,5 @@ returns c =
 
 pub store-notice-spec : {M : Type 1} → statement M
 store-notice-spec =
-    tie.close
-    (tie.spec
-    (λ c κs. tt)
-    (λ c κs. tt)
-    put-call-requires
-    array-read-put-id
-    array-read-put-id-2
-    array-read-put-id-3
-    array-read-put-id-4
-    put-id-requires
-    same-length
-    same-length-2
-    returns)
+    tie.close (tie.spec (λ c κs. tt) (λ c κs. tt) put-call-requires (λ c. search needs) (λ c. search needs) (λ c. search needs) (λ c. search needs)
+    put-id-requires (λ c. search needs) (λ c. search needs) returns)

@@ -31,14 +31,4 @@ returns-3 c =
     (c .before .before .before .before .before .before .before .notice-of .ensures) _ _ _ (c .before .before .before .before .take-said .ensures)
 
 pub take-line-spec : {M : Type 1} → statement M
-take-line-spec =
-    tie.close
-    (tie.spec
-    returns
-    bad-taken-requires
-    returns-2
-    (λ c κs. tt)
-    take-said-requires
-    same-length
-    same-length-2
-    returns-3)
+take-line-spec = tie.close (tie.spec returns bad-taken-requires returns-2 (λ c κs. tt) take-said-requires same-length same-length-2 returns-3)

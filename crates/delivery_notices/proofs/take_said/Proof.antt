@@ -8,9 +8,6 @@ use Rattle.delivery_notices.proofs.take_said.Statement.{statement}
 use Rattle.delivery_notices.proofs.take_said.Tie as tie
 
 -- ---- a line that says nothing
-add-r : tie.Need-add-r
-add-r c = search needs
-
 returns : tie.Need-returns
 returns c = said-comment _ _ _ _ (c .before .before .before .before .pre .2) (c .if1 .taken)
 
@@ -33,9 +30,6 @@ returns-3 c =
     (said-no (c .before .before .may-stand .ensures) (c .before .if3 .taken)))
 
 -- ---- the O
-add-r-2 : tie.Need-add-r-2
-add-r-2 c = search needs
-
 returns-4 : tie.Need-returns-4
 returns-4 c =
     said-open _ _ _ _ (c .before .before .before .before .before .before .before .before .before .pre .2) (c .before .before .before .before .before .if1 .left)
@@ -43,12 +37,6 @@ returns-4 c =
     (c .before .if4 .taken)
 
 -- ---- a notice
-add-store-notice : tie.Need-add-store-notice
-add-store-notice c = search needs
-
-cast-store-notice : tie.Need-cast-store-notice
-cast-store-notice c = search needs
-
 store-notice-requires : tie.Need-store-notice-requires
 store-notice-requires c κs =
     let before-12 = c .before .before .before .before .before .before .before .before .before .before .before .before in
@@ -81,21 +69,5 @@ returns-5 c =
 
 pub take-said-spec : {M : Type 1} → statement M
 take-said-spec =
-    tie.close
-    (tie.spec
-    add-r
-    returns
-    bad-taken-requires
-    returns-2
-    (λ c κs. tt)
-    bad-taken-requires-2
-    returns-3
-    add-r-2
-    returns-4
-    add-store-notice
-    cast-store-notice
-    store-notice-requires
-    add-r-3
-    same-length
-    same-length-2
-    returns-5)
+    tie.close (tie.spec (λ c. search needs) returns bad-taken-requires returns-2 (λ c κs. tt) bad-taken-requires-2 returns-3 (λ c. search needs) returns-4
+    (λ c. search needs) (λ c. search needs) store-notice-requires add-r-3 same-length same-length-2 returns-5)

@@ -44,19 +44,5 @@ returns-4 c =
 
 pub deliver-place-spec : {M : Type 1} → statement M
 deliver-place-spec =
-    tie.close
-    (tie.spec
-    (λ c κs. tt)
-    (λ c κs. tt)
-    returns
-    (λ c κs. tt)
-    (λ c κs. tt)
-    returns-2
-    (λ c κs. tt)
-    (λ c κs. tt)
-    same-length
-    returns-3
-    (λ c κs. tt)
-    same-length-2
-    same-length-3
-    returns-4)
+    tie.close (tie.spec (λ c κs. tt) (λ c κs. tt) returns (λ c κs. tt) (λ c κs. tt) returns-2 (λ c κs. tt) (λ c κs. tt) same-length returns-3 (λ c κs. tt)
+    same-length-2 same-length-3 returns-4)

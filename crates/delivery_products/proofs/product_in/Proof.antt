@@ -25,14 +25,4 @@ returns-3 c =
     (said-yes (at-is-record .is-record .ensures) (c .before .if2 .left))))
 
 pub product-in-spec : {M : Type 1} → statement M
-product-in-spec =
-    tie.close
-    (tie.spec
-    (λ c κs. tt)
-    (λ c κs. tt)
-    returns
-    (λ c κs. tt)
-    (λ c κs. tt)
-    returns-2
-    (λ c κs. tt)
-    returns-3)
+product-in-spec = tie.close (tie.spec (λ c κs. tt) (λ c κs. tt) returns (λ c κs. tt) (λ c κs. tt) returns-2 (λ c κs. tt) returns-3)

@@ -6,14 +6,8 @@ use borrow.Author.Needs.{needs}
 use Rattle.delivery_queries.proofs.answer_line.Statement.{statement}
 use Rattle.delivery_queries.proofs.answer_line.Tie as tie
 
-same-length : tie.Need-same-length
-same-length c = search needs
-
 returns : tie.Need-returns
 returns c = unprinted (said-no (c .before .has-room .ensures) (c .if1 .taken))
-
-same-length-2 : tie.Need-same-length-2
-same-length-2 c = search needs
 
 returns-2 : tie.Need-returns-2
 returns-2 c =
@@ -27,9 +21,6 @@ put-bad-requires c κs =
     let at-if1 = c .before .before .before .before .before .before in
     let at-has-room = at-if1 .before in
     room-64 _ _ (said-yes (at-has-room .has-room .ensures) (at-if1 .if1 .left))
-
-same-length-3 : tie.Need-same-length-3
-same-length-3 c = search needs
 
 returns-3 : tie.Need-returns-3
 returns-3 c =
@@ -47,12 +38,6 @@ put-answer-requires c κs =
     let at-has-room = at-if1 .before in
     room-long _ _ (said-yes (at-has-room .has-room .ensures) (at-if1 .if1 .left))
 
-same-length-4 : tie.Need-same-length-4
-same-length-4 c = search needs
-
-same-length-5 : tie.Need-same-length-5
-same-length-5 c = search needs
-
 returns-4 : tie.Need-returns-4
 returns-4 c =
     let at-put-answer = c .before .before in
@@ -68,19 +53,5 @@ returns-4 c =
 
 pub answer-line-spec : {M : Type 1} → statement M
 answer-line-spec =
-    tie.close
-    (tie.spec
-    (λ c κs. tt)
-    same-length
-    returns
-    (λ c κs. tt)
-    same-length-2
-    returns-2
-    put-bad-requires
-    same-length-3
-    returns-3
-    (λ c κs. tt)
-    put-answer-requires
-    same-length-4
-    same-length-5
-    returns-4)
+    tie.close (tie.spec (λ c κs. tt) (λ c. search needs) returns (λ c κs. tt) (λ c. search needs) returns-2 put-bad-requires (λ c. search needs) returns-3
+    (λ c κs. tt) put-answer-requires (λ c. search needs) (λ c. search needs) returns-4)

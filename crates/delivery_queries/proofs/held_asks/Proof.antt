@@ -8,9 +8,6 @@ use borrow.Author.Needs.{needs}
 use Rattle.delivery_queries.proofs.held_asks.Statement.{statement}
 use Rattle.delivery_queries.proofs.held_asks.Tie as tie
 
-array-read-if2 : tie.Need-array-read-if2
-array-read-if2 c = search needs
-
 returns : tie.Need-returns
 returns c = c .bare-held .ensures ∙ asks-comment _ (c .before .before .if1 .taken) (c .before .if2 .taken)
 
@@ -40,15 +37,5 @@ returns-3 c =
 
 pub held-asks-spec : {M : Type 1} → statement M
 held-asks-spec =
-    tie.close
-    (tie.spec
-    array-read-if2
-    (λ c κs. tt)
-    returns
-    (λ c κs. tt)
-    returns-2
-    (λ c κs. tt)
-    array-share-prefix-bytes
-    slice-aggregate-question-of
-    (λ c κs. tt)
-    returns-3)
+    tie.close (tie.spec (λ c. search needs) (λ c κs. tt) returns (λ c κs. tt) returns-2 (λ c κs. tt) array-share-prefix-bytes slice-aggregate-question-of
+    (λ c κs. tt) returns-3)

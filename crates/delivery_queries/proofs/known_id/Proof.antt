@@ -4,12 +4,6 @@ use borrow.Author.Needs.{needs}
 use Rattle.delivery_queries.proofs.known_id.Statement.{statement}
 use Rattle.delivery_queries.proofs.known_id.Tie as tie
 
-enum-known-block : tie.Need-enum-known-block
-enum-known-block c = search needs
-
-enum-told : tie.Need-enum-told
-enum-told c = search needs
-
 returns : tie.Need-returns
 returns c =
     let at-product-at = c .before in
@@ -21,13 +15,4 @@ returns-2 : tie.Need-returns-2
 returns-2 c = known-not _ _ (rw (c .enum-told .given .1) at (c .before .before .find .ensures))
 
 pub known-id-spec : {M : Type 1} → statement M
-known-id-spec =
-    tie.close
-    (tie.spec
-    (λ c κs. tt)
-    enum-known-block
-    (λ c κs. tt)
-    (λ c κs. tt)
-    enum-told
-    returns
-    returns-2)
+known-id-spec = tie.close (tie.spec (λ c κs. tt) (λ c. search needs) (λ c κs. tt) (λ c κs. tt) (λ c. search needs) returns returns-2)

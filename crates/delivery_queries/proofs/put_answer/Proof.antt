@@ -10,9 +10,6 @@ use Rattle.delivery_queries.proofs.put_answer.Tie as tie
 put-bad-requires : tie.Need-put-bad-requires
 put-bad-requires c κs = omega (arith, c .before .before .before .before .pre)
 
-same-length : tie.Need-same-length
-same-length c = search needs
-
 returns : tie.Need-returns
 returns c =
     let at-put-bad = c .before .before in
@@ -29,9 +26,6 @@ put-line-requires c κs =
     let start = at-put-held .before .before .before .before .before in
     (short-line _ _ (c .reply-line .ensures) (reply-short _ _), omega (arith, at-put-held .put-held .ensures .1, start .pre))
 
-same-length-2 : tie.Need-same-length-2
-same-length-2 c = search needs
-
 returns-2 : tie.Need-returns-2
 returns-2 c =
     let at-put-line = c .before .before in
@@ -44,14 +38,5 @@ returns-2 c =
 
 pub put-answer-spec : {M : Type 1} → statement M
 put-answer-spec =
-    tie.close
-    (tie.spec
-    (λ c κs. tt)
-    put-bad-requires
-    same-length
-    returns
-    put-held-requires
-    (λ c κs. tt)
-    put-line-requires
-    same-length-2
+    tie.close (tie.spec (λ c κs. tt) put-bad-requires (λ c. search needs) returns put-held-requires (λ c κs. tt) put-line-requires (λ c. search needs)
     returns-2)

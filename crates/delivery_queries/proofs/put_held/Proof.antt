@@ -73,9 +73,6 @@ put-bytes-requires c κs =
       start .pre,
     )
 
-same-length : tie.Need-same-length
-same-length c = search needs
-
 returns : tie.Need-returns
 returns c =
     let at-put-bytes = c .before .before in
@@ -90,14 +87,5 @@ returns c =
 
 pub put-held-spec : {M : Type 1} → statement M
 put-held-spec =
-    tie.close
-    (tie.spec
-    (λ c κs. tt)
-    array-share-prefix-bytes
-    slice-aggregate-trimmed-length
-    (λ c κs. tt)
-    array-share-prefix-bytes-2
-    slice-aggregate-put-bytes
-    put-bytes-requires
-    same-length
-    returns)
+    tie.close (tie.spec (λ c κs. tt) array-share-prefix-bytes slice-aggregate-trimmed-length (λ c κs. tt) array-share-prefix-bytes-2 slice-aggregate-put-bytes
+    put-bytes-requires (λ c. search needs) returns)

@@ -26,18 +26,5 @@ put-bytes-requires c κs =
     let n = length-take-le (start .args .line .length) (start .args .line .bytes) (omega (arith, l, start .pre .0)) in
     omega (arith, n, start .pre .0, start .pre .1)
 
-same-length : tie.Need-same-length
-same-length c = search needs
-
-returns : tie.Need-returns
-returns c = search needs
-
 pub put-line-spec : {M : Type 1} → statement M
-put-line-spec =
-    tie.close
-    (tie.spec
-    array-share-prefix-bytes
-    slice-aggregate-put-bytes
-    put-bytes-requires
-    same-length
-    returns)
+put-line-spec = tie.close (tie.spec array-share-prefix-bytes slice-aggregate-put-bytes put-bytes-requires (λ c. search needs) (λ c. search needs))

@@ -4,9 +4,6 @@ use borrow.Author.Needs.{needs}
 use Rattle.delivery_queries.proofs.standing.Statement.{statement}
 use Rattle.delivery_queries.proofs.standing.Tie as tie
 
-same-length : tie.Need-same-length
-same-length c = search needs
-
 returns : tie.Need-returns
 returns c =
     let at-deliver = c .before .before .before in
@@ -14,4 +11,4 @@ returns c =
     stands _ _ _ _ _ _ _ _ _ _ _ (at-known-id .known-id .ensures .0) (at-known-id .known-id .ensures .1) (at-deliver .deliver .ensures)
 
 pub standing-spec : {M : Type 1} → statement M
-standing-spec = tie.close (tie.spec (λ c κs. tt) (λ c κs. tt) same-length returns)
+standing-spec = tie.close (tie.spec (λ c κs. tt) (λ c κs. tt) (λ c. search needs) returns)

@@ -8,9 +8,6 @@ use Rattle.delivery_questions.proofs.QuestionForms.{cash-nameless, cash
 use Rattle.delivery_questions.proofs.cash_asked.Statement.{statement}
 use Rattle.delivery_questions.proofs.cash_asked.Tie as tie
 
-slice-aggregate-is-word : tie.Need-slice-aggregate-is-word
-slice-aggregate-is-word c = refl
-
 returns : tie.Need-returns
 returns c = c .bare-held .ensures ∙ cash-nameless _ _ _ _ _
     (said-no (c .before .before .is-word .ensures ∙ ap (isWord cashWord) (c .before .before .before .word-at .ensures)) (c .before .if1 .taken))
@@ -31,5 +28,5 @@ returns-3 c = cash-is _ _ _ _ _ (said-yes
     (c .before .before .before .before .before .price-in .ensures) (c .before .before .before .before .price-in2 .ensures) (not-false _ (c .if2 .left))
 
 pub cash-asked-spec : {M : Type 1} → statement M
-cash-asked-spec = tie.close (tie.spec slice-aggregate-is-word (λ c κs. tt) (λ c κs. tt) (λ c κs. tt) returns (λ c κs. tt) (λ c κs. tt) (λ c κs. tt)
-    (λ c κs. tt) returns-2 returns-3)
+cash-asked-spec =
+    tie.close (tie.spec (λ c. refl) (λ c κs. tt) (λ c κs. tt) (λ c κs. tt) returns (λ c κs. tt) (λ c κs. tt) (λ c κs. tt) (λ c κs. tt) returns-2 returns-3)

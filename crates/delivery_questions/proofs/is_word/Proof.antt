@@ -51,5 +51,5 @@ returns-3 c = let e : c .before .loop .i ≡ length (c .before .before .before .
     same-word _ _ (c .before .loop .inv .0) true (rw e at (c .before .loop .inv .2))
 
 pub is-word-spec : {M : Type 1} → statement M
-is-word-spec = tie.close (tie.spec Inv-loop μ-loop returns loop-holds shared-slice-read-if2 shared-slice-read-if2-2 returns-2 add-i loop-less loop-again
-    returns-3)
+is-word-spec =
+    tie.close (tie.spec Inv-loop μ-loop returns loop-holds shared-slice-read-if2 shared-slice-read-if2-2 returns-2 add-i loop-less loop-again returns-3)

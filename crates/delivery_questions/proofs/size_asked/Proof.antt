@@ -5,9 +5,6 @@ use Rattle.delivery_questions.proofs.QuestionForms.{size-none, size-is}
 use Rattle.delivery_questions.proofs.size_asked.Statement.{statement}
 use Rattle.delivery_questions.proofs.size_asked.Tie as tie
 
-slice-aggregate-is-word : tie.Need-slice-aggregate-is-word
-slice-aggregate-is-word c = refl
-
 returns : tie.Need-returns
 returns c = c .bare-held .ensures ∙ size-none _ _ (said-no (c .before .before .is-word .ensures) (c .before .if1 .taken))
 
@@ -15,4 +12,4 @@ returns-2 : tie.Need-returns-2
 returns-2 c = c .one-held .ensures ∙ size-is _ _ (said-yes (c .before .before .is-word .ensures) (c .before .if1 .left))
 
 pub size-asked-spec : {M : Type 1} → statement M
-size-asked-spec = tie.close (tie.spec slice-aggregate-is-word (λ c κs. tt) (λ c κs. tt) returns (λ c κs. tt) returns-2)
+size-asked-spec = tie.close (tie.spec (λ c. refl) (λ c κs. tt) (λ c κs. tt) returns (λ c κs. tt) returns-2)

@@ -5,22 +5,13 @@ use Rattle.delivery_questions.proofs.QuestionForms.{three-last, three-d
 use Rattle.delivery_questions.proofs.three_asked.Statement.{statement}
 use Rattle.delivery_questions.proofs.three_asked.Tie as tie
 
-slice-aggregate-is-word : tie.Need-slice-aggregate-is-word
-slice-aggregate-is-word c = refl
-
 returns : tie.Need-returns
 returns c = c .last-asked .ensures ∙ three-last _ _ _ (sym (c .before .before .is-word .ensures) ∙ c .before .if1 .taken)
-
-slice-aggregate-is-word-2 : tie.Need-slice-aggregate-is-word-2
-slice-aggregate-is-word-2 c = refl
 
 returns-2 : tie.Need-returns-2
 returns-2 c = c .due-asked .ensures ∙ three-due _ _ _
     (sym (c .before .before .before .before .before .is-word .ensures) ∙ c .before .before .before .before .if1 .left)
     (sym (c .before .before .is-word2 .ensures) ∙ c .before .if2 .taken)
-
-slice-aggregate-is-word-3 : tie.Need-slice-aggregate-is-word-3
-slice-aggregate-is-word-3 c = refl
 
 returns-3 : tie.Need-returns-3
 returns-3 c = c .tick-asked .ensures ∙ three-tick _ _ _
@@ -37,5 +28,6 @@ returns-4 c = c .bare-held .ensures ∙ three-none _ _ _
     (sym (c .before .before .is-word3 .ensures) ∙ c .before .if3 .left)
 
 pub three-asked-spec : {M : Type 1} → statement M
-three-asked-spec = tie.close (tie.spec slice-aggregate-is-word (λ c κs. tt) (λ c κs. tt) returns slice-aggregate-is-word-2 (λ c κs. tt)
-    (λ c κs. tt) returns-2 slice-aggregate-is-word-3 (λ c κs. tt) (λ c κs. tt) returns-3 (λ c κs. tt) returns-4)
+three-asked-spec =
+    tie.close (tie.spec (λ c. refl) (λ c κs. tt) (λ c κs. tt) returns (λ c. refl) (λ c κs. tt) (λ c κs. tt) returns-2 (λ c. refl) (λ c κs. tt) (λ c κs. tt)
+    returns-3 (λ c κs. tt) returns-4)

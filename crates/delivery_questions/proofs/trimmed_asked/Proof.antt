@@ -9,9 +9,6 @@ use Rattle.delivery_questions.proofs.trimmed_asked.Tie as tie
 returns : tie.Need-returns
 returns c = c .bare-held .ensures ∙ line-empty _ (c .before .if1 .taken)
 
-shared-slice-read-if2 : tie.Need-shared-slice-read-if2
-shared-slice-read-if2 c = search needs
-
 returns-2 : tie.Need-returns-2
 returns-2 c = c .bare-held2 .ensures ∙ line-comment _ (c .before .before .before .if1 .left) (c .before .if2 .taken)
 
@@ -22,4 +19,4 @@ returns-4 : tie.Need-returns-4
 returns-4 c = c .words-asked .ensures ∙ line-words _ (c .before .before .before .before .if1 .left) (c .before .before .if2 .left) (c .before .if3 .left)
 
 pub trimmed-asked-spec : {M : Type 1} → statement M
-trimmed-asked-spec = tie.close (tie.spec (λ c κs. tt) returns shared-slice-read-if2 (λ c κs. tt) returns-2 (λ c κs. tt) returns-3 (λ c κs. tt) returns-4)
+trimmed-asked-spec = tie.close (tie.spec (λ c κs. tt) returns (λ c. search needs) (λ c κs. tt) returns-2 (λ c κs. tt) returns-3 (λ c κs. tt) returns-4)

@@ -43,5 +43,6 @@ returns-5 c =
     (λ z. c .before .before .if3 .left (before-4 .word-count .ensures ∙ z)) (λ z. c .before .if4 .left (before-4 .word-count .ensures ∙ z))
 
 pub words-asked-spec : {M : Type 1} → statement M
-words-asked-spec = tie.close (tie.spec (λ c κs. tt) (λ c κs. tt) returns (λ c κs. tt) (λ c κs. tt) (λ c κs. tt) (λ c κs. tt) returns-2 (λ c κs. tt) (λ c κs. tt)
-    (λ c κs. tt) returns-3 (λ c κs. tt) returns-4 (λ c κs. tt) returns-5)
+words-asked-spec =
+    tie.close (tie.spec (λ c κs. tt) (λ c κs. tt) returns (λ c κs. tt) (λ c κs. tt) (λ c κs. tt) (λ c κs. tt) returns-2 (λ c κs. tt) (λ c κs. tt) (λ c κs. tt)
+    returns-3 (λ c κs. tt) returns-4 (λ c κs. tt) returns-5)

@@ -4,11 +4,8 @@ use mathlib.Core.Path.{refl}
 use Rattle.delivery_reading.proofs.goes_on.Statement.{statement}
 use Rattle.delivery_reading.proofs.goes_on.Tie as tie
 
-reads-left-requires : tie.Need-reads-left-requires
-reads-left-requires c κs = search needs
-
 returns : tie.Need-returns
 returns c = rw (c .before .reads-left .ensures) refl
 
 pub goes-on-spec : {M : Type 1} → statement M
-goes-on-spec = tie.close (tie.spec reads-left-requires returns)
+goes-on-spec = tie.close (tie.spec (λ c κs. search needs) returns)

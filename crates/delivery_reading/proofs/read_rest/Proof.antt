@@ -124,24 +124,6 @@ returns c = let v = c .before .before .loop .inv in (
 
 pub read-rest-spec : {M : Type 1} → statement M
 read-rest-spec =
-    tie.close
-    (tie.spec
-    Inv-loop
-    μ-loop
-    loop-holds
-    goes-on-requires
-    slice-aggregate-read-on-or-tell
-    read-on-or-tell-requires
-    slice-reshare-prefix-take-part
-    slice-aggregate-take-part
-    take-part-requires
-    loop-less
-    loop-again
-    same-length
-    same-length-2
-    same-length-3
-    same-length-4
-    same-length-5
-    same-length-6
-    same-length-7
-    returns)
+    tie.close (tie.spec Inv-loop μ-loop loop-holds goes-on-requires slice-aggregate-read-on-or-tell read-on-or-tell-requires slice-reshare-prefix-take-part
+    slice-aggregate-take-part take-part-requires loop-less loop-again same-length same-length-2 same-length-3 same-length-4 same-length-5 same-length-6
+    same-length-7 returns)

@@ -7,43 +7,10 @@ use Rattle.delivery_reading.proofs.Comes.{room-same, read-first, rows-r
 use Rattle.delivery_reading.proofs.read_rows.Statement.{statement}
 use Rattle.delivery_reading.proofs.read_rows.Tie as tie
 
-large-buffer-requires : tie.Need-large-buffer-requires
-large-buffer-requires c κs = search needs
-
-nothing-read-requires : tie.Need-nothing-read-requires
-nothing-read-requires c κs = search needs
-
-slice-aggregate-read-on-or-tell : tie.Need-slice-aggregate-read-on-or-tell
-slice-aggregate-read-on-or-tell c = search needs
-
-slice-aggregate-read-on-or-tell-2 : tie.Need-slice-aggregate-read-on-or-tell-2
-slice-aggregate-read-on-or-tell-2 c = search needs
-
-read-on-or-tell-requires : tie.Need-read-on-or-tell-requires
-read-on-or-tell-requires c κs = search needs
-
-has-failed-requires : tie.Need-has-failed-requires
-has-failed-requires c κs = search needs
-
-nothing-kept-requires : tie.Need-nothing-kept-requires
-nothing-kept-requires c κs = search needs
-
 returns : tie.Need-returns
 returns c =
     let failed = sym (c .before .before .before .has-failed .ensures) ∙ c .before .before .if1 .taken in
     (λ room n. clash failed n, λ n o. clash failed n)
-
-array-share-prefix-part : tie.Need-array-share-prefix-part
-array-share-prefix-part c = search needs
-
-slice-aggregate-take-first : tie.Need-slice-aggregate-take-first
-slice-aggregate-take-first c = search needs
-
-take-first-requires : tie.Need-take-first-requires
-take-first-requires c κs = search needs
-
-slice-aggregate-read-rest : tie.Need-slice-aggregate-read-rest
-slice-aggregate-read-rest c = search needs
 
 read-rest-requires : tie.Need-read-rest-requires
 read-rest-requires c κs =
@@ -52,9 +19,6 @@ read-rest-requires c κs =
       c .before .before .before .before .before .before .before .before .before .before .before .before .before .before .before .before .before .before .before
           .before .before .before .before .before .before .before .before .before .before .before .part2 .given,
     )
-
-take-all-requires : tie.Need-take-all-requires
-take-all-requires c κs = search needs
 
 same-length : tie.Need-same-length
 same-length c = c .before .before .before .before .before .before .before .before .before .before .before .before .take-all .kept .1 .1 .0 ∙
@@ -131,26 +95,6 @@ returns-2 c =
 
 pub read-rows-spec : {M : Type 1} → statement M
 read-rows-spec =
-    tie.close
-    (tie.spec
-    large-buffer-requires
-    nothing-read-requires
-    slice-aggregate-read-on-or-tell
-    slice-aggregate-read-on-or-tell-2
-    read-on-or-tell-requires
-    has-failed-requires
-    nothing-kept-requires
-    returns
-    array-share-prefix-part
-    slice-aggregate-take-first
-    take-first-requires
-    slice-aggregate-read-rest
-    read-rest-requires
-    take-all-requires
-    same-length
-    same-length-2
-    same-length-3
-    same-length-4
-    same-length-5
-    same-length-6
-    returns-2)
+    tie.close (tie.spec (λ c κs. search needs) (λ c κs. search needs) (λ c. search needs) (λ c. search needs) (λ c κs. search needs) (λ c κs. search needs)
+    (λ c κs. search needs) returns (λ c. search needs) (λ c. search needs) (λ c κs. search needs) (λ c. search needs) read-rest-requires
+    (λ c κs. search needs) same-length same-length-2 same-length-3 same-length-4 same-length-5 same-length-6 returns-2)

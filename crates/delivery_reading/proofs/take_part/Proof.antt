@@ -67,19 +67,5 @@ returns c = part-all _ _ _ _ _ _ _ (c .before .loop .inv) (c .loop-test .left)
 
 pub take-part-spec : {M : Type 1} → statement M
 take-part-spec =
-    tie.close
-    (tie.spec
-    Inv-loop
-    μ-loop
-    loop-holds
-    line-from-requires
-    take-end-requires
-    loop-less
-    loop-again
-    same-length
-    same-length-2
-    same-length-3
-    same-length-4
-    same-length-5
-    same-length-6
-    returns)
+    tie.close (tie.spec Inv-loop μ-loop loop-holds line-from-requires take-end-requires loop-less loop-again same-length same-length-2 same-length-3
+    same-length-4 same-length-5 same-length-6 returns)

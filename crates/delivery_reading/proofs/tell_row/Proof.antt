@@ -21,10 +21,4 @@ returns c =
     omega (arith, c .tell-next .ensures, f .1, length-take-le (args .line .length) (args .line .bytes) (f .0))
 
 pub tell-row-spec : {M : Type 1} → statement M
-tell-row-spec =
-    tie.close
-    (tie.spec
-    array-share-prefix-bytes
-    slice-aggregate-tell-next
-    (λ c κs. tt)
-    returns)
+tell-row-spec = tie.close (tie.spec array-share-prefix-bytes slice-aggregate-tell-next (λ c κs. tt) returns)

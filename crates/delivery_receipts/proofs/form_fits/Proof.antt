@@ -5,21 +5,6 @@ use borrow.Author.Needs.{needs}
 use Rattle.delivery_receipts.proofs.form_fits.Statement.{statement}
 use Rattle.delivery_receipts.proofs.form_fits.Tie as tie
 
-find-requires : tie.Need-find-requires
-find-requires c κs = search needs
-
-enum-known-block : tie.Need-enum-known-block
-enum-known-block c = search needs
-
-product-at-requires : tie.Need-product-at-requires
-product-at-requires c κs = search needs
-
-is-weekly-requires : tie.Need-is-weekly-requires
-is-weekly-requires c κs = search needs
-
-enum-told : tie.Need-enum-told
-enum-told c = search needs
-
 returns : tie.Need-returns
 returns c = form-here _ _ _ _ (rw (c .before .before .before .block .given .1) at (c .before .before .before .before .before .find .ensures)) _
     (c .before .product-at .ensures) _ (c .is-weekly .ensures)
@@ -29,12 +14,4 @@ returns-2 c = form-none _ _ (rw (c .enum-told .given .1) at (c .before .before .
 
 pub form-fits-spec : {M : Type 1} → statement M
 form-fits-spec =
-    tie.close
-    (tie.spec
-    find-requires
-    enum-known-block
-    product-at-requires
-    is-weekly-requires
-    enum-told
-    returns
-    returns-2)
+    tie.close (tie.spec (λ c κs. search needs) (λ c. search needs) (λ c κs. search needs) (λ c κs. search needs) (λ c. search needs) returns returns-2)

@@ -7,18 +7,11 @@ use borrow.Author.Needs.{needs}
 use Rattle.delivery_receipts.proofs.is_first_unknown.Statement.{statement}
 use Rattle.delivery_receipts.proofs.is_first_unknown.Tie as tie
 
-is-unknown-requires : tie.Need-is-unknown-requires
-is-unknown-requires c κs = search needs
-
 returns : tie.Need-returns
 returns c = known-id _ _ _ (not-false _ (sym (c .before .is-unknown .ensures) ∙ not-true _ (c .if1 .taken)))
-
-stands-first-requires : tie.Need-stands-first-requires
-stands-first-requires c κs = search needs
 
 returns-2 : tie.Need-returns-2
 returns-2 c = unknown-id _ _ _ (not-true _ (sym (c .before .before .is-unknown .ensures) ∙ not-false _ (c .before .if1 .left))) _ (c .stands-first .ensures)
 
 pub is-first-unknown-spec : {M : Type 1} → statement M
-is-first-unknown-spec =
-    tie.close (tie.spec is-unknown-requires returns stands-first-requires returns-2)
+is-first-unknown-spec = tie.close (tie.spec (λ c κs. search needs) returns (λ c κs. search needs) returns-2)

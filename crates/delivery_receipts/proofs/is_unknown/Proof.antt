@@ -11,18 +11,6 @@ use borrow.Author.Needs.{needs}
 use Rattle.delivery_receipts.proofs.is_unknown.Statement.{statement}
 use Rattle.delivery_receipts.proofs.is_unknown.Tie as tie
 
-id-in-requires : tie.Need-id-in-requires
-id-in-requires c κs = search needs
-
-find-requires : tie.Need-find-requires
-find-requires c κs = search needs
-
-enum-told : tie.Need-enum-told
-enum-told c = search needs
-
-enum-told-2 : tie.Need-enum-told-2
-enum-told-2 c = search needs
-
 returns : tie.Need-returns
 returns c = sym (ap (λ (x : List ℕ). not (found (now (c .before .before .before .before .before .before .args .file)) x))
     (sym (c .before .before .before .id-in .ensures)) ∙ ap not (find-there _ _ _ _ (rw (c .enum-told .given .1) at (c .before .before .find .ensures))))
@@ -32,5 +20,4 @@ returns-2 c = sym (ap (λ (x : List ℕ). not (found (now (c .before .before .be
     (sym (c .before .before .before .id-in .ensures)) ∙ ap not (find-none _ _ (rw (c .enum-told2 .given .1) at (c .before .before .find .ensures))))
 
 pub is-unknown-spec : {M : Type 1} → statement M
-is-unknown-spec =
-    tie.close (tie.spec id-in-requires find-requires enum-told enum-told-2 returns returns-2)
+is-unknown-spec = tie.close (tie.spec (λ c κs. search needs) (λ c κs. search needs) (λ c. search needs) (λ c. search needs) returns returns-2)

@@ -40,16 +40,4 @@ returns-2 : tie.Need-returns-2 Inv-loop μ-loop
 returns-2 c = part-ends _ _ _ _ _ (c .before .loop .inv) (c .loop-test .left)
 
 pub line-from-spec : {M : Type 1} → statement M
-line-from-spec =
-    tie.close
-    (tie.spec
-    Inv-loop
-    μ-loop
-    loop-holds
-    shared-slice-read-byte
-    add-i
-    returns
-    extend-long-requires
-    loop-less
-    loop-again
-    returns-2)
+line-from-spec = tie.close (tie.spec Inv-loop μ-loop loop-holds shared-slice-read-byte add-i returns extend-long-requires loop-less loop-again returns-2)

@@ -64,18 +64,5 @@ returns-3 c = gathered _ _ _ _ _ _ _ (c .before .loop .inv) (c .loop-test .left)
 
 pub places-of-spec : {M : Type 1} → statement M
 places-of-spec =
-    tie.close
-    (tie.spec
-    Inv-loop
-    μ-loop
-    returns
-    returns-2
-    loop-holds
-    id-in-requires
-    same-id-requires
-    put-place-requires
-    add-i
-    loop-less
-    loop-again
-    same-length
+    tie.close (tie.spec Inv-loop μ-loop returns returns-2 loop-holds id-in-requires same-id-requires put-place-requires add-i loop-less loop-again same-length
     returns-3)

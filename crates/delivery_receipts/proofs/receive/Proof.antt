@@ -9,9 +9,6 @@ use Rattle.delivery_receipts.proofs.receive.Tie as tie
 returns : tie.Need-returns
 returns c = is-ended _ _ _ _ (c .if1 .taken)
 
-next-line-requires : tie.Need-next-line-requires
-next-line-requires c κs = search needs
-
 returns-2 : tie.Need-returns-2
 returns-2 c = is-empty _ _ _ _ _ (c .before .next-line .ensures) (c .before .before .if1 .left) (c .if2 .taken)
 
@@ -19,17 +16,11 @@ returns-3 : tie.Need-returns-3
 returns-3 c = is-heading _ _ _ _ _ (c .before .before .before .before .next-line .ensures) (c .before .before .before .before .before .if1 .left)
     (c .before .before .before .if2 .left) (c .if3 .taken)
 
-form-fits-requires : tie.Need-form-fits-requires
-form-fits-requires c κs = search needs
-
 returns-4 : tie.Need-returns-4
 returns-4 c = is-bad _ _ _ _ _ (c .before .before .before .before .before .before .before .before .next-line .ensures)
     (c .before .before .before .before .before .before .before .before .before .if1 .left)
     (c .before .before .before .before .before .before .before .if2 .left) (c .before .before .before .before .if3 .left) _
     (c .before .before .form-fits .ensures) (not-true _ (c .if4 .taken))
-
-add-t10 : tie.Need-add-t10
-add-t10 c = search needs
 
 returns-5 : tie.Need-returns-5
 returns-5 c = is-row _ _ _ _ _ (c .before .before .before .before .before .before .before .before .before .before .before .next-line .ensures)
@@ -45,15 +36,4 @@ returns-6 c = is-too-many _ _ _ _ _ (c .before .before .before .before .before .
     (c .before .before .before .before .form-fits .ensures) (not-false _ (c .before .before .if4 .left)) (c .if5 .left)
 
 pub receive-spec : {M : Type 1} → statement M
-receive-spec =
-    tie.close
-    (tie.spec
-    returns
-    next-line-requires
-    returns-2
-    returns-3
-    form-fits-requires
-    returns-4
-    add-t10
-    returns-5
-    returns-6)
+receive-spec = tie.close (tie.spec returns (λ c κs. search needs) returns-2 returns-3 (λ c κs. search needs) returns-4 (λ c. search needs) returns-5 returns-6)

@@ -60,16 +60,4 @@ returns-2 c =
 
 pub stands-first-spec : {M : Type 1} → statement M
 stands-first-spec =
-    tie.close
-    (tie.spec
-    Inv-loop
-    μ-loop
-    id-in-requires
-    loop-holds
-    id-in-requires-2
-    same-id-requires
-    returns
-    add-j
-    loop-less
-    loop-again
-    returns-2)
+    tie.close (tie.spec Inv-loop μ-loop id-in-requires loop-holds id-in-requires-2 same-id-requires returns add-j loop-less loop-again returns-2)

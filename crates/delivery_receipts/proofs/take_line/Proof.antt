@@ -10,16 +10,6 @@ use borrow.Author.Needs.{needs}
 use Rattle.delivery_receipts.proofs.take_line.Statement.{statement}
 use Rattle.delivery_receipts.proofs.take_line.Tie as tie
 
--- ---- the line read
-room-of-requires : tie.Need-room-of-requires
-room-of-requires c κs = search needs
-
-read-held-requires : tie.Need-read-held-requires
-read-held-requires c κs = search needs
-
-receive-requires : tie.Need-receive-requires
-receive-requires c κs = search needs
-
 -- ---- no row
 returns : tie.Need-returns
 returns c =
@@ -41,9 +31,6 @@ returns c =
     (room-is b _ (c .before .before .before .before .before .room-of .ensures .1))) (c .if1 .taken)
 
 -- ---- one row more
-cast-i : tie.Need-cast-i
-cast-i c = search needs
-
 store-row-requires : tie.Need-store-row-requires
 store-row-requires c κs =
     let args =
@@ -65,24 +52,6 @@ store-row-requires c κs =
     (room-is b _ (c .before .before .before .before .before .before .before .before .before .before .before .before .before .room-of .ensures .1)))
     (c .before .before .before .before .before .before .before .before .if1 .left) in
     (h .ids, h .keys, h .days, h .fulls, h .numbers, h .backs)
-
-same-length : tie.Need-same-length
-same-length c = search needs
-
-same-length-2 : tie.Need-same-length-2
-same-length-2 c = search needs
-
-same-length-3 : tie.Need-same-length-3
-same-length-3 c = search needs
-
-same-length-4 : tie.Need-same-length-4
-same-length-4 c = search needs
-
-same-length-5 : tie.Need-same-length-5
-same-length-5 c = search needs
-
-same-length-6 : tie.Need-same-length-6
-same-length-6 c = search needs
 
 returns-2 : tie.Need-returns-2
 returns-2 c =
@@ -116,18 +85,5 @@ returns-2 c =
 
 pub take-line-spec : {M : Type 1} → statement M
 take-line-spec =
-    tie.close
-    (tie.spec
-    room-of-requires
-    read-held-requires
-    receive-requires
-    returns
-    cast-i
-    store-row-requires
-    same-length
-    same-length-2
-    same-length-3
-    same-length-4
-    same-length-5
-    same-length-6
-    returns-2)
+    tie.close (tie.spec (λ c κs. search needs) (λ c κs. search needs) (λ c κs. search needs) returns (λ c. search needs) store-row-requires (λ c. search needs)
+    (λ c. search needs) (λ c. search needs) (λ c. search needs) (λ c. search needs) (λ c. search needs) returns-2)

@@ -5,11 +5,8 @@ use borrow.Author.Needs.{needs}
 use Rattle.delivery_reconciled.proofs.kind_at.Statement.{statement}
 use Rattle.delivery_reconciled.proofs.kind_at.Tie as tie
 
-product-at-requires : tie.Need-product-at-requires
-product-at-requires c κs = search needs
-
 returns : tie.Need-returns
 returns c = ap (λ (x : Product). x .kind) (c .product-at .ensures)
 
 pub kind-at-spec : {M : Type 1} → statement M
-kind-at-spec = tie.close (tie.spec product-at-requires returns)
+kind-at-spec = tie.close (tie.spec (λ c κs. search needs) returns)

@@ -5,39 +5,15 @@ use borrow.Author.Needs.{needs}
 use Rattle.delivery_reconciled.proofs.listed_at.Statement.{statement}
 use Rattle.delivery_reconciled.proofs.listed_at.Tie as tie
 
-id-at-requires : tie.Need-id-at-requires
-id-at-requires c κs = search needs
-
-kind-at-requires : tie.Need-kind-at-requires
-kind-at-requires c κs = search needs
-
-nothing-listed-requires : tie.Need-nothing-listed-requires
-nothing-listed-requires c κs = search needs
-
 returns : tie.Need-returns
 returns c = listed-idle _ _ _ _ _ _ _ _ _ (c .before .before .before .id-at .ensures) _ (c .before .before .kind-at .ensures) (c .before .if1 .taken) _
     (c .nothing-listed .ensures)
-
-is-record-requires : tie.Need-is-record-requires
-is-record-requires c κs = search needs
-
-nothing-listed-requires-2 : tie.Need-nothing-listed-requires-2
-nothing-listed-requires-2 c κs = search needs
 
 returns-2 : tie.Need-returns-2
 returns-2 c =
     listed-empty _ _ _ _ _ _ _ _ _ (c .before .before .before .before .before .id-at .ensures) _ (c .before .before .before .before .kind-at .ensures)
     (c .before .before .before .if1 .left)
     (said-no (c .before .before .is-record .ensures) (c .before .if2 .taken)) _ (c .nothing-listed2 .ensures)
-
-deliver-requires : tie.Need-deliver-requires
-deliver-requires c κs = search needs
-
-nothing-listed-requires-3 : tie.Need-nothing-listed-requires-3
-nothing-listed-requires-3 c κs = search needs
-
-same-length : tie.Need-same-length
-same-length c = search needs
 
 returns-3 : tie.Need-returns-3
 returns-3 c =
@@ -47,15 +23,6 @@ returns-3 c =
     (said-yes (c .before .before .before .before .before .before .before .before .is-record .ensures)
     (c .before .before .before .before .before .before .before .if2 .left)) _ _ (c .before .before .before .before .before .deliver .ensures)
     (c .before .if3 .taken) _ (c .nothing-listed3 .ensures)
-
-places-of-kind-requires : tie.Need-places-of-kind-requires
-places-of-kind-requires c κs = search needs
-
-cast-listed : tie.Need-cast-listed
-cast-listed c = search needs
-
-same-length-2 : tie.Need-same-length-2
-same-length-2 c = search needs
 
 returns-4 : tie.Need-returns-4
 returns-4 c =
@@ -70,20 +37,5 @@ returns-4 c =
 
 pub listed-at-spec : {M : Type 1} → statement M
 listed-at-spec =
-    tie.close
-    (tie.spec
-    id-at-requires
-    kind-at-requires
-    nothing-listed-requires
-    returns
-    is-record-requires
-    nothing-listed-requires-2
-    returns-2
-    deliver-requires
-    nothing-listed-requires-3
-    same-length
-    returns-3
-    places-of-kind-requires
-    cast-listed
-    same-length-2
-    returns-4)
+    tie.close (tie.spec (λ c κs. search needs) (λ c κs. search needs) (λ c κs. search needs) returns (λ c κs. search needs) (λ c κs. search needs) returns-2
+    (λ c κs. search needs) (λ c κs. search needs) (λ c. search needs) returns-3 (λ c κs. search needs) (λ c. search needs) (λ c. search needs) returns-4)

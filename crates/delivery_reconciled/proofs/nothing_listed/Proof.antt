@@ -4,11 +4,8 @@ use borrow.Author.Needs.{needs}
 use Rattle.delivery_reconciled.proofs.nothing_listed.Statement.{statement}
 use Rattle.delivery_reconciled.proofs.nothing_listed.Tie as tie
 
-unused-places-requires : tie.Need-unused-places-requires
-unused-places-requires c κs = search needs
-
 returns : tie.Need-returns
 returns c = rw (c .unused-places .ensures) refl
 
 pub nothing-listed-spec : {M : Type 1} → statement M
-nothing-listed-spec = tie.close (tie.spec unused-places-requires returns)
+nothing-listed-spec = tie.close (tie.spec (λ c κs. search needs) returns)

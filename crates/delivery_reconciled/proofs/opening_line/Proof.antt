@@ -5,23 +5,8 @@ use borrow.Author.Needs.{needs}
 use Rattle.delivery_reconciled.proofs.opening_line.Statement.{statement}
 use Rattle.delivery_reconciled.proofs.opening_line.Tie as tie
 
-is-record-requires : tie.Need-is-record-requires
-is-record-requires c κs = search needs
-
-empty-line-requires : tie.Need-empty-line-requires
-empty-line-requires c κs = search needs
-
 returns : tie.Need-returns
 returns c = opening-none _ _ _ _ _ _ (said-no (c .before .before .is-record .ensures) (c .before .if1 .taken)) (c .empty-line .ensures)
-
-id-at-requires : tie.Need-id-at-requires
-id-at-requires c κs = search needs
-
-open-in-requires : tie.Need-open-in-requires
-open-in-requires c κs = search needs
-
-refusal-text-requires : tie.Need-refusal-text-requires
-refusal-text-requires c κs = search needs
 
 returns-2 : tie.Need-returns-2
 returns-2 c = opening-some _ _ _ _ _ _ (said-yes (c .before .before .before .before .is-record .ensures) (c .before .before .before .if1 .left)) _
@@ -29,12 +14,4 @@ returns-2 c = opening-some _ _ _ _ _ _ (said-yes (c .before .before .before .bef
 
 pub opening-line-spec : {M : Type 1} → statement M
 opening-line-spec =
-    tie.close
-    (tie.spec
-    is-record-requires
-    empty-line-requires
-    returns
-    id-at-requires
-    open-in-requires
-    refusal-text-requires
-    returns-2)
+    tie.close (tie.spec (λ c κs. search needs) (λ c κs. search needs) returns (λ c κs. search needs) (λ c κs. search needs) (λ c κs. search needs) returns-2)

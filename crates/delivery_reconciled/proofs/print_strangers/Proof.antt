@@ -64,18 +64,5 @@ returns c = ends _ _ _ _ _ _ _ _ _ (c .before .before .before .loop .inv) (c .be
 
 pub print-strangers-spec : {M : Type 1} → statement M
 print-strangers-spec =
-    tie.close
-    (tie.spec
-    Inv-loop
-    μ-loop
-    loop-holds
-    goes-on-requires
-    id-row-line-requires
-    append-requires
-    line-count-requires
-    add-lines
-    add-next
-    loop-less
-    loop-again
-    same-length
-    returns)
+    tie.close (tie.spec Inv-loop μ-loop loop-holds goes-on-requires id-row-line-requires append-requires line-count-requires add-lines add-next loop-less
+    loop-again same-length returns)

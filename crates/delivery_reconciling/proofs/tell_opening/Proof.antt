@@ -13,9 +13,6 @@ array-share-prefix-bytes c = opening-fits _ _ _ _ _ (c .before .before .args .li
 slice-aggregate-tell-next : tie.Need-slice-aggregate-tell-next
 slice-aggregate-tell-next c = sym (length-take-le _ _ (opening-fits _ _ _ _ _ (c .before .before .before .args .line) (c .before .before .before .pre) .0))
 
-tell-next-requires : tie.Need-tell-next-requires
-tell-next-requires c κs = search needs
-
 returns : tie.Need-returns
 returns c =
     let start = c .before .before .before .before in
@@ -23,6 +20,4 @@ returns c =
     omega (arith, c .tell-next .ensures, f .1, length-take-le (start .args .line .length) (start .args .line .bytes) (f .0))
 
 pub tell-opening-spec : {M : Type 1} → statement M
-tell-opening-spec =
-    tie.close
-    (tie.spec array-share-prefix-bytes slice-aggregate-tell-next tell-next-requires returns)
+tell-opening-spec = tie.close (tie.spec array-share-prefix-bytes slice-aggregate-tell-next (λ c κs. search needs) returns)

@@ -48,16 +48,4 @@ returns : tie.Need-returns Inv-loop μ-loop
 returns c = openings-all _ _ _ _ _ (omega (arith, c .before .loop .inv .0, c .loop-test .left)) (c .before .loop .inv .1)
 
 pub tell-openings-spec : {M : Type 1} → statement M
-tell-openings-spec =
-    tie.close
-    (tie.spec
-    Inv-loop
-    μ-loop
-    mul-places
-    loop-holds
-    opening-line-requires
-    tell-opening-requires
-    add-p
-    loop-less
-    loop-again
-    returns)
+tell-openings-spec = tie.close (tie.spec Inv-loop μ-loop mul-places loop-holds opening-line-requires tell-opening-requires add-p loop-less loop-again returns)

@@ -5,14 +5,9 @@ use Rattle.delivery_refusals.specs.Refusals.{badNoticeText}
 use Rattle.delivery_refusals.proofs.bad_notice_line.Statement.{statement}
 use Rattle.delivery_refusals.proofs.bad_notice_line.Tie as tie
 
-slice-aggregate-with-bytes : tie.Need-slice-aggregate-with-bytes
-slice-aggregate-with-bytes c = search needs
-
 returns : tie.Need-returns
 unfolding badNoticeText
 returns c = then (c .before .before .notices-line .ensures) (c .with-bytes .ensures)
 
 pub bad-notice-line-spec : {M : Type 1} → statement M
-bad-notice-line-spec =
-    tie.close
-    (tie.spec (λ c κs. tt) slice-aggregate-with-bytes (λ c κs. tt) returns)
+bad-notice-line-spec = tie.close (tie.spec (λ c κs. tt) (λ c. search needs) (λ c κs. tt) returns)

@@ -5,12 +5,6 @@ use Rattle.delivery_products.proofs.IdFound.{find-there, find-none}
 use Rattle.delivery_refusals.proofs.is_found.Statement.{statement}
 use Rattle.delivery_refusals.proofs.is_found.Tie as tie
 
-enum-told : tie.Need-enum-told
-enum-told c = search needs
-
-enum-told-2 : tie.Need-enum-told-2
-enum-told-2 c = search needs
-
 returns : tie.Need-returns
 returns c = sym (find-there _ _ _ _ (rw (c .enum-told .given .1) at (c .before .before .find .ensures)))
 
@@ -18,4 +12,4 @@ returns-2 : tie.Need-returns-2
 returns-2 c = sym (find-none _ _ (rw (c .enum-told2 .given .1) at (c .before .before .find .ensures)))
 
 pub is-found-spec : {M : Type 1} → statement M
-is-found-spec = tie.close (tie.spec (λ c κs. tt) enum-told enum-told-2 returns returns-2)
+is-found-spec = tie.close (tie.spec (λ c κs. tt) (λ c. search needs) (λ c. search needs) returns returns-2)

@@ -5,9 +5,6 @@ use Rattle.delivery_refusals.specs.Refusals.{masterText}
 use Rattle.delivery_refusals.proofs.master_line.Statement.{statement}
 use Rattle.delivery_refusals.proofs.master_line.Tie as tie
 
-slice-aggregate-with-bytes : tie.Need-slice-aggregate-with-bytes
-slice-aggregate-with-bytes c = search needs
-
 returns : tie.Need-returns
 unfolding masterText
 returns c =
@@ -15,12 +12,4 @@ returns c =
     (then (c .before .before .with-bytes .ensures) (then (c .before .with-decimal .ensures) (one _ _ _ (c .extend .ensures))))
 
 pub master-line-spec : {M : Type 1} → statement M
-master-line-spec =
-    tie.close
-    (tie.spec
-    (λ c κs. tt)
-    slice-aggregate-with-bytes
-    (λ c κs. tt)
-    (λ c κs. tt)
-    (λ c κs. tt)
-    returns)
+master-line-spec = tie.close (tie.spec (λ c κs. tt) (λ c. search needs) (λ c κs. tt) (λ c κs. tt) (λ c κs. tt) returns)

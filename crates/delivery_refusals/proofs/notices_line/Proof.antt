@@ -5,19 +5,9 @@ use Rattle.delivery_refusals.specs.Refusals.{noticesName}
 use Rattle.delivery_refusals.proofs.notices_line.Statement.{statement}
 use Rattle.delivery_refusals.proofs.notices_line.Tie as tie
 
-slice-aggregate-with-bytes : tie.Need-slice-aggregate-with-bytes
-slice-aggregate-with-bytes c = search needs
-
 returns : tie.Need-returns
 unfolding noticesName
 returns c = first (c .before .before .before .empty-line .ensures) (then (c .before .with-bytes .ensures) (c .with-number .ensures))
 
 pub notices-line-spec : {M : Type 1} → statement M
-notices-line-spec =
-    tie.close
-    (tie.spec
-    (λ c κs. tt)
-    slice-aggregate-with-bytes
-    (λ c κs. tt)
-    (λ c κs. tt)
-    returns)
+notices-line-spec = tie.close (tie.spec (λ c κs. tt) (λ c. search needs) (λ c κs. tt) (λ c κs. tt) returns)

@@ -11,15 +11,6 @@ returns c = line-opening _ _ _ _ _ _ _ (c .before .if1 .taken) (c .refusal-text 
 returns-2 : tie.Need-returns-2
 returns-2 c = line-none _ _ _ _ _ _ _ (c .before .before .if1 .left) (c .before .if2 .taken) (c .empty-line .ensures)
 
-sub-at : tie.Need-sub-at
-sub-at c = search needs
-
-cast-at : tie.Need-cast-at
-cast-at c = search needs
-
-mul-call-number : tie.Need-mul-call-number
-mul-call-number c = search needs
-
 returns-3 : tie.Need-returns-3
 returns-3 c =
     line-notice _ _ _ _ _ _ _ (c .before .before .before .before .if1 .left) (c .before .before .before .if2 .left) _ _
@@ -27,16 +18,5 @@ returns-3 c =
 
 pub refusal-line-spec : {M : Type 1} → statement M
 refusal-line-spec =
-    tie.close
-    (tie.spec
-    (λ c κs. tt)
-    returns
-    (λ c κs. tt)
-    returns-2
-    sub-at
-    cast-at
-    mul-call-number
-    (λ c κs. tt)
-    (λ c κs. tt)
-    (λ c κs. tt)
-    returns-3)
+    tie.close (tie.spec (λ c κs. tt) returns (λ c κs. tt) returns-2 (λ c. search needs) (λ c. search needs) (λ c. search needs) (λ c κs. tt) (λ c κs. tt)
+    (λ c κs. tt) returns-3)

@@ -10,5 +10,4 @@ returns-2 : tie.Need-returns-2
 returns-2 c = refusal-some _ _ _ _ (c .before .if1 .left) (c .refused-notice-line .ensures)
 
 pub refusal-text-spec : {M : Type 1} → statement M
-refusal-text-spec =
-    tie.close (tie.spec (λ c κs. tt) returns (λ c κs. tt) returns-2)
+refusal-text-spec = tie.close (tie.spec (λ c κs. tt) returns (λ c κs. tt) returns-2)

@@ -5,9 +5,6 @@ use Rattle.delivery_refusals.specs.Refusals.{refusedNoticeText}
 use Rattle.delivery_refusals.proofs.refused_notice_line.Statement.{statement}
 use Rattle.delivery_refusals.proofs.refused_notice_line.Tie as tie
 
-slice-aggregate-with-bytes : tie.Need-slice-aggregate-with-bytes
-slice-aggregate-with-bytes c = search needs
-
 returns : tie.Need-returns
 unfolding refusedNoticeText
 returns c =
@@ -17,14 +14,4 @@ returns c =
     (then (one _ _ _ (c .before .before .extend .ensures)) (then (c .before .with-id .ensures) (one _ _ _ (c .extend2 .ensures))))))
 
 pub refused-notice-line-spec : {M : Type 1} → statement M
-refused-notice-line-spec =
-    tie.close
-    (tie.spec
-    (λ c κs. tt)
-    slice-aggregate-with-bytes
-    (λ c κs. tt)
-    (λ c κs. tt)
-    (λ c κs. tt)
-    (λ c κs. tt)
-    (λ c κs. tt)
-    returns)
+refused-notice-line-spec = tie.close (tie.spec (λ c κs. tt) (λ c. search needs) (λ c κs. tt) (λ c κs. tt) (λ c κs. tt) (λ c κs. tt) (λ c κs. tt) returns)

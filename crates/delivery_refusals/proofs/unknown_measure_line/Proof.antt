@@ -5,9 +5,6 @@ use Rattle.delivery_refusals.proofs.RefusalsTold.{unknown-told}
 use Rattle.delivery_refusals.proofs.unknown_measure_line.Statement.{statement}
 use Rattle.delivery_refusals.proofs.unknown_measure_line.Tie as tie
 
-mul-call-number : tie.Need-mul-call-number
-mul-call-number c = search needs
-
 returns : tie.Need-returns
 returns c =
     let args = c .before .before .before .before .before .before .before .args in
@@ -15,12 +12,4 @@ returns c =
     (c .before .before .call-number .ensures) (c .before .id-in .ensures) (c .refusal-text .ensures)
 
 pub unknown-measure-line-spec : {M : Type 1} → statement M
-unknown-measure-line-spec =
-    tie.close
-    (tie.spec
-    (λ c κs. tt)
-    mul-call-number
-    (λ c κs. tt)
-    (λ c κs. tt)
-    (λ c κs. tt)
-    returns)
+unknown-measure-line-spec = tie.close (tie.spec (λ c κs. tt) (λ c. search needs) (λ c κs. tt) (λ c κs. tt) (λ c κs. tt) returns)

@@ -5,12 +5,6 @@ use Rattle.delivery_refusals.proofs.RefusalsTold.{unknown-other, unknow
 use Rattle.delivery_refusals.proofs.unknown_refusal.Statement.{statement}
 use Rattle.delivery_refusals.proofs.unknown_refusal.Tie as tie
 
-mul-call-number : tie.Need-mul-call-number
-mul-call-number c = search needs
-
-add-call-number : tie.Need-add-call-number
-add-call-number c = search needs
-
 returns : tie.Need-returns
 returns c =
     let args = c .before .before .before .before .before .args in
@@ -29,14 +23,4 @@ returns-3 c =
     (c .before .before .before .if1 .left) _ (c .before .before .id-in .ensures) _ (c .before .is-found .ensures) (c .if2 .left)
 
 pub unknown-refusal-spec : {M : Type 1} → statement M
-unknown-refusal-spec =
-    tie.close
-    (tie.spec
-    mul-call-number
-    add-call-number
-    (λ c κs. tt)
-    returns
-    (λ c κs. tt)
-    (λ c κs. tt)
-    returns-2
-    returns-3)
+unknown-refusal-spec = tie.close (tie.spec (λ c. search needs) (λ c. search needs) (λ c κs. tt) returns (λ c κs. tt) (λ c κs. tt) returns-2 returns-3)

@@ -73,18 +73,4 @@ returns c =
     (refl, rw (← e) (v .4))
 
 pub append-spec : {M : Type 1} → statement M
-append-spec =
-    tie.close
-    (tie.spec
-    Inv-loop
-    μ-loop
-    loop-holds
-    array-read-out
-    add-out
-    slice-write-out
-    add-i
-    loop-less
-    loop-again
-    add-result
-    same-length
-    returns)
+append-spec = tie.close (tie.spec Inv-loop μ-loop loop-holds array-read-out add-out slice-write-out add-i loop-less loop-again add-result same-length returns)

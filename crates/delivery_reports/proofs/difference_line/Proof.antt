@@ -6,40 +6,6 @@ use borrow.Author.Needs.{needs}
 use Rattle.delivery_reports.proofs.difference_line.Statement.{statement}
 use Rattle.delivery_reports.proofs.difference_line.Tie as tie
 
--- ---- what the calls need
-empty-line-requires : tie.Need-empty-line-requires
-empty-line-requires c κs = search needs
-
-with-id-requires : tie.Need-with-id-requires
-with-id-requires c κs = search needs
-
-extend-requires : tie.Need-extend-requires
-extend-requires c κs = search needs
-
-with-name-requires : tie.Need-with-name-requires
-with-name-requires c κs = search needs
-
-extend-requires-2 : tie.Need-extend-requires-2
-extend-requires-2 c κs = search needs
-
-with-why-requires : tie.Need-with-why-requires
-with-why-requires c κs = search needs
-
-extend-requires-3 : tie.Need-extend-requires-3
-extend-requires-3 c κs = search needs
-
-with-delivered-requires : tie.Need-with-delivered-requires
-with-delivered-requires c κs = search needs
-
-extend-requires-4 : tie.Need-extend-requires-4
-extend-requires-4 c κs = search needs
-
-with-right-requires : tie.Need-with-right-requires
-with-right-requires c κs = search needs
-
-extend-requires-5 : tie.Need-extend-requires-5
-extend-requires-5 c κs = search needs
-
 -- ---- the line
 returns : tie.Need-returns
 unfolding differenceText
@@ -56,17 +22,5 @@ returns c =
 
 pub difference-line-spec : {M : Type 1} → statement M
 difference-line-spec =
-    tie.close
-    (tie.spec
-    empty-line-requires
-    with-id-requires
-    extend-requires
-    with-name-requires
-    extend-requires-2
-    with-why-requires
-    extend-requires-3
-    with-delivered-requires
-    extend-requires-4
-    with-right-requires
-    extend-requires-5
-    returns)
+    tie.close (tie.spec (λ c κs. search needs) (λ c κs. search needs) (λ c κs. search needs) (λ c κs. search needs) (λ c κs. search needs)
+    (λ c κs. search needs) (λ c κs. search needs) (λ c κs. search needs) (λ c κs. search needs) (λ c κs. search needs) (λ c κs. search needs) returns)

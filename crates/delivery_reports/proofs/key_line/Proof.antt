@@ -6,16 +6,10 @@ use borrow.Author.Needs.{needs}
 use Rattle.delivery_reports.proofs.key_line.Statement.{statement}
 use Rattle.delivery_reports.proofs.key_line.Tie as tie
 
-difference-at-requires : tie.Need-difference-at-requires
-difference-at-requires c κs = search needs
-
-difference-line-requires : tie.Need-difference-line-requires
-difference-line-requires c κs = search needs
-
 returns : tie.Need-returns
 returns c =
     let args = c .before .before .before .before .before .before .before .before .args in
     same (differenceText (args .kind) (args .id) (args .key)) (c .difference-line .ensures) (c .before .difference-at .ensures)
 
 pub key-line-spec : {M : Type 1} → statement M
-key-line-spec = tie.close (tie.spec difference-at-requires difference-line-requires returns)
+key-line-spec = tie.close (tie.spec (λ c κs. search needs) (λ c κs. search needs) returns)

@@ -84,20 +84,5 @@ returns c = ends _ _ (c .before .before .before .before .before .before .before 
 
 pub print-differences-spec : {M : Type 1} → statement M
 print-differences-spec =
-    tie.close
-    (tie.spec
-    Inv-loop
-    μ-loop
-    next-difference-requires
-    loop-holds
-    goes-on-requires
-    cast-key-line
-    key-line-requires
-    append-requires
-    add-lines
-    add-next-difference
-    next-difference-requires-2
-    loop-less
-    loop-again
-    same-length
-    returns)
+    tie.close (tie.spec Inv-loop μ-loop next-difference-requires loop-holds goes-on-requires cast-key-line key-line-requires append-requires add-lines
+    add-next-difference next-difference-requires-2 loop-less loop-again same-length returns)

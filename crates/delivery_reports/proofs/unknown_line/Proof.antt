@@ -7,23 +7,9 @@ use borrow.Author.Needs.{needs}
 use Rattle.delivery_reports.proofs.unknown_line.Statement.{statement}
 use Rattle.delivery_reports.proofs.unknown_line.Tie as tie
 
-empty-line-requires : tie.Need-empty-line-requires
-empty-line-requires c κs = search needs
-
-with-id-requires : tie.Need-with-id-requires
-with-id-requires c κs = search needs
-
-slice-aggregate-feed : tie.Need-slice-aggregate-feed
-slice-aggregate-feed c = search needs
-
-feed-requires : tie.Need-feed-requires
-feed-requires c κs = search needs
-
 returns : tie.Need-returns
 unfolding unknownText
 returns c = first (c .before .before .before .empty-line .ensures) (then (c .before .before .with-id .ensures) (fed-text _ _ _ (c .feed .ensures)))
 
 pub unknown-line-spec : {M : Type 1} → statement M
-unknown-line-spec =
-    tie.close
-    (tie.spec empty-line-requires with-id-requires slice-aggregate-feed feed-requires returns)
+unknown-line-spec = tie.close (tie.spec (λ c κs. search needs) (λ c κs. search needs) (λ c. search needs) (λ c κs. search needs) returns)

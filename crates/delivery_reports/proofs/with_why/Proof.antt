@@ -6,64 +6,6 @@ use borrow.Author.Needs.{needs}
 use Rattle.delivery_reports.proofs.with_why.Statement.{statement}
 use Rattle.delivery_reports.proofs.with_why.Tie as tie
 
--- ---- the reasons, and what the calls need
-enum-told : tie.Need-enum-told
-enum-told c = search needs
-
-enum-told-2 : tie.Need-enum-told-2
-enum-told-2 c = search needs
-
-slice-aggregate-feed : tie.Need-slice-aggregate-feed
-slice-aggregate-feed c = search needs
-
-feed-requires : tie.Need-feed-requires
-feed-requires c κs = search needs
-
-enum-told-3 : tie.Need-enum-told-3
-enum-told-3 c = search needs
-
-slice-aggregate-feed-2 : tie.Need-slice-aggregate-feed-2
-slice-aggregate-feed-2 c = search needs
-
-feed-requires-2 : tie.Need-feed-requires-2
-feed-requires-2 c κs = search needs
-
-enum-told-4 : tie.Need-enum-told-4
-enum-told-4 c = search needs
-
-slice-aggregate-feed-3 : tie.Need-slice-aggregate-feed-3
-slice-aggregate-feed-3 c = search needs
-
-feed-requires-3 : tie.Need-feed-requires-3
-feed-requires-3 c κs = search needs
-
-enum-told-5 : tie.Need-enum-told-5
-enum-told-5 c = search needs
-
-slice-aggregate-feed-4 : tie.Need-slice-aggregate-feed-4
-slice-aggregate-feed-4 c = search needs
-
-feed-requires-4 : tie.Need-feed-requires-4
-feed-requires-4 c κs = search needs
-
-enum-told-6 : tie.Need-enum-told-6
-enum-told-6 c = search needs
-
-slice-aggregate-feed-5 : tie.Need-slice-aggregate-feed-5
-slice-aggregate-feed-5 c = search needs
-
-feed-requires-5 : tie.Need-feed-requires-5
-feed-requires-5 c κs = search needs
-
-enum-told-7 : tie.Need-enum-told-7
-enum-told-7 c = search needs
-
-slice-aggregate-feed-6 : tie.Need-slice-aggregate-feed-6
-slice-aggregate-feed-6 c = search needs
-
-feed-requires-6 : tie.Need-feed-requires-6
-feed-requires-6 c κs = search needs
-
 -- ---- one answer for each reason
 returns : tie.Need-returns
 unfolding whyText
@@ -93,34 +35,9 @@ returns-7 : tie.Need-returns-7
 unfolding whyText
 returns-7 c = rw (c .before .before .enum-told7 .given .1) (fed-text _ _ _ (c .feed6 .ensures))
 
--- ---- all together
 pub with-why-spec : {M : Type 1} → statement M
 with-why-spec =
-    tie.close
-    (tie.spec
-    enum-told
-    enum-told-2
-    slice-aggregate-feed
-    feed-requires
-    enum-told-3
-    slice-aggregate-feed-2
-    feed-requires-2
-    enum-told-4
-    slice-aggregate-feed-3
-    feed-requires-3
-    enum-told-5
-    slice-aggregate-feed-4
-    feed-requires-4
-    enum-told-6
-    slice-aggregate-feed-5
-    feed-requires-5
-    enum-told-7
-    slice-aggregate-feed-6
-    feed-requires-6
-    returns
-    returns-2
-    returns-3
-    returns-4
-    returns-5
-    returns-6
-    returns-7)
+    tie.close (tie.spec (λ c. search needs) (λ c. search needs) (λ c. search needs) (λ c κs. search needs) (λ c. search needs) (λ c. search needs)
+    (λ c κs. search needs) (λ c. search needs) (λ c. search needs) (λ c κs. search needs) (λ c. search needs) (λ c. search needs) (λ c κs. search needs)
+    (λ c. search needs) (λ c. search needs) (λ c κs. search needs) (λ c. search needs) (λ c. search needs) (λ c κs. search needs) returns returns-2
+    returns-3 returns-4 returns-5 returns-6 returns-7)

@@ -4,13 +4,9 @@ use Rattle.delivery_rows.specs.Delivery.{deliveryHeading}
 use Rattle.delivery_rows.proofs.delivery_heading_line.Statement.{statement}
 use Rattle.delivery_rows.proofs.delivery_heading_line.Tie as tie
 
-slice-aggregate-with-bytes : tie.Need-slice-aggregate-with-bytes
-slice-aggregate-with-bytes c = search needs
-
 returns : tie.Need-returns
 unfolding deliveryHeading
 returns c = rw (← c .before .before .empty-line .ensures) (c .with-bytes .ensures)
 
 pub delivery-heading-line-spec : {M : Type 1} → statement M
-delivery-heading-line-spec =
-    tie.close (tie.spec (λ c κs. tt) slice-aggregate-with-bytes (λ c κs. tt) returns)
+delivery-heading-line-spec = tie.close (tie.spec (λ c κs. tt) (λ c. search needs) (λ c κs. tt) returns)

@@ -8,11 +8,8 @@ use Rattle.delivery_rows.proofs.has_room.Tie as tie
 returns : tie.Need-returns
 returns c = sym (too-short _ _ (c .if1 .taken))
 
-sub-result : tie.Need-sub-result
-sub-result c = search needs
-
 returns-2 : tie.Need-returns-2
 returns-2 c = room-is _ _ (c .if1 .left)
 
 pub has-room-spec : {M : Type 1} → statement M
-has-room-spec = tie.close (tie.spec returns sub-result returns-2)
+has-room-spec = tie.close (tie.spec returns (λ c. search needs) returns-2)

@@ -8,14 +8,8 @@ use Rattle.delivery_rows.proofs.RowsInBuffer.{room-long, not-printed, p
 use Rattle.delivery_rows.proofs.print_rows.Statement.{statement}
 use Rattle.delivery_rows.proofs.print_rows.Tie as tie
 
-same-length : tie.Need-same-length
-same-length c = search needs
-
 returns : tie.Need-returns
 returns c = not-printed _ _ _ _ (said-no (c .before .has-room .ensures) (c .if1 .taken))
-
-cast-put-rows : tie.Need-cast-put-rows
-cast-put-rows c = search needs
 
 put-rows-requires : tie.Need-put-rows-requires
 put-rows-requires c κs =
@@ -37,14 +31,4 @@ returns-2 c =
     (at-places .places-of-kind .ensures .1) l (at-put-rows .put-rows .ensures)
 
 pub print-rows-spec : {M : Type 1} → statement M
-print-rows-spec =
-    tie.close
-    (tie.spec
-    (λ c κs. tt)
-    same-length
-    returns
-    (λ c κs. tt)
-    cast-put-rows
-    put-rows-requires
-    same-length-2
-    returns-2)
+print-rows-spec = tie.close (tie.spec (λ c κs. tt) (λ c. search needs) returns (λ c κs. tt) (λ c. search needs) put-rows-requires same-length-2 returns-2)

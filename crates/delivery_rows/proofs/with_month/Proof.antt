@@ -5,23 +5,9 @@ use Rattle.session_text.specs.TermsText.{yearMonth, monthText}
 use Rattle.delivery_rows.proofs.with_month.Statement.{statement}
 use Rattle.delivery_rows.proofs.with_month.Tie as tie
 
-add-with-four : tie.Need-add-with-four
-add-with-four c = search needs
-
-add-with-two : tie.Need-add-with-two
-add-with-two c = search needs
-
 returns : tie.Need-returns
 unfolding monthText yearMonth
 returns c = then (c .before .before .with-four .ensures) (then (one _ _ _ (c .before .extend .ensures)) (c .with-two .ensures))
 
 pub with-month-spec : {M : Type 1} → statement M
-with-month-spec =
-    tie.close
-    (tie.spec
-    add-with-four
-    (λ c κs. tt)
-    (λ c κs. tt)
-    add-with-two
-    (λ c κs. tt)
-    returns)
+with-month-spec = tie.close (tie.spec (λ c. search needs) (λ c κs. tt) (λ c κs. tt) (λ c. search needs) (λ c κs. tt) returns)

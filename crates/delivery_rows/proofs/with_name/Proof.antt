@@ -11,5 +11,4 @@ returns-2 : tie.Need-returns-2
 returns-2 c = name-month _ _ _ _ (sym (c .before .before .is-weekly .ensures) ∙ c .before .if1 .left) (c .with-month .ensures)
 
 pub with-name-spec : {M : Type 1} → statement M
-with-name-spec =
-    tie.close (tie.spec (λ c κs. tt) (λ c κs. tt) returns (λ c κs. tt) returns-2)
+with-name-spec = tie.close (tie.spec (λ c κs. tt) (λ c κs. tt) returns (λ c κs. tt) returns-2)

@@ -7,12 +7,6 @@ use Rattle.delivery_sessions.proofs.answer_last.Tie as tie
 returns : tie.Need-returns
 returns c = no-last _ _ _ _ (c .if1 .taken)
 
-same-length : tie.Need-same-length
-same-length c = search needs
-
-same-length-2 : tie.Need-same-length-2
-same-length-2 c = search needs
-
 returns-2 : tie.Need-returns-2
 returns-2 c =
     let at-answer-line = c .before .before .before .before in
@@ -20,5 +14,4 @@ returns-2 c =
     last-line _ _ _ _ _ _ (at-if1 .if1 .left) (at-answer-line .answer-line .ensures)
 
 pub answer-last-spec : {M : Type 1} → statement M
-answer-last-spec =
-    tie.close (tie.spec returns (λ c κs. tt) same-length same-length-2 returns-2)
+answer-last-spec = tie.close (tie.spec returns (λ c κs. tt) (λ c. search needs) (λ c. search needs) returns-2)

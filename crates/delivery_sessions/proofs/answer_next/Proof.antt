@@ -11,12 +11,6 @@ returns c =
     let start = at-line-from .before .before .before .before .before .before .before .before in
     goes-past _ _ _ (start .args .s) (start .pre .0) (start .pre .1) _ (at-line-from .line-from .ensures) (not-true _ (c .if1 .taken))
 
-same-length : tie.Need-same-length
-same-length c = search needs
-
-same-length-2 : tie.Need-same-length-2
-same-length-2 c = search needs
-
 returns-2 : tie.Need-returns-2
 returns-2 c =
     let at-empty-long-line = c .before in
@@ -28,14 +22,4 @@ returns-2 c =
     _ _ (c .next-number .ensures) (at-empty-long-line .empty-long-line .ensures) (at-answer-line .answer-line .ensures)
 
 pub answer-next-spec : {M : Type 1} → statement M
-answer-next-spec =
-    tie.close
-    (tie.spec
-    (λ c κs. tt)
-    returns
-    (λ c κs. tt)
-    (λ c κs. tt)
-    (λ c κs. tt)
-    same-length
-    same-length-2
-    returns-2)
+answer-next-spec = tie.close (tie.spec (λ c κs. tt) returns (λ c κs. tt) (λ c κs. tt) (λ c κs. tt) (λ c. search needs) (λ c. search needs) returns-2)

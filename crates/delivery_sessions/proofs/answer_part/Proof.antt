@@ -50,16 +50,4 @@ returns : tie.Need-returns Inv-loop μ-loop
 returns c = finishes _ _ _ _ _ _ _ _ (c .before .before .before .loop .inv .0) (c .before .goes-on .ensures) (c .if1 .left)
 
 pub answer-part-spec : {M : Type 1} → statement M
-answer-part-spec =
-    tie.close
-    (tie.spec
-    Inv-loop
-    μ-loop
-    loop-holds
-    goes-on-requires
-    answer-next-requires
-    loop-less
-    loop-again
-    same-length
-    same-length-2
-    returns)
+answer-part-spec = tie.close (tie.spec Inv-loop μ-loop loop-holds goes-on-requires answer-next-requires loop-less loop-again same-length same-length-2 returns)

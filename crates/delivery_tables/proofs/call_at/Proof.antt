@@ -3,21 +3,6 @@ use borrow.Author.Needs.{needs}
 use Rattle.delivery_tables.proofs.call_at.Statement.{statement}
 use Rattle.delivery_tables.proofs.call_at.Tie as tie
 
-mul-at : tie.Need-mul-at
-mul-at c = search needs
-
-add-call-number : tie.Need-add-call-number
-add-call-number c = search needs
-
-add-call-number-2 : tie.Need-add-call-number-2
-add-call-number-2 c = search needs
-
-add-call-number-3 : tie.Need-add-call-number-3
-add-call-number-3 c = search needs
-
-add-call-number-4 : tie.Need-add-call-number-4
-add-call-number-4 c = search needs
-
 returns : tie.Need-returns
 returns c = λ k.
     let fourth = c .before in
@@ -29,16 +14,5 @@ returns c = λ k.
 
 pub call-at-spec : {M : Type 1} → statement M
 call-at-spec =
-    tie.close
-    (tie.spec
-    mul-at
-    add-call-number
-    (λ c κs. tt)
-    add-call-number-2
-    (λ c κs. tt)
-    add-call-number-3
-    (λ c κs. tt)
-    add-call-number-4
-    (λ c κs. tt)
-    (λ c κs. tt)
-    returns)
+    tie.close (tie.spec (λ c. search needs) (λ c. search needs) (λ c κs. tt) (λ c. search needs) (λ c κs. tt) (λ c. search needs) (λ c κs. tt)
+    (λ c. search needs) (λ c κs. tt) (λ c κs. tt) returns)

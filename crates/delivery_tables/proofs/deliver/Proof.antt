@@ -19,5 +19,4 @@ returns-2 c =
     (c .before .before .take-notices .ensures)
 
 pub deliver-spec : {M : Type 1} → statement M
-deliver-spec =
-    tie.close (tie.spec (λ c κs. tt) returns take-notices-requires same-length returns-2)
+deliver-spec = tie.close (tie.spec (λ c κs. tt) returns take-notices-requires same-length returns-2)

@@ -5,12 +5,6 @@ use Rattle.delivery_tables.proofs.NoticesOnTable.{concerns-is, made-not
 use Rattle.delivery_tables.proofs.notice_at.Statement.{statement}
 use Rattle.delivery_tables.proofs.notice_at.Tie as tie
 
-mul-call-number : tie.Need-mul-call-number
-mul-call-number c = search needs
-
-add-call-number : tie.Need-add-call-number
-add-call-number c = search needs
-
 returns : tie.Need-returns
 returns c = λ k.
     let at-concerns = c .before in
@@ -37,14 +31,4 @@ returns-2 c = λ k.
     (c .call-at .ensures k)
 
 pub notice-at-spec : {M : Type 1} → statement M
-notice-at-spec =
-    tie.close
-    (tie.spec
-    mul-call-number
-    add-call-number
-    (λ c κs. tt)
-    (λ c κs. tt)
-    (λ c κs. tt)
-    returns
-    (λ c κs. tt)
-    returns-2)
+notice-at-spec = tie.close (tie.spec (λ c. search needs) (λ c. search needs) (λ c κs. tt) (λ c κs. tt) (λ c κs. tt) returns (λ c κs. tt) returns-2)

@@ -63,16 +63,4 @@ returns c =
 
 pub run-notices-spec : {M : Type 1} → statement M
 run-notices-spec =
-    tie.close
-    (tie.spec
-    Inv-loop
-    μ-loop
-    loop-holds
-    (λ c κs. tt)
-    cast-refusals
-    slice-write-refusals
-    add-i
-    loop-less
-    loop-again
-    same-length
-    returns)
+    tie.close (tie.spec Inv-loop μ-loop loop-holds (λ c κs. tt) cast-refusals slice-write-refusals add-i loop-less loop-again same-length returns)

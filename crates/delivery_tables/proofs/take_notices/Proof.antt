@@ -18,12 +18,4 @@ returns c =
     rw (c .table-of .ensures) (rw (at-rest .table-rest .ensures) at (at-run .run-notices .ensures))
 
 pub take-notices-spec : {M : Type 1} → statement M
-take-notices-spec =
-    tie.close
-    (tie.spec
-    (λ c κs. tt)
-    (λ c κs. tt)
-    run-notices-requires
-    (λ c κs. tt)
-    same-length
-    returns)
+take-notices-spec = tie.close (tie.spec (λ c κs. tt) (λ c κs. tt) run-notices-requires (λ c κs. tt) same-length returns)

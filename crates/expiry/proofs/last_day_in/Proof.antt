@@ -11,6 +11,4 @@ returns-2 : tie.Need-returns-2
 returns-2 c = c .trading-day-before-in .ensures ∙ before _ _ (sym (c .before .before .is-trading-day-in .ensures) ∙ c .before .if1 .left)
 
 pub last-day-in-spec : {M : Type 1} → statement M
-last-day-in-spec =
-    tie.close
-    (tie.spec (λ c κs. tt) returns (λ c κs. tt) returns-2)
+last-day-in-spec = tie.close (tie.spec (λ c κs. tt) returns (λ c κs. tt) returns-2)

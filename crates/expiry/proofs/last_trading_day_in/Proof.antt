@@ -14,5 +14,4 @@ unfolding workedOut lastTradingDay anchorOf
 returns-2 c = rw (sym (c .before .before .is-weekly .ensures) ∙ c .before .if1 .left) (c .month-last-day-in .ensures)
 
 pub last-trading-day-in-spec : {M : Type 1} → statement M
-last-trading-day-in-spec =
-    tie.close (tie.spec (λ c κs. tt) (λ c κs. tt) returns (λ c κs. tt) returns-2)
+last-trading-day-in-spec = tie.close (tie.spec (λ c κs. tt) (λ c κs. tt) returns (λ c κs. tt) returns-2)

@@ -23,12 +23,4 @@ returns-2 c =
     (c .trading-day-before-in .ensures ∙ before _ _ (sym (c .before .before .is-trading-day-in .ensures) ∙ c .before .if1 .left))
 
 pub month-last-day-in-spec : {M : Type 1} → statement M
-month-last-day-in-spec =
-    tie.close
-    (tie.spec
-    (λ c κs. tt)
-    italian-exception-requires
-    (λ c κs. tt)
-    returns
-    (λ c κs. tt)
-    returns-2)
+month-last-day-in-spec = tie.close (tie.spec (λ c κs. tt) italian-exception-requires (λ c κs. tt) returns (λ c κs. tt) returns-2)

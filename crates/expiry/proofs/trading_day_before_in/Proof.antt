@@ -40,16 +40,4 @@ returns-2 : tie.Need-returns-2 Inv-loop μ-loop
 returns-2 c = none _ _ _ _ (c .before .loop .inv) (c .loop-test .left)
 
 pub trading-day-before-in-spec : {M : Type 1} → statement M
-trading-day-before-in-spec =
-    tie.close
-    (tie.spec
-    Inv-loop
-    μ-loop
-    loop-holds
-    sub-day
-    add-back
-    is-trading-day-in-requires
-    returns
-    loop-less
-    loop-again
-    returns-2)
+trading-day-before-in-spec = tie.close (tie.spec Inv-loop μ-loop loop-holds sub-day add-back is-trading-day-in-requires returns loop-less loop-again returns-2)

@@ -42,15 +42,4 @@ returns c =
     rw e at (c .before .loop .inv .1)
 
 pub bits-of-spec : {M : Type 1} → statement M
-bits-of-spec =
-    tie.close
-    (tie.spec
-    Inv-loop
-    μ-loop
-    loop-holds
-    add-bits
-    shared-slice-read-bits
-    add-i
-    loop-less
-    loop-again
-    returns)
+bits-of-spec = tie.close (tie.spec Inv-loop μ-loop loop-holds add-bits shared-slice-read-bits add-i loop-less loop-again returns)

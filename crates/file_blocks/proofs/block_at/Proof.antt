@@ -9,47 +9,13 @@ use borrow.Author.Needs.{needs}
 use Rattle.file_blocks.proofs.block_at.Statement.{statement}
 use Rattle.file_blocks.proofs.block_at.Tie as tie
 
-sub-result : tie.Need-sub-result
-sub-result c = search needs
-
-part-result-start : tie.Need-part-result-start
-part-result-start c = search needs
-
-part-result-end : tie.Need-part-result-end
-part-result-end c = search needs
-
 returns : tie.Need-returns
 returns c = (sym (block-out _ _ (c .before .if1 .taken)), λ h. absurd (omega arith))
-
-mul-start : tie.Need-mul-start
-mul-start c = search needs
-
-add-end : tie.Need-add-end
-add-end c = search needs
-
-sub-result-2 : tie.Need-sub-result-2
-sub-result-2 c = search needs
-
-part-result-start-2 : tie.Need-part-result-start-2
-part-result-start-2 c = search needs
-
-part-result-end-2 : tie.Need-part-result-end-2
-part-result-end-2 c = search needs
 
 returns-2 : tie.Need-returns-2
 returns-2 c = (rw add-sub-cancel-left (sym (block-in _ _ (omega arith))), λ h. simp (length-take, length-drop) (omega arith))
 
 pub block-at-spec : {M : Type 1} → statement M
 block-at-spec =
-    tie.close
-    (tie.spec
-    sub-result
-    part-result-start
-    part-result-end
-    returns
-    mul-start
-    add-end
-    sub-result-2
-    part-result-start-2
-    part-result-end-2
-    returns-2)
+    tie.close (tie.spec (λ c. search needs) (λ c. search needs) (λ c. search needs) returns (λ c. search needs) (λ c. search needs) (λ c. search needs)
+    (λ c. search needs) (λ c. search needs) returns-2)

@@ -11,13 +11,9 @@ returns c = rw (ne-eqb _ _ (c .if1 .taken))
 weighted-sum-requires : tie.Need-weighted-sum-requires
 weighted-sum-requires c κs = c .if1 .left
 
-cast-result : tie.Need-cast-result
-cast-result c = omega arith
-
 returns-2 : tie.Need-returns-2
 unfolding checkRight
 returns-2 c = simp (c .number-at .ensures .0, c .before .weighted-sum .ensures, eq-eqb _ _ (c .before .before .if1 .left))
 
 pub block-check-right-spec : {M : Type 1} → statement M
-block-check-right-spec =
-    tie.close (tie.spec returns weighted-sum-requires cast-result (λ c κs. tt) returns-2)
+block-check-right-spec = tie.close (tie.spec returns weighted-sum-requires (λ c. omega arith) (λ c κs. tt) returns-2)

@@ -13,11 +13,4 @@ returns c = simp (
 )
 
 pub block-header-right-spec : {M : Type 1} → statement M
-block-header-right-spec =
-    tie.close
-    (tie.spec
-    (λ c κs. tt)
-    (λ c κs. tt)
-    (λ c κs. tt)
-    (λ c κs. tt)
-    returns)
+block-header-right-spec = tie.close (tie.spec (λ c κs. tt) (λ c κs. tt) (λ c κs. tt) (λ c κs. tt) returns)

@@ -44,15 +44,4 @@ returns-2 c =
     sym (rw e at (c .before .loop .inv .1))
 
 pub checks-right-spec : {M : Type 1} → statement M
-checks-right-spec =
-    tie.close
-    (tie.spec
-    Inv-loop
-    μ-loop
-    loop-holds
-    check-right-requires
-    returns
-    add-k
-    loop-less
-    loop-again
-    returns-2)
+checks-right-spec = tie.close (tie.spec Inv-loop μ-loop loop-holds check-right-requires returns add-k loop-less loop-again returns-2)

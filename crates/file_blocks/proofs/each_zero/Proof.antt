@@ -52,16 +52,4 @@ returns-2 c =
     sym (rw e at (c .before .loop .inv .1))
 
 pub each-zero-spec : {M : Type 1} → statement M
-each-zero-spec =
-    tie.close
-    (tie.spec
-    Inv-loop
-    μ-loop
-    loop-holds
-    add-byte-at
-    byte-at-requires
-    returns
-    add-i
-    loop-less
-    loop-again
-    returns-2)
+each-zero-spec = tie.close (tie.spec Inv-loop μ-loop loop-holds add-byte-at byte-at-requires returns add-i loop-less loop-again returns-2)

@@ -44,15 +44,4 @@ returns-2 c =
     sym (rw e at (c .before .loop .inv .1))
 
 pub headers-right-spec : {M : Type 1} → statement M
-headers-right-spec =
-    tie.close
-    (tie.spec
-    Inv-loop
-    μ-loop
-    loop-holds
-    header-right-requires
-    returns
-    add-k
-    loop-less
-    loop-again
-    returns-2)
+headers-right-spec = tie.close (tie.spec Inv-loop μ-loop loop-holds header-right-requires returns add-k loop-less loop-again returns-2)

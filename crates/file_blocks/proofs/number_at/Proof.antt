@@ -5,15 +5,6 @@ use borrow.Author.Needs.{needs}
 use Rattle.file_blocks.proofs.number_at.Statement.{statement}
 use Rattle.file_blocks.proofs.number_at.Tie as tie
 
-mul-result : tie.Need-mul-result
-mul-result c = search needs
-
-add-byte-at : tie.Need-add-byte-at
-add-byte-at c = search needs
-
-add-result : tie.Need-add-result
-add-result c = search needs
-
 returns : tie.Need-returns
 unfolding numberAt
 returns c = (
@@ -22,14 +13,4 @@ returns c = (
 )
 
 pub number-at-spec : {M : Type 1} → statement M
-number-at-spec =
-    tie.close
-    (tie.spec
-    (λ c κs. tt)
-    (λ c κs. tt)
-    mul-result
-    add-byte-at
-    (λ c κs. tt)
-    (λ c κs. tt)
-    add-result
-    returns)
+number-at-spec = tie.close (tie.spec (λ c κs. tt) (λ c κs. tt) (λ c. search needs) (λ c. search needs) (λ c κs. tt) (λ c κs. tt) (λ c. search needs) returns)

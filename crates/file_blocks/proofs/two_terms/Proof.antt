@@ -15,17 +15,11 @@ small-2 : (c : tie.Start) → (c .args .i + 1) * c .args .second ≤ 65025
 small-2 c = term-most _ _ (c .pre .0) (c .pre .2)
 
 -- ---- the sizes
-add-result : tie.Need-add-result
-add-result c = search needs
-
 mul-result : tie.Need-mul-result
 mul-result c = omega (arith, small c)
 
 cast-result : tie.Need-cast-result
 cast-result c = omega (arith, small c)
-
-add-result-2 : tie.Need-add-result-2
-add-result-2 c = search needs
 
 mul-result-2 : tie.Need-mul-result-2
 mul-result-2 c = omega (arith, small-2 c)
@@ -36,12 +30,6 @@ cast-result-2 c = omega (arith, small-2 c)
 add-result-3 : tie.Need-add-result-3
 add-result-3 c = omega (arith, small c, small-2 c)
 
-mul-result-3 : tie.Need-mul-result-3
-mul-result-3 c = search needs
-
-cast-result-3 : tie.Need-cast-result-3
-cast-result-3 c = search needs
-
 add-result-4 : tie.Need-add-result-4
 add-result-4 c = omega (arith, small c, small-2 c)
 
@@ -51,16 +39,5 @@ returns c = (omega (arith, term-later (c .args .i) (c .args .second)), omega (ar
 
 pub two-terms-spec : {M : Type 1} → statement M
 two-terms-spec =
-    tie.close
-    (tie.spec
-    add-result
-    mul-result
-    cast-result
-    add-result-2
-    mul-result-2
-    cast-result-2
-    add-result-3
-    mul-result-3
-    cast-result-3
-    add-result-4
-    returns)
+    tie.close (tie.spec (λ c. search needs) mul-result cast-result (λ c. search needs) mul-result-2 cast-result-2 add-result-3 (λ c. search needs)
+    (λ c. search needs) add-result-4 returns)

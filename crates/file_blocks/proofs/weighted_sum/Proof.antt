@@ -72,21 +72,5 @@ returns c =
 
 pub weighted-sum-spec : {M : Type 1} → statement M
 weighted-sum-spec =
-    tie.close
-    (tie.spec
-    Inv-loop
-    μ-loop
-    loop-holds
-    cast-weight
-    shared-slice-read-weight
-    weight-requires
-    cast-weight-2
-    add-weight
-    shared-slice-read-weight-2
-    weight-requires-2
-    two-terms-requires
-    add-sum
-    add-i
-    loop-less
-    loop-again
-    returns)
+    tie.close (tie.spec Inv-loop μ-loop loop-holds cast-weight shared-slice-read-weight weight-requires cast-weight-2 add-weight shared-slice-read-weight-2
+    weight-requires-2 two-terms-requires add-sum add-i loop-less loop-again returns)

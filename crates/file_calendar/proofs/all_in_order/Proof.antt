@@ -62,16 +62,4 @@ returns-2 c =
 
 pub all-in-order-spec : {M : Type 1} → statement M
 all-in-order-spec =
-    tie.close
-    (tie.spec
-    Inv-loop
-    μ-loop
-    block-at-requires
-    number-at-requires
-    loop-holds
-    in-order-requires
-    returns
-    add-k
-    loop-less
-    loop-again
-    returns-2)
+    tie.close (tie.spec Inv-loop μ-loop block-at-requires number-at-requires loop-holds in-order-requires returns add-k loop-less loop-again returns-2)

@@ -22,5 +22,4 @@ returns-2 c =
     c .zero-calendar .ensures ∙ sym (calendar-out _ _ (c .before .before .year-count .ensures .0) (c .before .if1 .left))
 
 pub calendar-of-spec : {M : Type 1} → statement M
-calendar-of-spec =
-    tie.close (tie.spec (λ c κs. tt) calendar-blocks-requires returns (λ c κs. tt) returns-2)
+calendar-of-spec = tie.close (tie.spec (λ c κs. tt) calendar-blocks-requires returns (λ c κs. tt) returns-2)

@@ -56,17 +56,4 @@ returns-2 c =
     sym (rw e at (c .before .loop .inv .1))
 
 pub days-clean-spec : {M : Type 1} → statement M
-days-clean-spec =
-    tie.close
-    (tie.spec
-    Inv-loop
-    μ-loop
-    number-at-requires
-    cast-year
-    loop-holds
-    day-clean-requires
-    returns
-    add-n
-    loop-less
-    loop-again
-    returns-2)
+days-clean-spec = tie.close (tie.spec Inv-loop μ-loop number-at-requires cast-year loop-holds day-clean-requires returns add-n loop-less loop-again returns-2)

@@ -6,9 +6,6 @@ use borrow.Author.Needs.{needs}
 use Rattle.file_calendar.proofs.in_order.Statement.{statement}
 use Rattle.file_calendar.proofs.in_order.Tie as tie
 
-add-result : tie.Need-add-result
-add-result c = search needs
-
 returns : tie.Need-returns
 unfolding inOrder
 returns c =
@@ -33,6 +30,4 @@ returns-2 c = simp (
 )
 
 pub in-order-spec : {M : Type 1} → statement M
-in-order-spec =
-    tie.close
-    (tie.spec (λ c κs. tt) (λ c κs. tt) (λ c κs. tt) add-result returns returns-2)
+in-order-spec = tie.close (tie.spec (λ c κs. tt) (λ c κs. tt) (λ c κs. tt) (λ c. search needs) returns returns-2)

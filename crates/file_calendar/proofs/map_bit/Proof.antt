@@ -5,26 +5,9 @@ use borrow.Author.Needs.{needs}
 use Rattle.file_calendar.proofs.map_bit.Statement.{statement}
 use Rattle.file_calendar.proofs.map_bit.Tie as tie
 
-cast-byte-at : tie.Need-cast-byte-at
-cast-byte-at c = search needs
-
-add-byte-at : tie.Need-add-byte-at
-add-byte-at c = search needs
-
-sub-result : tie.Need-sub-result
-sub-result c = search needs
-
-cast-result : tie.Need-cast-result
-cast-result c = search needs
-
-shr-result : tie.Need-shr-result
-shr-result c = search needs
-
 returns : tie.Need-returns
 unfolding mapBit
 returns c = simp (c .byte-at .ensures)
 
 pub map-bit-spec : {M : Type 1} → statement M
-map-bit-spec =
-    tie.close
-    (tie.spec cast-byte-at add-byte-at (λ c κs. tt) sub-result cast-result shr-result returns)
+map-bit-spec = tie.close (tie.spec (λ c. search needs) (λ c. search needs) (λ c κs. tt) (λ c. search needs) (λ c. search needs) (λ c. search needs) returns)

@@ -61,18 +61,5 @@ returns c =
 
 pub maps-from-spec : {M : Type 1} → statement M
 maps-from-spec =
-    tie.close
-    (tie.spec
-    Inv-loop
-    μ-loop
-    mul-n
-    loop-holds
-    mul-maps
-    add-maps
-    add-maps-2
-    shared-slice-read-maps
-    array-write-maps
-    add-i
-    loop-less
-    loop-again
+    tie.close (tie.spec Inv-loop μ-loop mul-n loop-holds mul-maps add-maps add-maps-2 shared-slice-read-maps array-write-maps add-i loop-less loop-again
     returns)

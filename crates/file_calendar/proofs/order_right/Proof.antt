@@ -20,9 +20,6 @@ returns-3 c =
     let d = c .before .before in
     simp (← d .before .before .pre, le-leb _ _ (d .if1 .left), le-leb _ _ (c .before .if2 .left), le-ltb _ _ (c .if3 .taken))
 
-all-in-order-requires : tie.Need-all-in-order-requires
-all-in-order-requires c κs = search needs
-
 returns-4 : tie.Need-returns-4
 unfolding orderRight
 returns-4 c =
@@ -31,6 +28,4 @@ returns-4 c =
     (c .all-in-order .ensures)
 
 pub order-right-spec : {M : Type 1} → statement M
-order-right-spec =
-    tie.close
-    (tie.spec returns returns-2 returns-3 all-in-order-requires returns-4)
+order-right-spec = tie.close (tie.spec returns returns-2 returns-3 (λ c κs. search needs) returns-4)

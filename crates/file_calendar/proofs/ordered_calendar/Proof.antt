@@ -30,12 +30,4 @@ returns-2 c =
     rw (c .calendar-blocks .ensures, sym (calendar-is _ (ordered _ yes))) (sym (accepted _ _ _ (first-yes 4 [] yes ∙ no-asks)))
 
 pub ordered-calendar-spec : {M : Type 1} → statement M
-ordered-calendar-spec =
-    tie.close
-    (tie.spec
-    (λ c κs. tt)
-    order-right-requires
-    (λ c κs. tt)
-    returns
-    calendar-blocks-requires
-    returns-2)
+ordered-calendar-spec = tie.close (tie.spec (λ c κs. tt) order-right-requires (λ c κs. tt) returns calendar-blocks-requires returns-2)

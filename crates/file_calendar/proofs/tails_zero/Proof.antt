@@ -50,16 +50,4 @@ returns-2 c =
     sym (rw e at (c .before .loop .inv .1))
 
 pub tails-zero-spec : {M : Type 1} → statement M
-tails-zero-spec =
-    tie.close
-    (tie.spec
-    Inv-loop
-    μ-loop
-    loop-holds
-    block-at-requires
-    are-zero-requires
-    returns
-    add-k
-    loop-less
-    loop-again
-    returns-2)
+tails-zero-spec = tie.close (tie.spec Inv-loop μ-loop loop-holds block-at-requires are-zero-requires returns add-k loop-less loop-again returns-2)

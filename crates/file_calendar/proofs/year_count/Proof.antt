@@ -64,16 +64,4 @@ returns c =
     (rw e at (l .inv .1), omega arith)
 
 pub year-count-spec : {M : Type 1} → statement M
-year-count-spec =
-    tie.close
-    (tie.spec
-    Inv-loop
-    μ-loop
-    loop-holds
-    block-at-requires
-    byte-at-requires
-    add-years
-    add-k
-    loop-less
-    loop-again
-    returns)
+year-count-spec = tie.close (tie.spec Inv-loop μ-loop loop-holds block-at-requires byte-at-requires add-years add-k loop-less loop-again returns)

@@ -15,13 +15,10 @@ returns c =
     let blocks = c .before .args .blocks in
     rw (lt-leb (512 * blocks) 65536 (omega arith)) (sym (and-false (leb (512 * blocks) (c .before .args .room))))
 
-mul-result : tie.Need-mul-result
-mul-result c = search needs
-
 returns-2 : tie.Need-returns-2
 returns-2 c =
     let blocks = c .before .args .blocks in
     rw (le-leb (512 * blocks) 65536 (omega arith)) (sym (and-true (leb (512 * blocks) (c .before .args .room))))
 
 pub has-room-spec : {M : Type 1} → statement M
-has-room-spec = tie.close (tie.spec returns mul-result returns-2)
+has-room-spec = tie.close (tie.spec returns (λ c. search needs) returns-2)

@@ -4,12 +4,9 @@ use Rattle.file_draft.specs.Drafts.{listId}
 use Rattle.file_draft.proofs.list_id.Statement.{statement}
 use Rattle.file_draft.proofs.list_id.Tie as tie
 
-list-record-requires : tie.Need-list-record-requires
-list-record-requires c κs = search needs
-
 returns : tie.Need-returns
 unfolding listId
 returns c = simp (c .four-at .ensures, c .before .list-record .ensures)
 
 pub list-id-spec : {M : Type 1} → statement M
-list-id-spec = tie.close (tie.spec list-record-requires (λ c κs. tt) returns)
+list-id-spec = tie.close (tie.spec (λ c κs. search needs) (λ c κs. tt) returns)

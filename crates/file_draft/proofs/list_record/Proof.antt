@@ -9,21 +9,6 @@ use Rattle.file_draft.specs.Drafts.{listRecord}
 use Rattle.file_draft.proofs.list_record.Statement.{statement}
 use Rattle.file_draft.proofs.list_record.Tie as tie
 
-mul-start : tie.Need-mul-start
-mul-start c = search needs
-
-add-end : tie.Need-add-end
-add-end c = search needs
-
-sub-result : tie.Need-sub-result
-sub-result c = search needs
-
-part-result-start : tie.Need-part-result-start
-part-result-start c = search needs
-
-part-result-end : tie.Need-part-result-end
-part-result-end c = search needs
-
 returns : tie.Need-returns
 unfolding listRecord
 returns c =
@@ -32,5 +17,4 @@ returns c =
     ap (λ (n : ℕ). take n (drop start (now (c .before .args .records)))) e
 
 pub list-record-spec : {M : Type 1} → statement M
-list-record-spec =
-    tie.close (tie.spec mul-start add-end sub-result part-result-start part-result-end returns)
+list-record-spec = tie.close (tie.spec (λ c. search needs) (λ c. search needs) (λ c. search needs) (λ c. search needs) (λ c. search needs) returns)

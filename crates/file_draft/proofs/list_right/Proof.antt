@@ -57,16 +57,4 @@ returns-2 c =
     sym (rw e at (c .before .loop .inv .1))
 
 pub list-right-spec : {M : Type 1} → statement M
-list-right-spec =
-    tie.close
-    (tie.spec
-    Inv-loop
-    μ-loop
-    loop-holds
-    list-record-requires
-    record-right-requires
-    returns
-    add-i
-    loop-less
-    loop-again
-    returns-2)
+list-right-spec = tie.close (tie.spec Inv-loop μ-loop loop-holds list-record-requires record-right-requires returns add-i loop-less loop-again returns-2)

@@ -67,18 +67,5 @@ returns-2 c =
 
 pub list-rises-spec : {M : Type 1} → statement M
 list-rises-spec =
-    tie.close
-    (tie.spec
-    Inv-loop
-    μ-loop
-    loop-holds
-    add-loop
-    list-id-requires
-    add-list-id
-    list-id-requires-2
-    id-rises-requires
-    returns
-    add-i
-    loop-less
-    loop-again
+    tie.close (tie.spec Inv-loop μ-loop loop-holds add-loop list-id-requires add-list-id list-id-requires-2 id-rises-requires returns add-i loop-less loop-again
     returns-2)

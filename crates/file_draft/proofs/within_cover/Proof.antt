@@ -4,15 +4,9 @@ use Rattle.file_draft.specs.Drafts.{withinCover}
 use Rattle.file_draft.proofs.within_cover.Statement.{statement}
 use Rattle.file_draft.proofs.within_cover.Tie as tie
 
-years-of-map-requires : tie.Need-years-of-map-requires
-years-of-map-requires c κs = search needs
-
-years-of-map-requires-2 : tie.Need-years-of-map-requires-2
-years-of-map-requires-2 c κs = search needs
-
 returns : tie.Need-returns
 unfolding withinCover
 returns c = rw (c .before .years-of-map .ensures, c .years-of-map2 .ensures)
 
 pub within-cover-spec : {M : Type 1} → statement M
-within-cover-spec = tie.close (tie.spec years-of-map-requires years-of-map-requires-2 returns)
+within-cover-spec = tie.close (tie.spec (λ c κs. search needs) (λ c κs. search needs) returns)

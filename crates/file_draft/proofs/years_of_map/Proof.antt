@@ -40,16 +40,4 @@ returns : tie.Need-returns Inv-loop μ-loop
 returns c = years-kept _ _ _ _ (omega arith) (c .before .loop .inv .1)
 
 pub years-of-map-spec : {M : Type 1} → statement M
-years-of-map-spec =
-    tie.close
-    (tie.spec
-    Inv-loop
-    μ-loop
-    mul-n
-    loop-holds
-    array-read-kept
-    array-write-kept
-    add-i
-    loop-less
-    loop-again
-    returns)
+years-of-map-spec = tie.close (tie.spec Inv-loop μ-loop mul-n loop-holds array-read-kept array-write-kept add-i loop-less loop-again returns)

@@ -16,11 +16,8 @@ returns-2 c = sym (years-early _ (omega (arith, c .before .if1 .left)) (c .if2 .
 returns-3 : tie.Need-returns-3
 returns-3 c = sym (years-late _ (omega (arith, c .before .before .if1 .left)) (c .if3 .taken))
 
-sub-result : tie.Need-sub-result
-sub-result c = search needs
-
 returns-4 : tie.Need-returns-4
 returns-4 c = sym (years-most _ (omega (arith, c .before .before .if1 .left)) (c .before .if2 .left) (c .if3 .left))
 
 pub years-right-spec : {M : Type 1} → statement M
-years-right-spec = tie.close (tie.spec returns returns-2 returns-3 sub-result returns-4)
+years-right-spec = tie.close (tie.spec returns returns-2 returns-3 (λ c. search needs) returns-4)

@@ -8,9 +8,6 @@ use Rattle.file_ids.proofs.follows.Tie as tie
 returns : tie.Need-returns
 returns c = simp (not-true (c .before .before .args .holds) (c .if1 .taken))
 
-mul-if2 : tie.Need-mul-if2
-mul-if2 c = search needs
-
 returns-2 : tie.Need-returns-2
 returns-2 c =
     let d = c .before in
@@ -29,13 +26,4 @@ returns-3 c =
     )
 
 pub follows-spec : {M : Type 1} → statement M
-follows-spec =
-    tie.close
-    (tie.spec
-    returns
-    mul-if2
-    returns-2
-    (λ c κs. tt)
-    (λ c κs. tt)
-    (λ c κs. tt)
-    returns-3)
+follows-spec = tie.close (tie.spec returns (λ c. search needs) returns-2 (λ c κs. tt) (λ c κs. tt) (λ c κs. tt) returns-3)

@@ -61,17 +61,5 @@ returns-2 c = sym (walk-ends _ _ _ _ (c .before .loop .inv) (omega arith))
 
 pub ids-rise-spec : {M : Type 1} → statement M
 ids-rise-spec =
-    tie.close
-    (tie.spec
-    Inv-loop
-    μ-loop
-    mul-places
-    loop-holds
-    is-record-requires
-    follows-requires
-    returns
-    last-record-requires
-    add-p
-    loop-less
-    loop-again
+    tie.close (tie.spec Inv-loop μ-loop mul-places loop-holds is-record-requires follows-requires returns last-record-requires add-p loop-less loop-again
     returns-2)

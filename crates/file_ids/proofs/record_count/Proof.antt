@@ -58,16 +58,4 @@ returns c =
     (rw e at (l .inv .1), omega arith)
 
 pub record-count-spec : {M : Type 1} → statement M
-record-count-spec =
-    tie.close
-    (tie.spec
-    Inv-loop
-    μ-loop
-    mul-places
-    loop-holds
-    is-record-requires
-    add-records
-    add-p
-    loop-less
-    loop-again
-    returns)
+record-count-spec = tie.close (tie.spec Inv-loop μ-loop mul-places loop-holds is-record-requires add-records add-p loop-less loop-again returns)

@@ -67,9 +67,6 @@ returns : tie.Need-returns
 unfolding blockAsks
 returns c = sym (first-no 2 _ (said-no (check (c .before)) (c .if1 .taken)))
 
-cast-block-header-right : tie.Need-cast-block-header-right
-cast-block-header-right c = search needs
-
 returns-2 : tie.Need-returns-2
 unfolding blockAsks
 returns-2 c = sym (yes-2 (c .before .before .before) ∙ first-no 3 _ (said-no (c .before .block-header-right .ensures) (c .if2 .taken)))
@@ -108,21 +105,5 @@ returns-8 c = sym (yes-7 (c .before .before) ∙ first-yes 8 _ (said-yes (c .bef
 
 pub block-refusal-spec : {M : Type 1} → statement M
 block-refusal-spec =
-    tie.close
-    (tie.spec
-    (λ c κs. tt)
-    returns
-    cast-block-header-right
-    (λ c κs. tt)
-    returns-2
-    in-turn-requires
-    returns-3
-    (λ c κs. tt)
-    returns-4
-    weeks-go-on-requires
-    returns-5
-    (λ c κs. tt)
-    returns-6
-    (λ c κs. tt)
-    returns-7
-    returns-8)
+    tie.close (tie.spec (λ c κs. tt) returns (λ c. search needs) (λ c κs. tt) returns-2 in-turn-requires returns-3 (λ c κs. tt) returns-4 weeks-go-on-requires
+    returns-5 (λ c κs. tt) returns-6 (λ c κs. tt) returns-7 returns-8)

@@ -20,13 +20,4 @@ returns-2 c = weekday-trades _ _ _ _ (c .before .before .before .year-start .ens
     (c .before .before .weekday .ensures) _ (c .before .if1 .left) (c .map-bit .ensures)
 
 pub day-trades-spec : {M : Type 1} → statement M
-day-trades-spec =
-    tie.close
-    (tie.spec
-    (λ c κs. tt)
-    (λ c κs. tt)
-    add-weekday
-    (λ c κs. tt)
-    returns
-    (λ c κs. tt)
-    returns-2)
+day-trades-spec = tie.close (tie.spec (λ c κs. tt) (λ c κs. tt) add-weekday (λ c κs. tt) returns (λ c κs. tt) returns-2)

@@ -12,26 +12,5 @@ returns c =
     let y = c .before .before .args .year in
     (omega (arith, year-start-past y (c .if1 .taken), year-start-past (y + 1) (omega arith)), omega (arith, year-start-past y (c .if1 .taken)))
 
-add-year-start : tie.Need-add-year-start
-add-year-start c = search needs
-
-returns-2 : tie.Need-returns-2
-returns-2 c = search needs
-
-sub-result : tie.Need-sub-result
-sub-result c = search needs
-
-returns-3 : tie.Need-returns-3
-returns-3 c = search needs
-
 pub days-in-spec : {M : Type 1} → statement M
-days-in-spec =
-    tie.close
-    (tie.spec
-    (λ c κs. tt)
-    returns
-    add-year-start
-    (λ c κs. tt)
-    returns-2
-    sub-result
-    returns-3)
+days-in-spec = tie.close (tie.spec (λ c κs. tt) returns (λ c. search needs) (λ c κs. tt) (λ c. search needs) (λ c. search needs) (λ c. search needs))

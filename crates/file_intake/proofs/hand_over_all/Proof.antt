@@ -47,16 +47,4 @@ returns c =
     rw e at (at-loop .loop .inv .1)
 
 pub hand-over-all-spec : {M : Type 1} → statement M
-hand-over-all-spec =
-    tie.close
-    (tie.spec
-    Inv-loop
-    μ-loop
-    cast-announce
-    announce-requires
-    loop-holds
-    hand-over-requires
-    add-k
-    loop-less
-    loop-again
-    returns)
+hand-over-all-spec = tie.close (tie.spec Inv-loop μ-loop cast-announce announce-requires loop-holds hand-over-requires add-k loop-less loop-again returns)

@@ -65,18 +65,5 @@ returns-2 c =
 
 pub idle-after-spec : {M : Type 1} → statement M
 idle-after-spec =
-    tie.close
-    (tie.spec
-    Inv-loop
-    μ-loop
-    byte-at-requires
-    returns
-    field-at-requires
-    days-in-requires
-    loop-holds
-    day-trades-requires
-    idle-next-requires
-    add-n
-    loop-less
-    loop-again
-    returns-2)
+    tie.close (tie.spec Inv-loop μ-loop byte-at-requires returns field-at-requires days-in-requires loop-holds day-trades-requires idle-next-requires add-n
+    loop-less loop-again returns-2)

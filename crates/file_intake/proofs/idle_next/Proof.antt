@@ -9,9 +9,6 @@ use Rattle.file_intake.proofs.idle_next.Tie as tie
 returns : tie.Need-returns
 returns c = (simp (c .if1 .taken), omega arith)
 
-add-result : tie.Need-add-result
-add-result c = search needs
-
 returns-2 : tie.Need-returns-2
 returns-2 c = (simp (c .before .if1 .left, lt-ltb _ _ (c .if2 .taken), add-one), omega arith)
 
@@ -19,4 +16,4 @@ returns-3 : tie.Need-returns-3
 returns-3 c = (simp (c .before .if1 .left, le-ltb _ _ (c .if2 .left)), omega arith)
 
 pub idle-next-spec : {M : Type 1} → statement M
-idle-next-spec = tie.close (tie.spec returns add-result returns-2 returns-3)
+idle-next-spec = tie.close (tie.spec returns (λ c. search needs) returns-2 returns-3)

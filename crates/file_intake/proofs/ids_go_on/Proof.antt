@@ -33,14 +33,4 @@ returns-4 c =
     )
 
 pub ids-go-on-spec : {M : Type 1} → statement M
-ids-go-on-spec =
-    tie.close
-    (tie.spec
-    (λ c κs. tt)
-    returns
-    returns-2
-    (λ c κs. tt)
-    returns-3
-    (λ c κs. tt)
-    (λ c κs. tt)
-    returns-4)
+ids-go-on-spec = tie.close (tie.spec (λ c κs. tt) returns returns-2 (λ c κs. tt) returns-3 (λ c κs. tt) (λ c κs. tt) returns-4)

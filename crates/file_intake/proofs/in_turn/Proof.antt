@@ -12,21 +12,6 @@ returns : tie.Need-returns
 unfolding inTurn
 returns c = simp (c .before .byte-at .ensures, ne-eqb _ _ (λ h. c .if1 .taken (c .before .byte-at .ensures ∙ h)))
 
-add-result : tie.Need-add-result
-add-result c = search needs
-
-cast-result : tie.Need-cast-result
-cast-result c = search needs
-
-cast-result-2 : tie.Need-cast-result-2
-cast-result-2 c = search needs
-
-cast-result-3 : tie.Need-cast-result-3
-cast-result-3 c = search needs
-
-add-result-2 : tie.Need-add-result-2
-add-result-2 c = search needs
-
 returns-2 : tie.Need-returns-2
 unfolding inTurn
 returns-2 c =
@@ -40,15 +25,5 @@ returns-2 c =
 
 pub in-turn-spec : {M : Type 1} → statement M
 in-turn-spec =
-    tie.close
-    (tie.spec
-    (λ c κs. tt)
-    returns
-    (λ c κs. tt)
-    (λ c κs. tt)
-    add-result
-    cast-result
-    cast-result-2
-    cast-result-3
-    add-result-2
-    returns-2)
+    tie.close (tie.spec (λ c κs. tt) returns (λ c κs. tt) (λ c κs. tt) (λ c. search needs) (λ c. search needs) (λ c. search needs) (λ c. search needs)
+    (λ c. search needs) returns-2)

@@ -5,18 +5,9 @@ use borrow.Author.Needs.{needs}
 use Rattle.file_intake.proofs.is_plausible.Statement.{statement}
 use Rattle.file_intake.proofs.is_plausible.Tie as tie
 
-cast-result : tie.Need-cast-result
-cast-result c = search needs
-
-cast-result-2 : tie.Need-cast-result-2
-cast-result-2 c = search needs
-
-mul-result : tie.Need-mul-result
-mul-result c = search needs
-
 returns : tie.Need-returns
 unfolding plausible
 returns c = refl
 
 pub is-plausible-spec : {M : Type 1} → statement M
-is-plausible-spec = tie.close (tie.spec cast-result cast-result-2 mul-result returns)
+is-plausible-spec = tie.close (tie.spec (λ c. search needs) (λ c. search needs) (λ c. search needs) returns)

@@ -9,12 +9,8 @@ use Rattle.file_intake.proofs.last_id_of.Tie as tie
 returns : tie.Need-returns
 returns c = simp (eq-eqb _ _ (sym (c .before .record-count .ensures .0) ∙ c .if1 .taken))
 
-sub-id-at : tie.Need-sub-id-at
-sub-id-at c = search needs
-
 returns-2 : tie.Need-returns-2
 returns-2 c = simp (← c .before .before .record-count .ensures .0, ne-eqb _ _ (c .before .if1 .left), c .id-at .ensures)
 
 pub last-id-of-spec : {M : Type 1} → statement M
-last-id-of-spec =
-    tie.close (tie.spec (λ c κs. tt) returns sub-id-at (λ c κs. tt) returns-2)
+last-id-of-spec = tie.close (tie.spec (λ c κs. tt) returns (λ c. search needs) (λ c κs. tt) returns-2)

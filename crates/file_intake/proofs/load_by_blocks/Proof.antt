@@ -20,6 +20,4 @@ returns-2 c =
     ends _ (said-yes (yes .before .length-right .ensures) (yes .if1 .left)) _ _ (at-finish .before .hand-over-all .ensures) (at-finish .finish .ensures .0)
 
 pub load-by-blocks-spec : {M : Type 1} → statement M
-load-by-blocks-spec =
-    tie.close
-    (tie.spec (λ c κs. tt) returns hand-over-all-requires (λ c κs. tt) returns-2)
+load-by-blocks-spec = tie.close (tie.spec (λ c κs. tt) returns hand-over-all-requires (λ c κs. tt) returns-2)

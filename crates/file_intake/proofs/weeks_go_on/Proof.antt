@@ -83,19 +83,5 @@ returns-3 c =
 
 pub weeks-go-on-spec : {M : Type 1} → statement M
 weeks-go-on-spec =
-    tie.close
-    (tie.spec
-    Inv-loop
-    μ-loop
-    byte-at-requires
-    returns
-    field-at-requires
-    days-in-requires
-    loop-holds
-    day-trades-requires
-    idle-next-requires
-    returns-2
-    add-n
-    loop-less
-    loop-again
-    returns-3)
+    tie.close (tie.spec Inv-loop μ-loop byte-at-requires returns field-at-requires days-in-requires loop-holds day-trades-requires idle-next-requires returns-2
+    add-n loop-less loop-again returns-3)

@@ -28,9 +28,6 @@ add-records c =
     let before-11 = c .before .before .before .before .before .before .before .before .before .before .before in
     omega (arith, c .before .records-in .ensures .1, before-11 .pre .0, before-11 .pre .3)
 
-add-t10 : tie.Need-add-t10
-add-t10 c = search needs
-
 returns : tie.Need-returns
 unfolding withBlock
 returns c =
@@ -54,17 +51,5 @@ returns c =
 
 pub with-block-spec : {M : Type 1} → statement M
 with-block-spec =
-    tie.close
-    (tie.spec
-    block-refusal-requires
-    (λ c κs. tt)
-    (λ c κs. tt)
-    (λ c κs. tt)
-    (λ c κs. tt)
-    add-years
-    idle-after-requires
-    records-in-requires
-    add-records
-    (λ c κs. tt)
-    add-t10
-    returns)
+    tie.close (tie.spec block-refusal-requires (λ c κs. tt) (λ c κs. tt) (λ c κs. tt) (λ c κs. tt) add-years idle-after-requires records-in-requires add-records
+    (λ c κs. tt) (λ c. search needs) returns)

@@ -11,17 +11,11 @@ returns : tie.Need-returns
 unfolding beginsBy
 returns c = simp (le-ltb _ _ (c .if1 .taken))
 
-mul-is-record : tie.Need-mul-is-record
-mul-is-record c = omega arith
-
 returns-2 : tie.Need-returns-2
 unfolding beginsBy
 returns-2 c =
     let at-is-record = c .before in
     simp (lt-ltb _ _ (at-is-record .before .if1 .left), said-no (at-is-record .is-record .ensures) (c .if2 .taken))
-
-mul-id-at : tie.Need-mul-id-at
-mul-id-at c = omega arith
 
 returns-3 : tie.Need-returns-3
 unfolding beginsBy
@@ -36,14 +30,4 @@ returns-3 c =
     )
 
 pub begins-by-spec : {M : Type 1} → statement M
-begins-by-spec =
-    tie.close
-    (tie.spec
-    returns
-    mul-is-record
-    (λ c κs. tt)
-    returns-2
-    mul-id-at
-    (λ c κs. tt)
-    (λ c κs. tt)
-    returns-3)
+begins-by-spec = tie.close (tie.spec returns (λ c. omega arith) (λ c κs. tt) returns-2 (λ c. omega arith) (λ c κs. tt) (λ c κs. tt) returns-3)

@@ -38,6 +38,4 @@ returns : tie.Need-returns Inv-loop μ-loop
 returns c = let inv = c .before .loop .inv in (sym (halved-end _ _ _ _ (omega arith)) ∙ inv .0, inv .1)
 
 pub block-by-halves-spec : {M : Type 1} → statement M
-block-by-halves-spec =
-    tie.close
-    (tie.spec Inv-loop μ-loop loop-holds step-requires sub-steps loop-less loop-again returns)
+block-by-halves-spec = tie.close (tie.spec Inv-loop μ-loop loop-holds step-requires sub-steps loop-less loop-again returns)

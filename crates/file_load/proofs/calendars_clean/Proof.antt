@@ -8,9 +8,6 @@ use Rattle.file_load.proofs.LoadAnswers.{tails-are}
 use Rattle.file_load.proofs.calendars_clean.Statement.{statement}
 use Rattle.file_load.proofs.calendars_clean.Tie as tie
 
-cast-tails-zero : tie.Need-cast-tails-zero
-cast-tails-zero c = search needs
-
 returns : tie.Need-returns
 returns c =
     let start = c .before .before .before .before in
@@ -22,10 +19,4 @@ returns c =
     ) (clean-test _ o)
 
 pub calendars-clean-spec : {M : Type 1} → statement M
-calendars-clean-spec =
-    tie.close
-    (tie.spec
-    (λ c κs. tt)
-    cast-tails-zero
-    (λ c κs. tt)
-    returns)
+calendars-clean-spec = tie.close (tie.spec (λ c κs. tt) (λ c. search needs) (λ c κs. tt) returns)

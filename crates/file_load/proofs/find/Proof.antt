@@ -5,11 +5,8 @@ use Rattle.file_load.proofs.LoadAnswers.{find-whole}
 use Rattle.file_load.proofs.find.Statement.{statement}
 use Rattle.file_load.proofs.find.Tie as tie
 
-find-from-requires : tie.Need-find-from-requires
-find-from-requires c κs = omega arith
-
 returns : tie.Need-returns
 returns c = c .find-from .ensures ∙ find-whole _ _
 
 pub find-spec : {M : Type 1} → statement M
-find-spec = tie.close (tie.spec find-from-requires returns)
+find-spec = tie.close (tie.spec (λ c κs. omega arith) returns)

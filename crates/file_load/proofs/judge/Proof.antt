@@ -121,30 +121,6 @@ returns-9 c =
 
 pub judge-spec : {M : Type 1} → statement M
 judge-spec =
-    tie.close
-    (tie.spec
-    (λ c κs. tt)
-    (λ c κs. tt)
-    returns
-    (λ c κs. tt)
-    (λ c κs. tt)
-    returns-2
-    (λ c κs. tt)
-    (λ c κs. tt)
-    returns-3
-    (λ c κs. tt)
-    (λ c κs. tt)
-    returns-4
-    calendars-clean-requires
-    (λ c κs. tt)
-    returns-5
-    (λ c κs. tt)
-    (λ c κs. tt)
-    returns-6
-    (λ c κs. tt)
-    (λ c κs. tt)
-    returns-7
-    (λ c κs. tt)
-    (λ c κs. tt)
-    returns-8
-    returns-9)
+    tie.close (tie.spec (λ c κs. tt) (λ c κs. tt) returns (λ c κs. tt) (λ c κs. tt) returns-2 (λ c κs. tt) (λ c κs. tt) returns-3 (λ c κs. tt) (λ c κs. tt)
+    returns-4 calendars-clean-requires (λ c κs. tt) returns-5 (λ c κs. tt) (λ c κs. tt) returns-6 (λ c κs. tt) (λ c κs. tt) returns-7 (λ c κs. tt)
+    (λ c κs. tt) returns-8 returns-9)

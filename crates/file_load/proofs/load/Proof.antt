@@ -26,11 +26,4 @@ returns-2 c =
     (sym (load-accepted _ (accepted d)))
 
 pub load-spec : {M : Type 1} → statement M
-load-spec =
-    tie.close
-    (tie.spec
-    (λ c κs. tt)
-    returns
-    (λ c κs. tt)
-    cast-t7
-    returns-2)
+load-spec = tie.close (tie.spec (λ c κs. tt) returns (λ c κs. tt) cast-t7 returns-2)

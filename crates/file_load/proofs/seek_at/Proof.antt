@@ -51,18 +51,4 @@ returns-2 : tie.Need-returns-2 Inv-loop μ-loop
 returns-2 c = place-past (now (c .before .before .before .args .file)) _ (sym (c .before .loop .inv) ∙ seek-none _ _ _ (omega arith))
 
 pub seek-at-spec : {M : Type 1} → statement M
-seek-at-spec =
-    tie.close
-    (tie.spec
-    Inv-loop
-    μ-loop
-    mul-places
-    mul-p
-    add-p
-    loop-holds
-    has-id-requires
-    returns
-    add-p-2
-    loop-less
-    loop-again
-    returns-2)
+seek-at-spec = tie.close (tie.spec Inv-loop μ-loop mul-places mul-p add-p loop-holds has-id-requires returns add-p-2 loop-less loop-again returns-2)

@@ -7,9 +7,6 @@ use Rattle.file_load.proofs.Halving.{begins-inside}
 use Rattle.file_load.proofs.step.Statement.{statement}
 use Rattle.file_load.proofs.step.Tie as tie
 
-add-next : tie.Need-add-next
-add-next c = omega arith
-
 returns : tie.Need-returns
 unfolding stepped
 returns c =
@@ -23,4 +20,4 @@ returns-2 c =
     (rw e, omega arith)
 
 pub step-spec : {M : Type 1} → statement M
-step-spec = tie.close (tie.spec add-next (λ c κs. tt) returns returns-2)
+step-spec = tie.close (tie.spec (λ c. omega arith) (λ c κs. tt) returns returns-2)

@@ -28,12 +28,4 @@ returns-3 c =
     )
 
 pub block-records-right-spec : {M : Type 1} → statement M
-block-records-right-spec =
-    tie.close
-    (tie.spec
-    returns
-    (λ c κs. tt)
-    returns-2
-    record-places-right-requires
-    (λ c κs. tt)
-    returns-3)
+block-records-right-spec = tie.close (tie.spec returns (λ c κs. tt) returns-2 record-places-right-requires (λ c κs. tt) returns-3)

@@ -45,15 +45,4 @@ returns-2 c =
     sym (rw e at (c .before .loop .inv .1))
 
 pub products-right-spec : {M : Type 1} → statement M
-products-right-spec =
-    tie.close
-    (tie.spec
-    Inv-loop
-    μ-loop
-    loop-holds
-    block-right-requires
-    returns
-    add-k
-    loop-less
-    loop-again
-    returns-2)
+products-right-spec = tie.close (tie.spec Inv-loop μ-loop loop-holds block-right-requires returns add-k loop-less loop-again returns-2)

@@ -11,15 +11,6 @@ use borrow.Author.Needs.{needs}
 use Rattle.file_records.proofs.record_at.Statement.{statement}
 use Rattle.file_records.proofs.record_at.Tie as tie
 
-sub-result : tie.Need-sub-result
-sub-result c = search needs
-
-part-result-start : tie.Need-part-result-start
-part-result-start c = search needs
-
-part-result-end : tie.Need-part-result-end
-part-result-end c = search needs
-
 returns : tie.Need-returns
 returns c = sym (ap (λ (b : List ℕ). recordOf b (c .before .before .before .args .k)) (block-out _ _ (c .before .if1 .taken)) ∙ record-none _)
 
@@ -30,13 +21,4 @@ returns-2 : tie.Need-returns-2
 returns-2 c = rw (c .block-record .ensures, c .before .block-at .ensures .0)
 
 pub record-at-spec : {M : Type 1} → statement M
-record-at-spec =
-    tie.close
-    (tie.spec
-    sub-result
-    part-result-start
-    part-result-end
-    returns
-    (λ c κs. tt)
-    block-record-requires
-    returns-2)
+record-at-spec = tie.close (tie.spec (λ c. search needs) (λ c. search needs) (λ c. search needs) returns (λ c κs. tt) block-record-requires returns-2)

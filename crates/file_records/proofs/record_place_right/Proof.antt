@@ -25,12 +25,4 @@ returns-2 c =
     simp (← count, le-ltb _ _ (c .before .if1 .left)) (c .are-zero .ensures ∙ ap (λ (b : List ℕ). zeros b 0 32) (c .before .before .block-record .ensures))
 
 pub record-place-right-spec : {M : Type 1} → statement M
-record-place-right-spec =
-    tie.close
-    (tie.spec
-    (λ c κs. tt)
-    block-record-requires
-    (λ c κs. tt)
-    returns
-    (λ c κs. tt)
-    returns-2)
+record-place-right-spec = tie.close (tie.spec (λ c κs. tt) block-record-requires (λ c κs. tt) returns (λ c κs. tt) returns-2)

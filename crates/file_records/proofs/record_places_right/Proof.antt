@@ -41,15 +41,4 @@ returns-2 c =
     sym (rw e at (c .before .loop .inv .1))
 
 pub record-places-right-spec : {M : Type 1} → statement M
-record-places-right-spec =
-    tie.close
-    (tie.spec
-    Inv-loop
-    μ-loop
-    loop-holds
-    record-place-right-requires
-    returns
-    add-k
-    loop-less
-    loop-again
-    returns-2)
+record-places-right-spec = tie.close (tie.spec Inv-loop μ-loop loop-holds record-place-right-requires returns add-k loop-less loop-again returns-2)

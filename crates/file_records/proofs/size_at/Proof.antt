@@ -5,30 +5,9 @@ use Rattle.file_records.specs.Records.{sizeAt}
 use Rattle.file_records.proofs.size_at.Statement.{statement}
 use Rattle.file_records.proofs.size_at.Tie as tie
 
-cast-result : tie.Need-cast-result
-cast-result c = search needs
-
-mul-result : tie.Need-mul-result
-mul-result c = search needs
-
-cast-result-2 : tie.Need-cast-result-2
-cast-result-2 c = search needs
-
-add-result : tie.Need-add-result
-add-result c = search needs
-
 returns : tie.Need-returns
 unfolding sizeAt
 returns c = simp (c .field-at2 .ensures, c .before .field-at .ensures)
 
 pub size-at-spec : {M : Type 1} → statement M
-size-at-spec =
-    tie.close
-    (tie.spec
-    (λ c κs. tt)
-    (λ c κs. tt)
-    cast-result
-    mul-result
-    cast-result-2
-    add-result
-    returns)
+size-at-spec = tie.close (tie.spec (λ c κs. tt) (λ c κs. tt) (λ c. search needs) (λ c. search needs) (λ c. search needs) (λ c. search needs) returns)

@@ -4,23 +4,9 @@ use borrow.Author.Needs.{needs}
 use Rattle.file_records.proofs.three_at.Statement.{statement}
 use Rattle.file_records.proofs.three_at.Tie as tie
 
-add-byte-at : tie.Need-add-byte-at
-add-byte-at c = search needs
-
-add-byte-at-2 : tie.Need-add-byte-at-2
-add-byte-at-2 c = search needs
-
 returns : tie.Need-returns
 unfolding threeBytes
 returns c = simp (c .byte-at3 .ensures, c .before .byte-at2 .ensures, c .before .before .byte-at .ensures)
 
 pub three-at-spec : {M : Type 1} → statement M
-three-at-spec =
-    tie.close
-    (tie.spec
-    (λ c κs. tt)
-    add-byte-at
-    (λ c κs. tt)
-    add-byte-at-2
-    (λ c κs. tt)
-    returns)
+three-at-spec = tie.close (tie.spec (λ c κs. tt) (λ c. search needs) (λ c κs. tt) (λ c. search needs) (λ c κs. tt) returns)

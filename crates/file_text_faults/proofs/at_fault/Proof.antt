@@ -24,13 +24,4 @@ returns-4 c =
     (c .names-earlier .ensures)
 
 pub at-fault-spec : {M : Type 1} → statement M
-at-fault-spec =
-    tie.close
-    (tie.spec
-    (λ c κs. tt)
-    returns
-    (λ c κs. tt)
-    returns-2
-    returns-3
-    (λ c κs. tt)
-    returns-4)
+at-fault-spec = tie.close (tie.spec (λ c κs. tt) returns (λ c κs. tt) returns-2 returns-3 (λ c κs. tt) returns-4)

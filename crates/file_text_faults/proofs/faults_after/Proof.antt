@@ -10,11 +10,4 @@ returns c =
     rw (c .id-after .ensures, c .before .fault-after3 .ensures, c .before .before .fault-after2 .ensures, c .before .before .before .fault-after .ensures) refl
 
 pub faults-after-spec : {M : Type 1} → statement M
-faults-after-spec =
-    tie.close
-    (tie.spec
-    (λ c κs. tt)
-    (λ c κs. tt)
-    (λ c κs. tt)
-    (λ c κs. tt)
-    returns)
+faults-after-spec = tie.close (tie.spec (λ c κs. tt) (λ c κs. tt) (λ c κs. tt) (λ c κs. tt) returns)

@@ -54,17 +54,5 @@ returns-3 c = sym (search-none _ _ _ _ (c .loop-test .left)) ∙ c .before .loop
 
 pub first-idle-in-spec : {M : Type 1} → statement M
 first-idle-in-spec =
-    tie.close
-    (tie.spec
-    Inv-loop
-    μ-loop
-    cover-end-requires
-    returns
-    cover-start-requires
-    loop-holds
-    some-trades-requires
-    returns-2
-    add-day
-    loop-less
-    loop-again
+    tie.close (tie.spec Inv-loop μ-loop cover-end-requires returns cover-start-requires loop-holds some-trades-requires returns-2 add-day loop-less loop-again
     returns-3)

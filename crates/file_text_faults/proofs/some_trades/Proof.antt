@@ -40,16 +40,4 @@ returns-2 : tie.Need-returns-2 Inv-loop μ-loop
 returns-2 c = none-all _ _ (c .before .loop .inv .0) (c .loop-test .left) (c .before .loop .inv .1)
 
 pub some-trades-spec : {M : Type 1} → statement M
-some-trades-spec =
-    tie.close
-    (tie.spec
-    Inv-loop
-    μ-loop
-    loop-holds
-    add-is-trading-day-in
-    is-trading-day-in-requires
-    returns
-    add-i
-    loop-less
-    loop-again
-    returns-2)
+some-trades-spec = tie.close (tie.spec Inv-loop μ-loop loop-holds add-is-trading-day-in is-trading-day-in-requires returns add-i loop-less loop-again returns-2)

@@ -6,9 +6,6 @@ use Rattle.file_text_lines.proofs.LineWords.{same-default}
 use Rattle.file_text_lines.proofs.byte_or_space.Statement.{statement}
 use Rattle.file_text_lines.proofs.byte_or_space.Tie as tie
 
-shared-slice-read-result : tie.Need-shared-slice-read-result
-shared-slice-read-result c = omega arith
-
 returns : tie.Need-returns
 returns c = same-default (c .before .before .args .id .now) _ 0 32 (c .before .if1 .taken)
 
@@ -16,9 +13,4 @@ returns-2 : tie.Need-returns-2
 returns-2 c = sym (List·getD-eq-default (c .before .args .id .now) 32 (c .if1 .left))
 
 pub byte-or-space-spec : {M : Type 1} → statement M
-byte-or-space-spec =
-    tie.close
-    (tie.spec
-    shared-slice-read-result
-    returns
-    returns-2)
+byte-or-space-spec = tie.close (tie.spec (λ c. omega arith) returns returns-2)

@@ -27,11 +27,4 @@ returns c =
     rw (at-years .number-in2 .ensures, at-years .before .number-in .ensures) refl
 
 pub cover-at-spec : {M : Type 1} → statement M
-cover-at-spec =
-    tie.close
-    (tie.spec
-    (λ c κs. tt)
-    (λ c κs. tt)
-    cast-t7
-    cast-t8
-    returns)
+cover-at-spec = tie.close (tie.spec (λ c κs. tt) (λ c κs. tt) cast-t7 cast-t8 returns)

@@ -26,13 +26,4 @@ returns-3 c =
     cover-is _ form _ (at-cover .cover-at .ensures) (not-false _ (at-if2 .if2 .left))
 
 pub cover-entry-spec : {M : Type 1} → statement M
-cover-entry-spec =
-    tie.close
-    (tie.spec
-    (λ c κs. tt)
-    (λ c κs. tt)
-    returns
-    (λ c κs. tt)
-    (λ c κs. tt)
-    returns-2
-    returns-3)
+cover-entry-spec = tie.close (tie.spec (λ c κs. tt) (λ c κs. tt) returns (λ c κs. tt) (λ c κs. tt) returns-2 returns-3)

@@ -7,14 +7,8 @@ use native.Mathlib.Omega.{arith}
 use Rattle.file_text_lines.proofs.day_entry.Statement.{statement}
 use Rattle.file_text_lines.proofs.day_entry.Tie as tie
 
-array-read-letter : tie.Need-array-read-letter
-array-read-letter c = omega arith
-
 returns : tie.Need-returns
 returns c = c .other-entry .ensures ∙ day-length _ _ (c .before .if1 .taken)
-
-array-read-if2 : tie.Need-array-read-if2
-array-read-if2 c = omega arith
 
 returns-2 : tie.Need-returns-2
 returns-2 c = c .other-entry2 .ensures ∙ day-formless _ _ (c .before .before .if1 .left) (not-true _ (c .before .if2 .taken))
@@ -36,15 +30,4 @@ returns-4 c =
 
 pub day-entry-spec : {M : Type 1} → statement M
 day-entry-spec =
-    tie.close
-    (tie.spec
-    array-read-letter
-    (λ c κs. tt)
-    returns
-    array-read-if2
-    (λ c κs. tt)
-    returns-2
-    (λ c κs. tt)
-    (λ c κs. tt)
-    returns-3
-    returns-4)
+    tie.close (tie.spec (λ c. omega arith) (λ c κs. tt) returns (λ c. omega arith) (λ c κs. tt) returns-2 (λ c κs. tt) (λ c κs. tt) returns-3 returns-4)

@@ -9,9 +9,6 @@ use Rattle.file_text_lines.proofs.EntryForms.{entry-long, begins-y, beg
 use Rattle.file_text_lines.proofs.entry_of.Statement.{statement}
 use Rattle.file_text_lines.proofs.entry_of.Tie as tie
 
-array-read-letter : tie.Need-array-read-letter
-array-read-letter c = omega arith
-
 -- ---- a line that is too long
 returns : tie.Need-returns
 returns c = c .other-entry .ensures ∙ entry-long _ (c .before .if1 .taken)
@@ -75,22 +72,6 @@ returns-5 c =
 
 pub entry-of-spec : {M : Type 1} → statement M
 entry-of-spec =
-    tie.close
-    (tie.spec
-    array-read-letter
-    (λ c κs. tt)
-    returns
-    array-share-prefix-bytes
-    slice-aggregate-cover-entry
-    (λ c κs. tt)
-    returns-2
-    array-share-prefix-bytes-2
-    slice-aggregate-seed-entry
-    (λ c κs. tt)
-    returns-3
-    array-share-prefix-bytes-3
-    slice-aggregate-product-entry
-    (λ c κs. tt)
-    returns-4
-    (λ c κs. tt)
-    returns-5)
+    tie.close (tie.spec (λ c. omega arith) (λ c κs. tt) returns array-share-prefix-bytes slice-aggregate-cover-entry (λ c κs. tt) returns-2
+    array-share-prefix-bytes-2 slice-aggregate-seed-entry (λ c κs. tt) returns-3 array-share-prefix-bytes-3 slice-aggregate-product-entry (λ c κs. tt)
+    returns-4 (λ c κs. tt) returns-5)

@@ -13,11 +13,4 @@ returns c = rw (
 )
 
 pub id-bytes-spec : {M : Type 1} → statement M
-id-bytes-spec =
-    tie.close
-    (tie.spec
-    (λ c κs. tt)
-    (λ c κs. tt)
-    (λ c κs. tt)
-    (λ c κs. tt)
-    returns)
+id-bytes-spec = tie.close (tie.spec (λ c κs. tt) (λ c κs. tt) (λ c κs. tt) (λ c κs. tt) returns)

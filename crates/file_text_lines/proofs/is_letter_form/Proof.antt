@@ -8,9 +8,4 @@ unfolding letterForm
 returns c = rw (c .word-length .ensures, c .before .word-count .ensures)
 
 pub is-letter-form-spec : {M : Type 1} → statement M
-is-letter-form-spec =
-    tie.close
-    (tie.spec
-    (λ c κs. tt)
-    (λ c κs. tt)
-    returns)
+is-letter-form-spec = tie.close (tie.spec (λ c κs. tt) (λ c κs. tt) returns)

@@ -7,11 +7,8 @@ use Rattle.file_text_lines.proofs.is_pointed.Tie as tie
 returns : tie.Need-returns
 returns c = short-word _ (c .if1 .taken)
 
-shared-slice-read-result : tie.Need-shared-slice-read-result
-shared-slice-read-result c = search needs
-
 returns-2 : tie.Need-returns-2
 returns-2 c = long-word _ (c .before .if1 .left)
 
 pub is-pointed-spec : {M : Type 1} → statement M
-is-pointed-spec = tie.close (tie.spec returns shared-slice-read-result returns-2)
+is-pointed-spec = tie.close (tie.spec returns (λ c. search needs) returns-2)

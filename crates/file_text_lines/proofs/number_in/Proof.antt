@@ -10,9 +10,4 @@ returns : tie.Need-returns
 returns c = c .word-number .ensures ∙ ap (λ (word : List ℕ). wordNumber word (c .before .before .before .args .most)) (c .before .word-at .ensures)
 
 pub number-in-spec : {M : Type 1} → statement M
-number-in-spec =
-    tie.close
-    (tie.spec
-    (λ c κs. tt)
-    (λ c κs. tt)
-    returns)
+number-in-spec = tie.close (tie.spec (λ c κs. tt) (λ c κs. tt) returns)

@@ -9,15 +9,6 @@ use Rattle.file_text_lines.proofs.part_read.Tie as tie
 sub-start : tie.Need-sub-start
 sub-start c = pointed-more _ (sym (c .before .is-pointed .ensures) ∙ c .if1 .taken)
 
-sub-word-number : tie.Need-sub-word-number
-sub-word-number c = search needs
-
-part-word-number-start : tie.Need-part-word-number-start
-part-word-number-start c = search needs
-
-part-word-number-end : tie.Need-part-word-number-end
-part-word-number-end c = search needs
-
 returns : tie.Need-returns
 returns c = c .word-number .ensures ∙ part-pointed _ (sym (c .before .before .before .is-pointed .ensures) ∙ c .before .before .if1 .taken)
 
@@ -25,14 +16,4 @@ returns-2 : tie.Need-returns-2
 returns-2 c = part-whole _ (sym (c .before .is-pointed .ensures) ∙ c .if1 .left)
 
 pub part-read-spec : {M : Type 1} → statement M
-part-read-spec =
-    tie.close
-    (tie.spec
-    (λ c κs. tt)
-    sub-start
-    sub-word-number
-    part-word-number-start
-    part-word-number-end
-    (λ c κs. tt)
-    returns
-    returns-2)
+part-read-spec = tie.close (tie.spec (λ c κs. tt) sub-start (λ c. search needs) (λ c. search needs) (λ c. search needs) (λ c κs. tt) returns returns-2)

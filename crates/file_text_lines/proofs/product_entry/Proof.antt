@@ -103,26 +103,5 @@ returns-6 c =
 
 pub product-entry-spec : {M : Type 1} → statement M
 product-entry-spec =
-    tie.close
-    (tie.spec
-    (λ c κs. tt)
-    (λ c κs. tt)
-    returns
-    (λ c κs. tt)
-    (λ c κs. tt)
-    returns-2
-    (λ c κs. tt)
-    (λ c κs. tt)
-    returns-3
-    (λ c κs. tt)
-    (λ c κs. tt)
-    returns-4
-    (λ c κs. tt)
-    (λ c κs. tt)
-    returns-5
-    cast-line-record
-    cast-line-record-2
-    cast-line-record-3
-    cast-line-record-4
-    (λ c κs. tt)
-    returns-6)
+    tie.close (tie.spec (λ c κs. tt) (λ c κs. tt) returns (λ c κs. tt) (λ c κs. tt) returns-2 (λ c κs. tt) (λ c κs. tt) returns-3 (λ c κs. tt) (λ c κs. tt)
+    returns-4 (λ c κs. tt) (λ c κs. tt) returns-5 cast-line-record cast-line-record-2 cast-line-record-3 cast-line-record-4 (λ c κs. tt) returns-6)

@@ -38,16 +38,4 @@ returns-4 c =
     seed-is _ form _ (at-seed .number-in .ensures) (not-false _ (at-if2 .if2 .left)) _ (at-cover .cover-at .ensures) (not-false _ (at-if3 .if3 .left))
 
 pub seed-entry-spec : {M : Type 1} → statement M
-seed-entry-spec =
-    tie.close
-    (tie.spec
-    (λ c κs. tt)
-    (λ c κs. tt)
-    returns
-    (λ c κs. tt)
-    (λ c κs. tt)
-    returns-2
-    (λ c κs. tt)
-    (λ c κs. tt)
-    returns-3
-    returns-4)
+seed-entry-spec = tie.close (tie.spec (λ c κs. tt) (λ c κs. tt) returns (λ c κs. tt) (λ c κs. tt) returns-2 (λ c κs. tt) (λ c κs. tt) returns-3 returns-4)

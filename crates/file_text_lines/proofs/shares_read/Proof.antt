@@ -20,13 +20,4 @@ returns-2 : tie.Need-returns-2
 returns-2 c = c .word-number2 .ensures ∙ shares-whole _ (sym (c .before .before .is-pointed .ensures) ∙ c .before .if1 .left)
 
 pub shares-read-spec : {M : Type 1} → statement M
-shares-read-spec =
-    tie.close
-    (tie.spec
-    (λ c κs. tt)
-    sub-end
-    slice-aggregate-word-number
-    (λ c κs. tt)
-    returns
-    (λ c κs. tt)
-    returns-2)
+shares-read-spec = tie.close (tie.spec (λ c κs. tt) sub-end slice-aggregate-word-number (λ c κs. tt) returns (λ c κs. tt) returns-2)

@@ -78,22 +78,5 @@ returns-2 c =
 
 pub word-at-spec : {M : Type 1} → statement M
 word-at-spec =
-    tie.close
-    (tie.spec
-    Inv-loop
-    μ-loop
-    loop-holds
-    (λ c κs. tt)
-    sub-result
-    part-result-start
-    part-result-end
-    returns
-    add-from
-    add-i
-    loop-less
-    loop-again
-    (λ c κs. tt)
-    sub-result-2
-    part-result-start-2
-    part-result-end-2
-    returns-2)
+    tie.close (tie.spec Inv-loop μ-loop loop-holds (λ c κs. tt) sub-result part-result-start part-result-end returns add-from add-i loop-less loop-again
+    (λ c κs. tt) sub-result-2 part-result-start-2 part-result-end-2 returns-2)

@@ -57,16 +57,4 @@ returns c =
     omega (arith, v .2, none-left line (c .before .loop .from) (c .loop-test .left))
 
 pub word-count-spec : {M : Type 1} → statement M
-word-count-spec =
-    tie.close
-    (tie.spec
-    Inv-loop
-    μ-loop
-    (λ c κs. tt)
-    loop-holds
-    add-count
-    add-byte-from
-    (λ c κs. tt)
-    loop-less
-    loop-again
-    returns)
+word-count-spec = tie.close (tie.spec Inv-loop μ-loop (λ c κs. tt) loop-holds add-count add-byte-from (λ c κs. tt) loop-less loop-again returns)

@@ -8,8 +8,4 @@ returns : tie.Need-returns
 returns c = ap length (c .word-at .ensures)
 
 pub word-length-spec : {M : Type 1} → statement M
-word-length-spec =
-    tie.close
-    (tie.spec
-    (λ c κs. tt)
-    returns)
+word-length-spec = tie.close (tie.spec (λ c κs. tt) returns)

@@ -92,23 +92,5 @@ returns-4 c =
 
 pub word-number-spec : {M : Type 1} → statement M
 word-number-spec =
-    tie.close
-    (tie.spec
-    Inv-loop
-    μ-loop
-    returns
-    loop-holds
-    shared-slice-read-is-digit
-    is-digit-requires
-    returns-2
-    mul-next
-    shared-slice-read-digit-value
-    digit-value-requires
-    cast-next
-    add-next
-    returns-3
-    add-i
-    loop-less
-    loop-again
-    cast-t18
-    returns-4)
+    tie.close (tie.spec Inv-loop μ-loop returns loop-holds shared-slice-read-is-digit is-digit-requires returns-2 mul-next shared-slice-read-digit-value
+    digit-value-requires cast-next add-next returns-3 add-i loop-less loop-again cast-t18 returns-4)

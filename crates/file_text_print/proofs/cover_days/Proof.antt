@@ -17,9 +17,6 @@ returns c =
     let e : coverEnd cover - coverStart cover ≡ 0 = omega (arith, a .0, b .0) in
     (sym e, omega (arith, a .0, a .1))
 
-cast-result : tie.Need-cast-result
-cast-result c = omega arith
-
 returns-2 : tie.Need-returns-2
 unfolding coverDays
 returns-2 c =
@@ -28,11 +25,4 @@ returns-2 c =
     (rw (a .0, b .0), omega (arith, a .0, b .0, b .1))
 
 pub cover-days-spec : {M : Type 1} → statement M
-cover-days-spec =
-    tie.close
-    (tie.spec
-    (λ c κs. tt)
-    (λ c κs. tt)
-    returns
-    cast-result
-    returns-2)
+cover-days-spec = tie.close (tie.spec (λ c κs. tt) (λ c κs. tt) returns (λ c. omega arith) returns-2)

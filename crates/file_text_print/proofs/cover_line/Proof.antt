@@ -13,12 +13,4 @@ returns c =
     (then (c .before .before .with-spaced .ensures) (then (c .before .with-spaced2 .ensures) (one _ _ _ (c .extend2 .ensures)))))
 
 pub cover-line-spec : {M : Type 1} → statement M
-cover-line-spec =
-    tie.close
-    (tie.spec
-    (λ c κs. tt)
-    (λ c κs. tt)
-    (λ c κs. tt)
-    (λ c κs. tt)
-    (λ c κs. tt)
-    returns)
+cover-line-spec = tie.close (tie.spec (λ c κs. tt) (λ c κs. tt) (λ c κs. tt) (λ c κs. tt) (λ c κs. tt) returns)

@@ -10,9 +10,6 @@ use Rattle.file_text_print.proofs.line_at.Tie as tie
 returns : tie.Need-returns
 returns c = line-cover _ _ _ _ (c .before .if1 .taken) (c .cover-line .ensures)
 
-sub-day-line : tie.Need-sub-day-line
-sub-day-line c = omega arith
-
 cast-day-line : tie.Need-cast-day-line
 cast-day-line c = omega (arith, c .before .before .cover-days .ensures .1)
 
@@ -25,30 +22,11 @@ returns-2 c =
     line-day _ _ _ _ (at-days .before .if1 .left) _ (at-days .cover-days .ensures .0) (c .before .before .if2 .taken) _
     (ap (λ (start : ℕ). start + (at-days .before .before .before .before .args .n - 1)) (c .before .cover-start .ensures .0)) (c .day-line .ensures)
 
-sub-place-line : tie.Need-sub-place-line
-sub-place-line c = omega arith
-
-sub-place-line-2 : tie.Need-sub-place-line-2
-sub-place-line-2 c = omega arith
-
 returns-3 : tie.Need-returns-3
 returns-3 c = line-place _ _ _ _ (c .before .before .before .if1 .left) _ (c .before .before .cover-days .ensures .0) (c .before .if2 .left)
     (c .place-line .ensures)
 
 pub line-at-spec : {M : Type 1} → statement M
 line-at-spec =
-    tie.close
-    (tie.spec
-    (λ c κs. tt)
-    returns
-    (λ c κs. tt)
-    (λ c κs. tt)
-    sub-day-line
-    cast-day-line
-    add-day-line
-    (λ c κs. tt)
-    returns-2
-    sub-place-line
-    sub-place-line-2
-    (λ c κs. tt)
-    returns-3)
+    tie.close (tie.spec (λ c κs. tt) returns (λ c κs. tt) (λ c κs. tt) (λ c. omega arith) cast-day-line add-day-line (λ c κs. tt) returns-2 (λ c. omega arith)
+    (λ c. omega arith) (λ c κs. tt) returns-3)

@@ -4,25 +4,9 @@ use Rattle.file_text_print.specs.Contents.{lineCount}
 use Rattle.file_text_print.proofs.line_count.Statement.{statement}
 use Rattle.file_text_print.proofs.line_count.Tie as tie
 
-mul-result : tie.Need-mul-result
-mul-result c = search needs
-
-add-result : tie.Need-add-result
-add-result c = search needs
-
-add-result-2 : tie.Need-add-result-2
-add-result-2 c = search needs
-
 returns : tie.Need-returns
 unfolding lineCount
 returns c = rw (c .cover-days .ensures .0)
 
 pub line-count-spec : {M : Type 1} → statement M
-line-count-spec =
-    tie.close
-    (tie.spec
-    (λ c κs. tt)
-    mul-result
-    add-result
-    add-result-2
-    returns)
+line-count-spec = tie.close (tie.spec (λ c κs. tt) (λ c. search needs) (λ c. search needs) (λ c. search needs) returns)

@@ -13,12 +13,4 @@ returns c =
     (then (c .before .with-day .ensures) (one _ _ _ (c .extend3 .ensures))))
 
 pub marked-line-spec : {M : Type 1} → statement M
-marked-line-spec =
-    tie.close
-    (tie.spec
-    (λ c κs. tt)
-    (λ c κs. tt)
-    (λ c κs. tt)
-    (λ c κs. tt)
-    (λ c κs. tt)
-    returns)
+marked-line-spec = tie.close (tie.spec (λ c κs. tt) (λ c κs. tt) (λ c κs. tt) (λ c κs. tt) (λ c κs. tt) returns)

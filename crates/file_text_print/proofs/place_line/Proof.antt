@@ -12,12 +12,4 @@ returns-2 : tie.Need-returns-2
 returns-2 c = place-none _ _ _ (sym (c .before .before .is-record .ensures) ∙ c .before .if1 .left) (nothing _ (c .empty-line .ensures))
 
 pub place-line-spec : {M : Type 1} → statement M
-place-line-spec =
-    tie.close
-    (tie.spec
-    (λ c κs. tt)
-    (λ c κs. tt)
-    (λ c κs. tt)
-    returns
-    (λ c κs. tt)
-    returns-2)
+place-line-spec = tie.close (tie.spec (λ c κs. tt) (λ c κs. tt) (λ c κs. tt) returns (λ c κs. tt) returns-2)

@@ -66,17 +66,5 @@ returns c = ends _ _ _ _ _ _ _ (c .before .before .before .loop .inv) _ (c .befo
 
 pub print-lines-spec : {M : Type 1} → statement M
 print-lines-spec =
-    tie.close
-    (tie.spec
-    Inv-loop
-    μ-loop
-    line-count-requires
-    loop-holds
-    goes-on-requires
-    line-at-requires
-    append-requires
-    add-next
-    loop-less
-    loop-again
-    same-length
-    returns)
+    tie.close (tie.spec Inv-loop μ-loop line-count-requires loop-holds goes-on-requires line-at-requires append-requires add-next loop-less loop-again
+    same-length returns)

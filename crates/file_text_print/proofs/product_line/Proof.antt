@@ -10,10 +10,6 @@ use Rattle.file_text_print.specs.Contents.{idText, partText, productText
 use Rattle.file_text_print.proofs.product_line.Statement.{statement}
 use Rattle.file_text_print.proofs.product_line.Tie as tie
 
--- ---- the kind's byte as a number
-cast-with-spaced : tie.Need-cast-with-spaced
-cast-with-spaced c = search needs
-
 -- ---- the texts of the line, one after the other
 returns : tie.Need-returns
 unfolding productText fourBytes threeBytes
@@ -46,30 +42,6 @@ returns c =
 
 pub product-line-spec : {M : Type 1} → statement M
 product-line-spec =
-    tie.close
-    (tie.spec
-    (λ c κs. tt)
-    (λ c κs. tt)
-    (λ c κs. tt)
-    (λ c κs. tt)
-    (λ c κs. tt)
-    (λ c κs. tt)
-    (λ c κs. tt)
-    (λ c κs. tt)
-    (λ c κs. tt)
-    (λ c κs. tt)
-    (λ c κs. tt)
-    (λ c κs. tt)
-    cast-with-spaced
-    (λ c κs. tt)
-    (λ c κs. tt)
-    (λ c κs. tt)
-    (λ c κs. tt)
-    (λ c κs. tt)
-    (λ c κs. tt)
-    (λ c κs. tt)
-    (λ c κs. tt)
-    (λ c κs. tt)
-    (λ c κs. tt)
-    (λ c κs. tt)
-    returns)
+    tie.close (tie.spec (λ c κs. tt) (λ c κs. tt) (λ c κs. tt) (λ c κs. tt) (λ c κs. tt) (λ c κs. tt) (λ c κs. tt) (λ c κs. tt) (λ c κs. tt) (λ c κs. tt)
+    (λ c κs. tt) (λ c κs. tt) (λ c. search needs) (λ c κs. tt) (λ c κs. tt) (λ c κs. tt) (λ c κs. tt) (λ c κs. tt) (λ c κs. tt) (λ c κs. tt) (λ c κs. tt)
+    (λ c κs. tt) (λ c κs. tt) (λ c κs. tt) returns)

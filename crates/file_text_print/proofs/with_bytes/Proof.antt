@@ -6,8 +6,4 @@ returns : tie.Need-returns
 returns c = record { is = c .feed .ensures }
 
 pub with-bytes-spec : {M : Type 1} → statement M
-with-bytes-spec =
-    tie.close
-    (tie.spec
-    (λ c κs. tt)
-    returns)
+with-bytes-spec = tie.close (tie.spec (λ c κs. tt) returns)

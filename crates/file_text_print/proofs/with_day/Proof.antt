@@ -15,13 +15,4 @@ returns c =
     (then (one _ _ _ (c .before .extend2 .ensures)) (c .with-two2 .ensures)))
 
 pub with-day-spec : {M : Type 1} → statement M
-with-day-spec =
-    tie.close
-    (tie.spec
-    (λ c κs. tt)
-    (λ c κs. tt)
-    (λ c κs. tt)
-    (λ c κs. tt)
-    (λ c κs. tt)
-    (λ c κs. tt)
-    returns)
+with-day-spec = tie.close (tie.spec (λ c κs. tt) (λ c κs. tt) (λ c κs. tt) (λ c κs. tt) (λ c κs. tt) (λ c κs. tt) returns)

@@ -24,17 +24,5 @@ returns-5 c = rw (decimal-5 _ (c .before .before .before .before .before .if1 .l
 
 pub with-decimal-spec : {M : Type 1} → statement M
 with-decimal-spec =
-    tie.close
-    (tie.spec
-    (λ c κs. tt)
-    returns
-    (λ c κs. tt)
-    returns-2
-    (λ c κs. tt)
-    (λ c κs. tt)
-    returns-3
-    (λ c κs. tt)
-    returns-4
-    (λ c κs. tt)
-    (λ c κs. tt)
+    tie.close (tie.spec (λ c κs. tt) returns (λ c κs. tt) returns-2 (λ c κs. tt) (λ c κs. tt) returns-3 (λ c κs. tt) returns-4 (λ c κs. tt) (λ c κs. tt)
     returns-5)

@@ -4,20 +4,8 @@ use Rattle.file_text_print.proofs.Building.{one}
 use Rattle.file_text_print.proofs.with_digit.Statement.{statement}
 use Rattle.file_text_print.proofs.with_digit.Tie as tie
 
-cast-extend : tie.Need-cast-extend
-cast-extend c = search needs
-
-add-extend : tie.Need-add-extend
-add-extend c = search needs
-
 returns : tie.Need-returns
 returns c = one _ _ _ (c .extend .ensures)
 
 pub with-digit-spec : {M : Type 1} → statement M
-with-digit-spec =
-    tie.close
-    (tie.spec
-    cast-extend
-    add-extend
-    (λ c κs. tt)
-    returns)
+with-digit-spec = tie.close (tie.spec (λ c. search needs) (λ c. search needs) (λ c κs. tt) returns)

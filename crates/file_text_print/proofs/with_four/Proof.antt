@@ -9,9 +9,4 @@ unfolding inFourDigits
 returns c = then (c .before .with-two .ensures) (c .with-two2 .ensures)
 
 pub with-four-spec : {M : Type 1} → statement M
-with-four-spec =
-    tie.close
-    (tie.spec
-    (λ c κs. tt)
-    (λ c κs. tt)
-    returns)
+with-four-spec = tie.close (tie.spec (λ c κs. tt) (λ c κs. tt) returns)

@@ -6,18 +6,6 @@ use Rattle.file_records.specs.Records.{fourBytes}
 use Rattle.file_text_print.proofs.with_four_bytes.Statement.{statement}
 use Rattle.file_text_print.proofs.with_four_bytes.Tie as tie
 
-array-read-extend : tie.Need-array-read-extend
-array-read-extend c = omega arith
-
-array-read-extend-2 : tie.Need-array-read-extend-2
-array-read-extend-2 c = omega arith
-
-array-read-extend-3 : tie.Need-array-read-extend-3
-array-read-extend-3 c = omega arith
-
-array-read-extend-4 : tie.Need-array-read-extend-4
-array-read-extend-4 c = omega arith
-
 returns : tie.Need-returns
 unfolding fed fourBytes
 returns c = record {
@@ -27,14 +15,4 @@ returns c = record {
 
 pub with-four-bytes-spec : {M : Type 1} → statement M
 with-four-bytes-spec =
-    tie.close
-    (tie.spec
-    array-read-extend
-    (λ c κs. tt)
-    array-read-extend-2
-    (λ c κs. tt)
-    array-read-extend-3
-    (λ c κs. tt)
-    array-read-extend-4
-    (λ c κs. tt)
-    returns)
+    tie.close (tie.spec (λ c. omega arith) (λ c κs. tt) (λ c. omega arith) (λ c κs. tt) (λ c. omega arith) (λ c κs. tt) (λ c. omega arith) (λ c κs. tt) returns)

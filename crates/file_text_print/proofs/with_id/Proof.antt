@@ -63,17 +63,4 @@ returns-2 c =
     record { is = id-whole (c .before .loop .whole) (c .before .before .args .t2) (c .before .loop .i) (omega (arith, v .0, v .1)) ∙ v .2 }
 
 pub with-id-spec : {M : Type 1} → statement M
-with-id-spec =
-    tie.close
-    (tie.spec
-    Inv-loop
-    μ-loop
-    loop-holds
-    array-read-if1
-    returns
-    array-read-extend
-    extend-requires
-    add-i
-    loop-less
-    loop-again
-    returns-2)
+with-id-spec = tie.close (tie.spec Inv-loop μ-loop loop-holds array-read-if1 returns array-read-extend extend-requires add-i loop-less loop-again returns-2)

@@ -9,9 +9,4 @@ unfolding spaced
 returns c = then (one _ _ _ (c .before .extend .ensures)) (c .with-decimal .ensures)
 
 pub with-spaced-spec : {M : Type 1} → statement M
-with-spaced-spec =
-    tie.close
-    (tie.spec
-    (λ c κs. tt)
-    (λ c κs. tt)
-    returns)
+with-spaced-spec = tie.close (tie.spec (λ c κs. tt) (λ c κs. tt) returns)

@@ -6,27 +6,9 @@ use Rattle.file_records.specs.Records.{threeBytes}
 use Rattle.file_text_print.proofs.with_three_bytes.Statement.{statement}
 use Rattle.file_text_print.proofs.with_three_bytes.Tie as tie
 
-array-read-extend : tie.Need-array-read-extend
-array-read-extend c = omega arith
-
-array-read-extend-2 : tie.Need-array-read-extend-2
-array-read-extend-2 c = omega arith
-
-array-read-extend-3 : tie.Need-array-read-extend-3
-array-read-extend-3 c = omega arith
-
 returns : tie.Need-returns
 unfolding fed threeBytes
 returns c = record { is = rw (c .extend3 .ensures, c .before .extend2 .ensures, c .before .before .extend .ensures) refl }
 
 pub with-three-bytes-spec : {M : Type 1} → statement M
-with-three-bytes-spec =
-    tie.close
-    (tie.spec
-    array-read-extend
-    (λ c κs. tt)
-    array-read-extend-2
-    (λ c κs. tt)
-    array-read-extend-3
-    (λ c κs. tt)
-    returns)
+with-three-bytes-spec = tie.close (tie.spec (λ c. omega arith) (λ c κs. tt) (λ c. omega arith) (λ c κs. tt) (λ c. omega arith) (λ c κs. tt) returns)

@@ -9,9 +9,4 @@ unfolding inTwoDigits
 returns c = then (c .before .with-digit .ensures) (c .with-digit2 .ensures)
 
 pub with-two-spec : {M : Type 1} → statement M
-with-two-spec =
-    tie.close
-    (tie.spec
-    (λ c κs. tt)
-    (λ c κs. tt)
-    returns)
+with-two-spec = tie.close (tie.spec (λ c κs. tt) (λ c κs. tt) returns)

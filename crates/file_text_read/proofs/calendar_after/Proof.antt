@@ -42,15 +42,4 @@ returns-5 c =
     rw (ne-eqb _ 89 (at-if2 .before .if1 .left), ne-eqb _ 83 (at-if2 .if2 .left), ne-eqb _ 67 (c .before .if3 .left), ne-eqb _ 88 (c .if4 .left)) refl
 
 pub calendar-after-spec : {M : Type 1} → statement M
-calendar-after-spec =
-    tie.close
-    (tie.spec
-    (λ c κs. tt)
-    returns
-    (λ c κs. tt)
-    returns-2
-    (λ c κs. tt)
-    returns-3
-    (λ c κs. tt)
-    returns-4
-    returns-5)
+calendar-after-spec = tie.close (tie.spec (λ c κs. tt) returns (λ c κs. tt) returns-2 (λ c κs. tt) returns-3 (λ c κs. tt) returns-4 returns-5)

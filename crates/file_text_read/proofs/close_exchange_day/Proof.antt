@@ -10,9 +10,4 @@ unfolding closeExchangeDay closeDay
 returns c = rw (c .before .close-day2 .ensures, c .before .before .before .before .close-day .ensures) refl
 
 pub close-exchange-day-spec : {M : Type 1} → statement M
-close-exchange-day-spec =
-    tie.close
-    (tie.spec
-    (λ c κs. tt)
-    (λ c κs. tt)
-    returns)
+close-exchange-day-spec = tie.close (tie.spec (λ c κs. tt) (λ c κs. tt) returns)

@@ -16,9 +16,6 @@ returns c =
 slice-aggregate-write : tie.Need-slice-aggregate-write
 slice-aggregate-write c = sym (length-take-le _ _ (c .before .before .records-size .ensures .0))
 
-same-length : tie.Need-same-length
-same-length c = search needs
-
 returns-2 : tie.Need-returns-2
 returns-2 c =
     let at-fault = c .before in
@@ -30,15 +27,4 @@ returns-2 c =
     (at-size .records-size .ensures .1) _ _ (w .0) (w .1) _ (at-fault .fault-for .ensures) _ (c .idle-day .ensures)
 
 pub compose-spec : {M : Type 1} → statement M
-compose-spec =
-    tie.close
-    (tie.spec
-    (λ c κs. tt)
-    returns
-    (λ c κs. tt)
-    slice-aggregate-write
-    (λ c κs. tt)
-    (λ c κs. tt)
-    (λ c κs. tt)
-    same-length
-    returns-2)
+compose-spec = tie.close (tie.spec (λ c κs. tt) returns (λ c κs. tt) slice-aggregate-write (λ c κs. tt) (λ c κs. tt) (λ c κs. tt) (λ c. search needs) returns-2)

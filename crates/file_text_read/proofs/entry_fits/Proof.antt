@@ -53,13 +53,4 @@ returns-6 c =
     ) (c .in-cover .ensures)
 
 pub entry-fits-spec : {M : Type 1} → statement M
-entry-fits-spec =
-    tie.close
-    (tie.spec
-    returns
-    returns-2
-    returns-3
-    returns-4
-    returns-5
-    (λ c κs. tt)
-    returns-6)
+entry-fits-spec = tie.close (tie.spec returns returns-2 returns-3 returns-4 returns-5 (λ c κs. tt) returns-6)

@@ -6,9 +6,6 @@ use Rattle.file_text_read.specs.Lists.{nextLine}
 use Rattle.file_text_read.proofs.next_line.Statement.{statement}
 use Rattle.file_text_read.proofs.next_line.Tie as tie
 
-add-result : tie.Need-add-result
-add-result c = omega arith
-
 returns : tie.Need-returns
 unfolding nextLine
 returns c = rw (lt-ltb _ 999999999 (c .if1 .taken)) refl
@@ -18,9 +15,4 @@ unfolding nextLine
 returns-2 c = rw (le-ltb _ 999999999 (c .if1 .left)) refl
 
 pub next-line-spec : {M : Type 1} → statement M
-next-line-spec =
-    tie.close
-    (tie.spec
-    add-result
-    returns
-    returns-2)
+next-line-spec = tie.close (tie.spec (λ c. omega arith) returns returns-2)

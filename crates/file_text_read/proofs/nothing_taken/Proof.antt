@@ -9,9 +9,4 @@ unfolding nothingTaken
 returns c = rw (c .before .zero-calendar .ensures, c .no-faults .ensures) refl
 
 pub nothing-taken-spec : {M : Type 1} → statement M
-nothing-taken-spec =
-    tie.close
-    (tie.spec
-    (λ c κs. tt)
-    (λ c κs. tt)
-    returns)
+nothing-taken-spec = tie.close (tie.spec (λ c κs. tt) (λ c κs. tt) returns)

@@ -17,8 +17,4 @@ returns-2 : tie.Need-returns-2
 returns-2 c = (omega arith, refl)
 
 pub records-size-spec : {M : Type 1} → statement M
-records-size-spec =
-    tie.close
-    (tie.spec
-    returns
-    returns-2)
+records-size-spec = tie.close (tie.spec returns returns-2)

@@ -8,9 +8,6 @@ use Rattle.file_text_read.proofs.store_entry.Tie as tie
 returns : tie.Need-returns
 returns c = no-product _ _ _ (c .if1 .taken)
 
-same-length : tie.Need-same-length
-same-length c = search needs
-
 returns-2 : tie.Need-returns-2
 returns-2 c =
     let start = c .before .before .before .before .before .before .before .before in
@@ -18,10 +15,4 @@ returns-2 c =
     (c .before .before .store .ensures)
 
 pub store-entry-spec : {M : Type 1} → statement M
-store-entry-spec =
-    tie.close
-    (tie.spec
-    returns
-    (λ c κs. tt)
-    same-length
-    returns-2)
+store-entry-spec = tie.close (tie.spec returns (λ c κs. tt) (λ c. search needs) returns-2)

@@ -12,9 +12,6 @@ returns c =
     taken-bad (at-next .before .before .before .before .args .taken) _ _ _ (at-next .next-line .ensures) _ (at-fits .entry-fits .ensures)
     (not-true _ (c .before .if1 .taken)) _ (c .count-line .ensures)
 
-same-length : tie.Need-same-length
-same-length c = search needs
-
 returns-2 : tie.Need-returns-2
 returns-2 c =
     let at-store = c .before .before .before .before in
@@ -27,15 +24,4 @@ returns-2 c =
     (at-store .store-entry .ensures)
 
 pub take-entry-spec : {M : Type 1} → statement M
-take-entry-spec =
-    tie.close
-    (tie.spec
-    (λ c κs. tt)
-    (λ c κs. tt)
-    (λ c κs. tt)
-    returns
-    (λ c κs. tt)
-    (λ c κs. tt)
-    (λ c κs. tt)
-    same-length
-    returns-2)
+take-entry-spec = tie.close (tie.spec (λ c κs. tt) (λ c κs. tt) (λ c κs. tt) returns (λ c κs. tt) (λ c κs. tt) (λ c κs. tt) (λ c. search needs) returns-2)

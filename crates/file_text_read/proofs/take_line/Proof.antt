@@ -15,9 +15,6 @@ returns-2 c =
     taken-nothing (start .args .taken) (start .args .line) _ (at-if1 .if1 .left) _ (at-held .held-entry .ensures) (c .before .if2 .taken) _
     (c .count-line .ensures)
 
-same-length : tie.Need-same-length
-same-length c = search needs
-
 returns-3 : tie.Need-returns-3
 returns-3 c =
     let at-if2 = c .before .before .before .before in
@@ -28,13 +25,4 @@ returns-3 c =
     (c .before .before .take-entry .ensures)
 
 pub take-line-spec : {M : Type 1} → statement M
-take-line-spec =
-    tie.close
-    (tie.spec
-    returns
-    (λ c κs. tt)
-    (λ c κs. tt)
-    returns-2
-    (λ c κs. tt)
-    same-length
-    returns-3)
+take-line-spec = tie.close (tie.spec returns (λ c κs. tt) (λ c κs. tt) returns-2 (λ c κs. tt) (λ c. search needs) returns-3)

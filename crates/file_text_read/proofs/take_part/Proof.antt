@@ -63,19 +63,5 @@ returns c = ends _ _ _ _ _ _ _ _ (c .before .loop .inv) (c .loop-test .left)
 
 pub take-part-spec : {M : Type 1} → statement M
 take-part-spec =
-    tie.close
-    (tie.spec
-    Inv-loop
-    μ-loop
-    loop-holds
-    shared-slice-read-byte
-    add-i
-    extend-long-requires
-    loop-less
-    loop-again
-    take-line-requires
-    empty-long-line-requires
-    loop-less-2
-    loop-again-2
-    same-length
-    returns)
+    tie.close (tie.spec Inv-loop μ-loop loop-holds shared-slice-read-byte add-i extend-long-requires loop-less loop-again take-line-requires
+    empty-long-line-requires loop-less-2 loop-again-2 same-length returns)

@@ -26,12 +26,4 @@ returns c =
     (c .before .bare-text .ensures) _ (c .text-said .ensures)
 
 pub held-entry-spec : {M : Type 1} → statement M
-held-entry-spec =
-    tie.close
-    (tie.spec
-    (λ c κs. tt)
-    array-share-prefix-bytes
-    slice-aggregate-bare-text
-    (λ c κs. tt)
-    (λ c κs. tt)
-    returns)
+held-entry-spec = tie.close (tie.spec (λ c κs. tt) array-share-prefix-bytes slice-aggregate-bare-text (λ c κs. tt) (λ c κs. tt) returns)

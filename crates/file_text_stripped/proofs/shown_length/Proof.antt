@@ -33,12 +33,4 @@ returns-2 c =
     shown-whole (at-held .before .args .line) (at-held .held-length .result) (h .1) (h .0) l (c .before .before .before .if1 .left) _ (t .1) (t .0)
 
 pub shown-length-spec : {M : Type 1} → statement M
-shown-length-spec =
-    tie.close
-    (tie.spec
-    (λ c κs. tt)
-    returns
-    array-share-prefix-bytes
-    slice-aggregate-trimmed-length
-    (λ c κs. tt)
-    returns-2)
+shown-length-spec = tie.close (tie.spec (λ c κs. tt) returns array-share-prefix-bytes slice-aggregate-trimmed-length (λ c κs. tt) returns-2)

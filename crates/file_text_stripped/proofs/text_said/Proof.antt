@@ -8,9 +8,6 @@ use Rattle.file_text_stripped.proofs.text_said.Tie as tie
 returns : tie.Need-returns
 returns c = c .nothing-entry .ensures ∙ said-empty _ (c .before .if1 .taken)
 
-shared-slice-read-if2 : tie.Need-shared-slice-read-if2
-shared-slice-read-if2 c = search needs
-
 returns-2 : tie.Need-returns-2
 returns-2 c = c .nothing-entry2 .ensures ∙ said-comment _ (c .before .before .before .if1 .left) (c .before .if2 .taken)
 
@@ -22,15 +19,4 @@ returns-3 c =
     (c .entry-of .ensures)
 
 pub text-said-spec : {M : Type 1} → statement M
-text-said-spec =
-    tie.close
-    (tie.spec
-    (λ c κs. tt)
-    returns
-    shared-slice-read-if2
-    (λ c κs. tt)
-    returns-2
-    (λ c κs. tt)
-    (λ c κs. tt)
-    (λ c κs. tt)
-    returns-3)
+text-said-spec = tie.close (tie.spec (λ c κs. tt) returns (λ c. search needs) (λ c κs. tt) returns-2 (λ c κs. tt) (λ c κs. tt) (λ c κs. tt) returns-3)

@@ -5,9 +5,6 @@ use Rattle.file_text_told.specs.ComposeTexts.{badEntryText}
 use Rattle.file_text_told.proofs.bad_entry_line.Statement.{statement}
 use Rattle.file_text_told.proofs.bad_entry_line.Tie as tie
 
-slice-aggregate-with-bytes : tie.Need-slice-aggregate-with-bytes
-slice-aggregate-with-bytes c = search needs
-
 returns : tie.Need-returns
 unfolding badEntryText
 returns c =
@@ -15,12 +12,4 @@ returns c =
     (then (c .before .before .with-bytes .ensures) (then (c .before .with-number .ensures) (one _ _ _ (c .extend .ensures))))
 
 pub bad-entry-line-spec : {M : Type 1} → statement M
-bad-entry-line-spec =
-    tie.close
-    (tie.spec
-    (λ c κs. tt)
-    slice-aggregate-with-bytes
-    (λ c κs. tt)
-    (λ c κs. tt)
-    (λ c κs. tt)
-    returns)
+bad-entry-line-spec = tie.close (tie.spec (λ c κs. tt) (λ c. search needs) (λ c κs. tt) (λ c κs. tt) (λ c κs. tt) returns)

@@ -5,9 +5,6 @@ use Rattle.file_text_told.specs.ComposeTexts.{refusedFileText}
 use Rattle.file_text_told.proofs.no_line.Statement.{statement}
 use Rattle.file_text_told.proofs.no_line.Tie as tie
 
-slice-aggregate-with-bytes : tie.Need-slice-aggregate-with-bytes
-slice-aggregate-with-bytes c = search needs
-
 returns : tie.Need-returns
 unfolding refusedFileText
 returns c =
@@ -17,13 +14,4 @@ returns c =
     (then (c .before .with-where .ensures) (one _ _ _ (c .extend .ensures)))))
 
 pub no-line-spec : {M : Type 1} → statement M
-no-line-spec =
-    tie.close
-    (tie.spec
-    (λ c κs. tt)
-    slice-aggregate-with-bytes
-    (λ c κs. tt)
-    (λ c κs. tt)
-    (λ c κs. tt)
-    (λ c κs. tt)
-    returns)
+no-line-spec = tie.close (tie.spec (λ c κs. tt) (λ c. search needs) (λ c κs. tt) (λ c κs. tt) (λ c κs. tt) (λ c κs. tt) returns)

@@ -13,6 +13,4 @@ returns-3 : tie.Need-returns-3
 returns-3 c = said-nothing _ _ (c .before .before .before .if1 .left) (c .before .if2 .left) (c .empty-line .ensures)
 
 pub said-spec : {M : Type 1} → statement M
-said-spec =
-    tie.close
-    (tie.spec (λ c κs. tt) returns (λ c κs. tt) returns-2 (λ c κs. tt) returns-3)
+said-spec = tie.close (tie.spec (λ c κs. tt) returns (λ c κs. tt) returns-2 (λ c κs. tt) returns-3)

@@ -5,13 +5,9 @@ use Rattle.file_text_told.specs.ComposeTexts.{fromText}
 use Rattle.file_text_told.proofs.with_from.Statement.{statement}
 use Rattle.file_text_told.proofs.with_from.Tie as tie
 
-slice-aggregate-with-bytes : tie.Need-slice-aggregate-with-bytes
-slice-aggregate-with-bytes c = search needs
-
 returns : tie.Need-returns
 unfolding fromText
 returns c = then (c .before .with-bytes .ensures) (c .with-day .ensures)
 
 pub with-from-spec : {M : Type 1} → statement M
-with-from-spec =
-    tie.close (tie.spec slice-aggregate-with-bytes (λ c κs. tt) (λ c κs. tt) returns)
+with-from-spec = tie.close (tie.spec (λ c. search needs) (λ c κs. tt) (λ c κs. tt) returns)

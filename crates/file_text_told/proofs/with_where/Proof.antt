@@ -17,12 +17,4 @@ returns-3 c =
     where-line _ _ _ _ (at-if2 .before .if1 .left) (not-false _ (at-if2 .if2 .left)) _ (then (c .before .with-line .ensures) (c .with-product .ensures))
 
 pub with-where-spec : {M : Type 1} → statement M
-with-where-spec =
-    tie.close
-    (tie.spec
-    (λ c κs. tt)
-    returns
-    returns-2
-    (λ c κs. tt)
-    (λ c κs. tt)
-    returns-3)
+with-where-spec = tie.close (tie.spec (λ c κs. tt) returns returns-2 (λ c κs. tt) (λ c κs. tt) returns-3)

@@ -7,20 +7,11 @@ use Rattle.file_draft.specs.Drafts.{blockByte}
 use Rattle.file_write.proofs.block_byte.Statement.{statement}
 use Rattle.file_write.proofs.block_byte.Tie as tie
 
-cast-years : tie.Need-cast-years
-cast-years c = search needs
-
-calendar-byte-requires : tie.Need-calendar-byte-requires
-calendar-byte-requires c κs = search needs
-
 returns : tie.Need-returns
 unfolding blockByte
 returns c =
     let start = c .before .before .before .before .before .before in
     rw (lt-ltb (start .args .k) (start .args .cover .years) (omega arith)) (c .calendar-byte .ensures)
-
-product-byte-requires : tie.Need-product-byte-requires
-product-byte-requires c κs = search needs
 
 returns-2 : tie.Need-returns-2
 unfolding blockByte
@@ -29,5 +20,4 @@ returns-2 c =
     rw (le-ltb (start .args .k) (start .args .cover .years) (omega arith)) (c .product-byte .ensures)
 
 pub block-byte-spec : {M : Type 1} → statement M
-block-byte-spec =
-    tie.close (tie.spec cast-years calendar-byte-requires returns product-byte-requires returns-2)
+block-byte-spec = tie.close (tie.spec (λ c. search needs) (λ c κs. search needs) returns (λ c κs. search needs) returns-2)

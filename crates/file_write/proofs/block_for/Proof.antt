@@ -42,16 +42,4 @@ returns : tie.Need-returns Inv-loop μ-loop
 returns c = c .checked .ensures ∙ block-made _ _ _ (omega arith) (c .before .before .loop .inv .1)
 
 pub block-for-spec : {M : Type 1} → statement M
-block-for-spec =
-    tie.close
-    (tie.spec
-    Inv-loop
-    μ-loop
-    loop-holds
-    block-byte-requires
-    array-write-body
-    add-j
-    loop-less
-    loop-again
-    checked-requires
-    returns)
+block-for-spec = tie.close (tie.spec Inv-loop μ-loop loop-holds block-byte-requires array-write-body add-j loop-less loop-again checked-requires returns)

@@ -8,12 +8,6 @@ use Rattle.file_write.proofs.calendar_byte.Statement.{statement}
 use Rattle.file_write.proofs.calendar_byte.Tie as tie
 
 -- ---- the header
-cast-index : tie.Need-cast-index
-cast-index c = search needs
-
-add-header-byte : tie.Need-add-header-byte
-add-header-byte c = search needs
-
 returns : tie.Need-returns
 unfolding calendarByte
 returns c =
@@ -21,23 +15,11 @@ returns c =
     rw (lt-ltb j 16 (omega arith)) (c .header-byte .ensures)
 
 -- ---- the two maps
-mul-byte-at : tie.Need-mul-byte-at
-mul-byte-at c = search needs
-
-add-byte-at : tie.Need-add-byte-at
-add-byte-at c = search needs
-
 returns-2 : tie.Need-returns-2
 unfolding calendarByte
 returns-2 c =
     let j = c .before .before .before .before .before .args .j in
     rw (le-ltb j 16 (omega arith), lt-ltb j 62 (omega arith)) (c .byte-at .ensures)
-
-mul-byte-at-2 : tie.Need-mul-byte-at-2
-mul-byte-at-2 c = search needs
-
-add-byte-at-2 : tie.Need-add-byte-at-2
-add-byte-at-2 c = search needs
 
 returns-3 : tie.Need-returns-3
 unfolding calendarByte
@@ -54,18 +36,5 @@ returns-4 c =
 
 pub calendar-byte-spec : {M : Type 1} → statement M
 calendar-byte-spec =
-    tie.close
-    (tie.spec
-    cast-index
-    add-header-byte
-    (λ c κs. tt)
-    returns
-    mul-byte-at
-    add-byte-at
-    (λ c κs. tt)
-    returns-2
-    mul-byte-at-2
-    add-byte-at-2
-    (λ c κs. tt)
-    returns-3
-    returns-4)
+    tie.close (tie.spec (λ c. search needs) (λ c. search needs) (λ c κs. tt) returns (λ c. search needs) (λ c. search needs) (λ c κs. tt) returns-2
+    (λ c. search needs) (λ c. search needs) (λ c κs. tt) returns-3 returns-4)

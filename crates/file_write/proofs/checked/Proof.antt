@@ -3,28 +3,8 @@ use borrow.Author.Needs.{needs}
 use Rattle.file_write.proofs.checked.Statement.{statement}
 use Rattle.file_write.proofs.checked.Tie as tie
 
-cast-block : tie.Need-cast-block
-cast-block c = search needs
-
-array-write-block : tie.Need-array-write-block
-array-write-block c = search needs
-
-cast-block-2 : tie.Need-cast-block-2
-cast-block-2 c = search needs
-
-array-write-block-2 : tie.Need-array-write-block-2
-array-write-block-2 c = search needs
-
 returns : tie.Need-returns
 returns c = rw (c .check-of .ensures)
 
 pub checked-spec : {M : Type 1} → statement M
-checked-spec =
-    tie.close
-    (tie.spec
-    (λ c κs. tt)
-    cast-block
-    array-write-block
-    cast-block-2
-    array-write-block-2
-    returns)
+checked-spec = tie.close (tie.spec (λ c κs. tt) (λ c. search needs) (λ c. search needs) (λ c. search needs) (λ c. search needs) returns)

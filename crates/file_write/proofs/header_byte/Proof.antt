@@ -6,19 +6,6 @@ use Rattle.file_draft.specs.Drafts.{headerByte}
 use Rattle.file_write.proofs.header_byte.Statement.{statement}
 use Rattle.file_write.proofs.header_byte.Tie as tie
 
--- ---- the halves of the numbers fit a byte
-cast-result : tie.Need-cast-result
-cast-result c = search needs
-
-cast-result-2 : tie.Need-cast-result-2
-cast-result-2 c = search needs
-
-cast-result-3 : tie.Need-cast-result-3
-cast-result-3 c = search needs
-
-cast-result-4 : tie.Need-cast-result-4
-cast-result-4 c = search needs
-
 -- ---- bytes 0 to 5
 returns : tie.Need-returns
 unfolding headerByte
@@ -60,16 +47,5 @@ returns-7 c =
 
 pub header-byte-spec : {M : Type 1} → statement M
 header-byte-spec =
-    tie.close
-    (tie.spec
-    cast-result
-    cast-result-2
-    cast-result-3
-    cast-result-4
-    returns
-    returns-2
-    returns-3
-    returns-4
-    returns-5
-    returns-6
-    returns-7)
+    tie.close (tie.spec (λ c. search needs) (λ c. search needs) (λ c. search needs) (λ c. search needs) returns returns-2 returns-3 returns-4 returns-5
+    returns-6 returns-7)

@@ -9,24 +9,12 @@ use Rattle.file_draft.specs.Drafts.{headerByte, productByte}
 use Rattle.file_write.proofs.product_byte.Statement.{statement}
 use Rattle.file_write.proofs.product_byte.Tie as tie
 
-records-within-requires : tie.Need-records-within-requires
-records-within-requires c κs = search needs
-
-cast-header-byte : tie.Need-cast-header-byte
-cast-header-byte c = search needs
-
 returns : tie.Need-returns
 unfolding productByte
 returns c =
     let start = c .before .before .before .before in
     let j = start .args .j in
     rw (lt-ltb j 16 (omega arith)) (c .header-byte .ensures ∙ ap (λ (n : ℕ). headerByte 2 n (start .args .k) j) (c .before .records-within .ensures))
-
-mul-byte-at : tie.Need-mul-byte-at
-mul-byte-at c = search needs
-
-add-byte-at : tie.Need-add-byte-at
-add-byte-at c = search needs
 
 returns-2 : tie.Need-returns-2
 unfolding productByte
@@ -42,14 +30,5 @@ returns-3 c =
 
 pub product-byte-spec : {M : Type 1} → statement M
 product-byte-spec =
-    tie.close
-    (tie.spec
-    records-within-requires
-    cast-header-byte
-    (λ c κs. tt)
-    returns
-    mul-byte-at
-    add-byte-at
-    (λ c κs. tt)
-    returns-2
+    tie.close (tie.spec (λ c κs. search needs) (λ c. search needs) (λ c κs. tt) returns (λ c. search needs) (λ c. search needs) (λ c κs. tt) returns-2
     returns-3)

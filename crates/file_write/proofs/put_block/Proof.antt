@@ -43,17 +43,4 @@ returns c =
     rw e at (c .before .loop .inv .1 .is)
 
 pub put-block-spec : {M : Type 1} → statement M
-put-block-spec =
-    tie.close
-    (tie.spec
-    Inv-loop
-    μ-loop
-    loop-holds
-    array-read-buffer
-    add-buffer
-    slice-write-buffer
-    add-j
-    loop-less
-    loop-again
-    same-length
-    returns)
+put-block-spec = tie.close (tie.spec Inv-loop μ-loop loop-holds array-read-buffer add-buffer slice-write-buffer add-j loop-less loop-again same-length returns)

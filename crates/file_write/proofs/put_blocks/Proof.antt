@@ -51,16 +51,4 @@ returns c =
 
 pub put-blocks-spec : {M : Type 1} → statement M
 put-blocks-spec =
-    tie.close
-    (tie.spec
-    Inv-loop
-    μ-loop
-    loop-holds
-    block-for-requires
-    mul-put-block
-    put-block-requires
-    add-k
-    loop-less
-    loop-again
-    same-length
-    returns)
+    tie.close (tie.spec Inv-loop μ-loop loop-holds block-for-requires mul-put-block put-block-requires add-k loop-less loop-again same-length returns)

@@ -10,12 +10,9 @@ returns : tie.Need-returns
 unfolding sharesOf
 returns c = rw (lt-leb (c .before .args .size) 655359999 (omega arith))
 
-cast-result : tie.Need-cast-result
-cast-result c = search needs
-
 returns-2 : tie.Need-returns-2
 unfolding sharesOf
 returns-2 c = rw (le-leb (c .before .args .size) 655359999 (omega arith))
 
 pub shares-of-spec : {M : Type 1} → statement M
-shares-of-spec = tie.close (tie.spec returns cast-result returns-2)
+shares-of-spec = tie.close (tie.spec returns (λ c. search needs) returns-2)

@@ -3,11 +3,8 @@ use borrow.Author.Needs.{needs}
 use Rattle.file_write.proofs.sized_bytes.Statement.{statement}
 use Rattle.file_write.proofs.sized_bytes.Tie as tie
 
-cast-part : tie.Need-cast-part
-cast-part c = search needs
-
 returns : tie.Need-returns
 returns c = rw (c .field-bytes .ensures, c .before .shares-of .ensures)
 
 pub sized-bytes-spec : {M : Type 1} → statement M
-sized-bytes-spec = tie.close (tie.spec (λ c κs. tt) cast-part (λ c κs. tt) returns)
+sized-bytes-spec = tie.close (tie.spec (λ c κs. tt) (λ c. search needs) (λ c κs. tt) returns)

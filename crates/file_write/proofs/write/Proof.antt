@@ -17,12 +17,6 @@ put-blocks-requires c κs =
     let start = at-judge .before .before .before in
     room-there _ _ (now (start .args .buffer)) _ (sym (at-judge .judge .ensures) ∙ at-blocks-in .before .if1 .left) (at-blocks-in .blocks-in .ensures)
 
-mul-t6 : tie.Need-mul-t6
-mul-t6 c = search needs
-
-same-length : tie.Need-same-length
-same-length c = search needs
-
 returns-2 : tie.Need-returns-2
 returns-2 c =
     let at-put-blocks = c .before .before in
@@ -32,13 +26,4 @@ returns-2 c =
     (at-put-blocks .put-blocks .ensures)
 
 pub write-spec : {M : Type 1} → statement M
-write-spec =
-    tie.close
-    (tie.spec
-    (λ c κs. tt)
-    returns
-    (λ c κs. tt)
-    put-blocks-requires
-    mul-t6
-    same-length
-    returns-2)
+write-spec = tie.close (tie.spec (λ c κs. tt) returns (λ c κs. tt) put-blocks-requires (λ c. search needs) (λ c. search needs) returns-2)

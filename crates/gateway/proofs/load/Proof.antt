@@ -18,5 +18,4 @@ returns-2 : tie.Need-returns-2
 returns-2 c = c .read-blocks .ensures
 
 pub load-spec : {M : Type 1} → statement M
-load-spec =
-    tie.close (tie.spec (λ c κs. tt) (λ c κs. tt) (λ c κs. tt) returns read-blocks-requires returns-2)
+load-spec = tie.close (tie.spec (λ c κs. tt) (λ c κs. tt) (λ c κs. tt) returns read-blocks-requires returns-2)

@@ -4,7 +4,7 @@ use mathlib.Core.Path.{_≡_, refl, sym, _∙_}
 use mathlib.Core.Bool.{false}
 use mathlib.Core.List.{List}
 use mathlib.Core.Logic.{_⊎_, inl, inr, ⊎-elim}
-use Prim.Native.Nat.{ℕ, _+_, _*_, _≤_, _<_}
+use Prim.Native.Nat.{ℕ, _*_, _≤_, _<_}
 use native.Mathlib.Omega.{arith}
 use lib.ListN.{length, take}
 use borrow.Author.Needs.{needs}
@@ -136,26 +136,6 @@ returns-3 c =
 
 pub read-blocks-spec : {M : Type 1} → statement M
 read-blocks-spec =
-    tie.close
-    (tie.spec
-    Inv-loop
-    μ-loop
-    nothing-read-requires
-    loop-holds
-    reads-left-requires
-    slice-aggregate-read-on
-    read-on-requires
-    has-failed-requires
-    tell-failure-requires
-    refused-requires
-    returns
-    array-share-prefix-block
-    slice-aggregate-take
-    take-requires
-    refused-requires-2
-    returns-2
-    loop-less
-    loop-again
-    finish-requires
-    finished-requires
-    returns-3)
+    tie.close (tie.spec Inv-loop μ-loop nothing-read-requires loop-holds reads-left-requires slice-aggregate-read-on read-on-requires has-failed-requires
+    tell-failure-requires refused-requires returns array-share-prefix-block slice-aggregate-take take-requires refused-requires-2 returns-2 loop-less
+    loop-again finish-requires finished-requires returns-3)

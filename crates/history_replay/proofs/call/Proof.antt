@@ -53,22 +53,5 @@ returns-5 c =
 
 pub call-spec : {M : Type 1} → statement M
 call-spec =
-    tie.close
-    (tie.spec
-    (λ c κs. tt)
-    (λ c κs. tt)
-    (λ c κs. tt)
-    returns
-    (λ c κs. tt)
-    (λ c κs. tt)
-    returns-2
-    (λ c κs. tt)
-    (λ c κs. tt)
-    (λ c κs. tt)
-    returns-3
-    (λ c κs. tt)
-    (λ c κs. tt)
-    returns-4
-    (λ c κs. tt)
-    (λ c κs. tt)
-    returns-5)
+    tie.close (tie.spec (λ c κs. tt) (λ c κs. tt) (λ c κs. tt) returns (λ c κs. tt) (λ c κs. tt) returns-2 (λ c κs. tt) (λ c κs. tt) (λ c κs. tt) returns-3
+    (λ c κs. tt) (λ c κs. tt) returns-4 (λ c κs. tt) (λ c κs. tt) returns-5)

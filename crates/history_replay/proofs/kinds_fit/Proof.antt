@@ -52,17 +52,4 @@ returns-2 c =
     kinds-yes _ _ (v .0) (c .loop-test .left) (v .1)
 
 pub kinds-fit-spec : {M : Type 1} → statement M
-kinds-fit-spec =
-    tie.close
-    (tie.spec
-    Inv-loop
-    μ-loop
-    loop-holds
-    mul-if1
-    mul-if1-2
-    shared-slice-read-if1
-    returns
-    add-k
-    loop-less
-    loop-again
-    returns-2)
+kinds-fit-spec = tie.close (tie.spec Inv-loop μ-loop loop-holds mul-if1 mul-if1-2 shared-slice-read-if1 returns add-k loop-less loop-again returns-2)

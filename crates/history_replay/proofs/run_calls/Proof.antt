@@ -66,16 +66,4 @@ returns c =
     ends _ _ _ (v .0) (v .1) _ _ _ (v .2) (c .loop-test .left) (v .3)
 
 pub run-calls-spec : {M : Type 1} → statement M
-run-calls-spec =
-    tie.close
-    (tie.spec
-    Inv-loop
-    μ-loop
-    loop-holds
-    call-at-requires
-    write-reply-requires
-    add-i
-    loop-less
-    loop-again
-    same-length
-    returns)
+run-calls-spec = tie.close (tie.spec Inv-loop μ-loop loop-holds call-at-requires write-reply-requires add-i loop-less loop-again same-length returns)

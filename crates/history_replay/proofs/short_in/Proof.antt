@@ -7,11 +7,8 @@ use Rattle.history_replay.proofs.short_in.Tie as tie
 returns : tie.Need-returns
 returns c = short-large (c .before .args .number) (c .if1 .taken)
 
-cast-result : tie.Need-cast-result
-cast-result c = search needs
-
 returns-2 : tie.Need-returns-2
 returns-2 c = short-small (c .before .args .number) (c .if1 .left)
 
 pub short-in-spec : {M : Type 1} → statement M
-short-in-spec = tie.close (tie.spec returns cast-result returns-2)
+short-in-spec = tie.close (tie.spec returns (λ c. search needs) returns-2)

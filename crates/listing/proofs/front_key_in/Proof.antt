@@ -56,16 +56,4 @@ returns-2 c =
 
 pub front-key-in-spec : {M : Type 1} → statement M
 front-key-in-spec =
-    tie.close
-    (tie.spec
-    Inv-loop
-    μ-loop
-    end-key-requires
-    key-of-requires
-    loop-holds
-    may-be-front-requires
-    returns
-    add-key
-    loop-less
-    loop-again
-    returns-2)
+    tie.close (tie.spec Inv-loop μ-loop end-key-requires key-of-requires loop-holds may-be-front-requires returns add-key loop-less loop-again returns-2)

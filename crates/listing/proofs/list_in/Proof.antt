@@ -131,33 +131,6 @@ returns-2 c =
 
 pub list-in-spec : {M : Type 1} → statement M
 list-in-spec =
-    tie.close
-    (tie.spec
-    Inv-loop
-    μ-loop
-    Inv-steps
-    μ-steps
-    kind-number-requires
-    cast-row
-    end-key-requires
-    unused-places-requires
-    front-key-in-requires
-    steps-holds
-    mul-count
-    index-1-count
-    index-2-count
-    loop-holds
-    next-in-set-requires
-    last-trading-day-in-requires
-    mul-maturities
-    array-set-from-maturities
-    add-listed
-    add-from
-    add-j
-    loop-less
-    loop-again
-    add-step
-    steps-less
-    steps-again
-    returns
-    returns-2)
+    tie.close (tie.spec Inv-loop μ-loop Inv-steps μ-steps kind-number-requires cast-row end-key-requires unused-places-requires front-key-in-requires
+    steps-holds mul-count index-1-count index-2-count loop-holds next-in-set-requires last-trading-day-in-requires mul-maturities array-set-from-maturities
+    add-listed add-from add-j loop-less loop-again add-step steps-less steps-again returns returns-2)

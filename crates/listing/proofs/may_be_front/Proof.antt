@@ -25,5 +25,4 @@ returns-2 c =
     )
 
 pub may-be-front-spec : {M : Type 1} → statement M
-may-be-front-spec =
-    tie.close (tie.spec (λ c κs. tt) cast-row in-set-requires returns (λ c κs. tt) returns-2)
+may-be-front-spec = tie.close (tie.spec (λ c κs. tt) cast-row in-set-requires returns (λ c κs. tt) returns-2)

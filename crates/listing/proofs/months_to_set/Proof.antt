@@ -6,15 +6,6 @@ use Rattle.listing.proofs.NextMonths.{to-all, to-quarters, to-halves, t
 use Rattle.listing.proofs.months_to_set.Statement.{statement}
 use Rattle.listing.proofs.months_to_set.Tie as tie
 
-sub-result : tie.Need-sub-result
-sub-result c = search needs
-
-sub-result-2 : tie.Need-sub-result-2
-sub-result-2 c = search needs
-
-sub-result-3 : tie.Need-sub-result-3
-sub-result-3 c = search needs
-
 returns : tie.Need-returns
 returns c = rw (c .match .keys1) (to-all (c .before .args .month))
 
@@ -31,4 +22,4 @@ returns-4 c =
     rw e (to-decembers (c .before .args .month))
 
 pub months-to-set-spec : {M : Type 1} → statement M
-months-to-set-spec = tie.close (tie.spec sub-result sub-result-2 sub-result-3 returns returns-2 returns-3 returns-4)
+months-to-set-spec = tie.close (tie.spec (λ c. search needs) (λ c. search needs) (λ c. search needs) returns returns-2 returns-3 returns-4)

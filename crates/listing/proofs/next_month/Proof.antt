@@ -10,17 +10,11 @@ returns c = none-left _ _ _ (c .if1 .taken)
 months-to-set-requires : tie.Need-months-to-set-requires
 months-to-set-requires c κs = c .before .pre
 
-sub-if2 : tie.Need-sub-if2
-sub-if2 c = search needs
-
 returns-2 : tie.Need-returns-2
 returns-2 c = next-beyond _ _ _ _ (c .before .months-to-set .ensures) (c .if2 .taken)
-
-add-result : tie.Need-add-result
-add-result c = search needs
 
 returns-3 : tie.Need-returns-3
 returns-3 c = next-is _ _ _ _ (c .before .months-to-set .ensures) (c .if2 .left)
 
 pub next-month-spec : {M : Type 1} → statement M
-next-month-spec = tie.close (tie.spec returns months-to-set-requires sub-if2 returns-2 add-result returns-3)
+next-month-spec = tie.close (tie.spec returns months-to-set-requires (λ c. search needs) returns-2 (λ c. search needs) returns-3)

@@ -70,19 +70,5 @@ returns c =
 
 pub places-of-kind-spec : {M : Type 1} → statement M
 places-of-kind-spec =
-    tie.close
-    (tie.spec
-    Inv-loop
-    μ-loop
-    kind-number-requires
-    cast-row
-    loop-holds
-    mul-count
-    index-1-count
-    index-2-count
-    cast-sum
-    add-sum
-    add-step
-    loop-less
-    loop-again
-    returns)
+    tie.close (tie.spec Inv-loop μ-loop kind-number-requires cast-row loop-holds mul-count index-1-count index-2-count cast-sum add-sum add-step loop-less
+    loop-again returns)

@@ -4,17 +4,8 @@ use borrow.Author.Needs.{needs}
 use Rattle.product.proofs.kind_or_future.Statement.{statement}
 use Rattle.product.proofs.kind_or_future.Tie as tie
 
-enum-known-answer : tie.Need-enum-known-answer
-enum-known-answer c = search needs
-
-enum-told : tie.Need-enum-told
-enum-told c = search needs
-
-returns : tie.Need-returns
-returns c = search needs
-
 returns-2 : tie.Need-returns-2
 returns-2 c = rw (c .enum-told .given .1)
 
 pub kind-or-future-spec : {M : Type 1} → statement M
-kind-or-future-spec = tie.close (tie.spec enum-known-answer enum-told returns returns-2)
+kind-or-future-spec = tie.close (tie.spec (λ c. search needs) (λ c. search needs) (λ c. search needs) returns-2)

@@ -12,36 +12,21 @@ use borrow.Author.Needs.{needs}
 use Rattle.query.proofs.answer_input.Statement.{statement}
 use Rattle.query.proofs.answer_input.Tie as tie
 
-slice-aggregate-read-first : tie.Need-slice-aggregate-read-first
-slice-aggregate-read-first c = search needs
-
 returns : tie.Need-returns
 returns c = λ e f.
     let at-if1 = c .before in
     absurd (true≢false (sym (at-if1 .if1 .taken) ∙ at-if1 .before .has-failed .ensures ∙ ap (λ (i : Input). i .failed) (sym (c .nothing-answered .ensures .0)) ∙
     f))
 
-array-share-prefix-part : tie.Need-array-share-prefix-part
-array-share-prefix-part c = search needs
-
 slice-aggregate-write-first : tie.Need-slice-aggregate-write-first
 slice-aggregate-write-first c = sym (length-take-le _ _ (c .before .before .before .before .before .before .read-first .ensures .within .0))
-
-slice-aggregate-write-first-2 : tie.Need-slice-aggregate-write-first-2
-slice-aggregate-write-first-2 c = search needs
 
 write-first-requires : tie.Need-write-first-requires
 write-first-requires c κs = (omega (arith, c .before .before .before .before .before .before .before .before .before .before .large-buffer2 .ensures), refl)
 
-same-length : tie.Need-same-length
-same-length c = search needs
-
 returns-2 : tie.Need-returns-2
 returns-2 c = λ e f.
     absurd (true≢false (sym e ∙ ap (λ (s : Sent). s .open) (c .ended .ensures .1) ∙ said-no (c .before .before .is-open .ensures) (c .before .if2 .taken)))
-
-slice-aggregate-write-last : tie.Need-slice-aggregate-write-last
-slice-aggregate-write-last c = search needs
 
 write-last-requires : tie.Need-write-last-requires
 write-last-requires c κs =
@@ -56,9 +41,6 @@ write-last-requires c κs =
       w .ended (at-if3 .if3 .taken) (omega (arith, at-if3 .if3 .taken, at-part2 .part2 .given)),
       sym (at-failed .has-failed .ensures) ∙ at-if1 .if1 .left,
     )
-
-same-length-2 : tie.Need-same-length-2
-same-length-2 c = search needs
 
 returns-3 : tie.Need-returns-3
 returns-3 c = λ e f.
@@ -76,9 +58,6 @@ returns-3 c = λ e f.
           (at-write-first .write-first .ensures (said-yes (at-is-open .is-open .ensures) (at-if2 .if2 .left))) (at-write-last .write-last .ensures e),
     )
 
-slice-aggregate-write-rest : tie.Need-slice-aggregate-write-rest
-slice-aggregate-write-rest c = search needs
-
 write-rest-requires : tie.Need-write-rest-requires
 write-rest-requires c κs =
     let at-if3 = c .before .before in
@@ -95,37 +74,11 @@ write-rest-requires c κs =
           (at-write-first .write-first .ensures (said-yes (at-is-open .is-open .ensures) (at-if2 .if2 .left))),
     )
 
-same-length-3 : tie.Need-same-length-3
-same-length-3 c = search needs
-
 returns-4 : tie.Need-returns-4
 returns-4 c = c .before .before .before .write-rest .ensures
 
 pub answer-input-spec : {M : Type 1} → statement M
 answer-input-spec =
-    tie.close
-    (tie.spec
-    (λ c κs. tt)
-    (λ c κs. tt)
-    (λ c κs. tt)
-    slice-aggregate-read-first
-    (λ c κs. tt)
-    (λ c κs. tt)
-    (λ c κs. tt)
-    returns
-    array-share-prefix-part
-    slice-aggregate-write-first
-    slice-aggregate-write-first-2
-    write-first-requires
-    (λ c κs. tt)
-    (λ c κs. tt)
-    same-length
-    returns-2
-    slice-aggregate-write-last
-    write-last-requires
-    same-length-2
-    returns-3
-    slice-aggregate-write-rest
-    write-rest-requires
-    same-length-3
-    returns-4)
+    tie.close (tie.spec (λ c κs. tt) (λ c κs. tt) (λ c κs. tt) (λ c. search needs) (λ c κs. tt) (λ c κs. tt) (λ c κs. tt) returns (λ c. search needs)
+    slice-aggregate-write-first (λ c. search needs) write-first-requires (λ c κs. tt) (λ c κs. tt) (λ c. search needs) returns-2 (λ c. search needs)
+    write-last-requires (λ c. search needs) returns-3 (λ c. search needs) write-rest-requires (λ c. search needs) returns-4)

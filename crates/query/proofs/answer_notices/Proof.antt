@@ -14,12 +14,6 @@ tell-requires c κs =
     line-told _ _ _ _ _ _ _ _ (at-read-notices .read-notices .ensures) (start .pre .0) (start .pre .1) (start .pre .2) (start .pre .3) _
     (at-if1 .if1 .taken) (c .bad-notice-line .ensures)
 
-same-length : tie.Need-same-length
-same-length c = search needs
-
-same-length-2 : tie.Need-same-length-2
-same-length-2 c = search needs
-
 returns : tie.Need-returns
 returns c = λ e f.
     let at-nothing-read = c .before in
@@ -29,15 +23,6 @@ returns c = λ e f.
     none-answered _ _ _ _ _ _ _ _ (at-read-notices .read-notices .ensures) (start .pre .0) (start .pre .1) (start .pre .2) (start .pre .3)
     (at-if1 .if1 .taken) _ _ (c .nothing-answered .ensures .1)
     (ap (λ (i : Input). i .bytes) (c .nothing-answered .ensures .0) ∙ at-nothing-read .nothing-read .ensures .1)
-
-same-length-3 : tie.Need-same-length-3
-same-length-3 c = search needs
-
-same-length-4 : tie.Need-same-length-4
-same-length-4 c = search needs
-
-same-length-5 : tie.Need-same-length-5
-same-length-5 c = search needs
 
 returns-2 : tie.Need-returns-2
 returns-2 c = λ e f.
@@ -50,18 +35,5 @@ returns-2 c = λ e f.
 
 pub answer-notices-spec : {M : Type 1} → statement M
 answer-notices-spec =
-    tie.close
-    (tie.spec
-    (λ c κs. tt)
-    (λ c κs. tt)
-    tell-requires
-    (λ c κs. tt)
-    (λ c κs. tt)
-    same-length
-    same-length-2
-    returns
-    (λ c κs. tt)
-    same-length-3
-    same-length-4
-    same-length-5
-    returns-2)
+    tie.close (tie.spec (λ c κs. tt) (λ c κs. tt) tell-requires (λ c κs. tt) (λ c κs. tt) (λ c. search needs) (λ c. search needs) returns (λ c κs. tt)
+    (λ c. search needs) (λ c. search needs) (λ c. search needs) returns-2)

@@ -19,12 +19,6 @@ write-part-requires c κs =
     let start = c .before .before .before .before .before .before .before .before .before .before .before .before in
     (start .pre .0, start .pre .1)
 
-same-length : tie.Need-same-length
-same-length c = search needs
-
-same-length-2 : tie.Need-same-length-2
-same-length-2 c = search needs
-
 returns : tie.Need-returns
 returns c = λ e.
     let at-write-part = c .before .before .before .before in
@@ -36,15 +30,5 @@ returns c = λ e.
 
 pub write-first-spec : {M : Type 1} → statement M
 write-first-spec =
-    tie.close
-    (tie.spec
-    (λ c κs. tt)
-    (λ c κs. tt)
-    (λ c κs. tt)
-    sub-write-part
-    part-write-part-start
-    part-write-part-end
-    write-part-requires
-    same-length
-    same-length-2
-    returns)
+    tie.close (tie.spec (λ c κs. tt) (λ c κs. tt) (λ c κs. tt) sub-write-part part-write-part-start part-write-part-end write-part-requires (λ c. search needs)
+    (λ c. search needs) returns)

@@ -13,12 +13,6 @@ write-out-requires c κs =
     let a = rw (start .pre .1) at (at-answer-last .answer-last .ensures) in
     (omega (arith, a .fits), last (a .text (start .pre .0)))
 
-same-length : tie.Need-same-length
-same-length c = search needs
-
-same-length-2 : tie.Need-same-length-2
-same-length-2 c = search needs
-
 returns : tie.Need-returns
 returns c = λ e.
     let at-answer-last = c .before .before .before .before .before .before in
@@ -27,11 +21,4 @@ returns c = λ e.
     last-count _ _ _ _ _ _ _ _ (start .pre .0) a (c .write-out .ensures e)
 
 pub write-last-spec : {M : Type 1} → statement M
-write-last-spec =
-    tie.close
-    (tie.spec
-    (λ c κs. tt)
-    write-out-requires
-    same-length
-    same-length-2
-    returns)
+write-last-spec = tie.close (tie.spec (λ c κs. tt) write-out-requires (λ c. search needs) (λ c. search needs) returns)

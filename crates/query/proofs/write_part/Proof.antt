@@ -101,19 +101,5 @@ returns-2 c = λ e. handed-all _ _ _ _ _ _ _ _ _ (c .before .if1 .left) (c .befo
 
 pub write-part-spec : {M : Type 1} → statement M
 write-part-spec =
-    tie.close
-    (tie.spec
-    Inv-loop
-    μ-loop
-    loop-holds
-    answer-part-requires
-    write-out-requires
-    is-open-requires
-    same-length
-    same-length-2
-    returns
-    loop-less
-    loop-again
-    same-length-3
-    same-length-4
-    returns-2)
+    tie.close (tie.spec Inv-loop μ-loop loop-holds answer-part-requires write-out-requires is-open-requires same-length same-length-2 returns loop-less
+    loop-again same-length-3 same-length-4 returns-2)

@@ -147,31 +147,6 @@ returns-3 c = λ e f.
 
 pub write-rest-spec : {M : Type 1} → statement M
 write-rest-spec =
-    tie.close
-    (tie.spec
-    Inv-loop
-    μ-loop
-    large-buffer-requires
-    loop-holds
-    reads-left-requires
-    slice-aggregate-read-part
-    read-part-requires
-    array-share-prefix-part
-    slice-aggregate-write-part
-    write-part-requires
-    is-open-requires
-    ended-requires
-    same-length
-    same-length-2
-    returns
-    loop-less
-    loop-again
-    has-failed-requires
-    ended-requires-2
-    same-length-3
-    same-length-4
-    returns-2
-    write-last-requires
-    same-length-5
-    same-length-6
-    returns-3)
+    tie.close (tie.spec Inv-loop μ-loop large-buffer-requires loop-holds reads-left-requires slice-aggregate-read-part read-part-requires
+    array-share-prefix-part slice-aggregate-write-part write-part-requires is-open-requires ended-requires same-length same-length-2 returns loop-less
+    loop-again has-failed-requires ended-requires-2 same-length-3 same-length-4 returns-2 write-last-requires same-length-5 same-length-6 returns-3)

@@ -5,9 +5,6 @@ use Rattle.delivery_reconciling.proofs.ReconcileRuns.{strangers-few, difference
 use Rattle.reconcile.proofs.print_others.Statement.{statement}
 use Rattle.reconcile.proofs.print_others.Tie as tie
 
-print-strangers-requires : tie.Need-print-strangers-requires
-print-strangers-requires c κs = search needs
-
 add-lines : tie.Need-add-lines
 add-lines c =
     let start = c .before .before .before .before .before .before .before .before .before .before .before .before in
@@ -18,4 +15,4 @@ returns c = differences-out _ _ _ _ _ (c .before .before .before .before .before
     (c .before .before .before .print-strangers .ensures)
 
 pub print-others-spec : {M : Type 1} → statement M
-print-others-spec = tie.close (tie.spec print-strangers-requires add-lines returns)
+print-others-spec = tie.close (tie.spec (λ c κs. search needs) add-lines returns)

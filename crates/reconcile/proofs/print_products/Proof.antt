@@ -5,12 +5,6 @@ use Rattle.delivery_reconciling.proofs.ReconcileRuns.{products-out}
 use Rattle.reconcile.proofs.print_products.Statement.{statement}
 use Rattle.reconcile.proofs.print_products.Tie as tie
 
-print-places-requires : tie.Need-print-places-requires
-print-places-requires c κs = search needs
-
-same-length : tie.Need-same-length
-same-length c = search needs
-
 returns : tie.Need-returns
 returns c =
     let start = c .before .before .before .before .before .before .before .before .before .before .before .before .before .before .before in
@@ -18,4 +12,4 @@ returns c =
     (c .before .before .print-places .ensures (start .pre .0 .size))
 
 pub print-products-spec : {M : Type 1} → statement M
-print-products-spec = tie.close (tie.spec print-places-requires same-length returns)
+print-products-spec = tie.close (tie.spec (λ c κs. search needs) (λ c. search needs) returns)

@@ -7,39 +7,6 @@ use Rattle.reconcile.proofs.Fits.{neither, other}
 use Rattle.reconcile.proofs.run.Statement.{statement}
 use Rattle.reconcile.proofs.run.Tie as tie
 
-nothing-told-requires : tie.Need-nothing-told-requires
-nothing-told-requires c κs = search needs
-
-tell-openings-requires : tie.Need-tell-openings-requires
-tell-openings-requires c κs = search needs
-
-read-rows-requires : tie.Need-read-rows-requires
-read-rows-requires c κs = search needs
-
-has-failed-requires : tie.Need-has-failed-requires
-has-failed-requires c κs = search needs
-
-nothing-sent-requires : tie.Need-nothing-sent-requires
-nothing-sent-requires c κs = search needs
-
-same-length : tie.Need-same-length
-same-length c = search needs
-
-same-length-2 : tie.Need-same-length-2
-same-length-2 c = search needs
-
-same-length-3 : tie.Need-same-length-3
-same-length-3 c = search needs
-
-same-length-4 : tie.Need-same-length-4
-same-length-4 c = search needs
-
-same-length-5 : tie.Need-same-length-5
-same-length-5 c = search needs
-
-same-length-6 : tie.Need-same-length-6
-same-length-6 c = search needs
-
 returns : tie.Need-returns
 returns c =
     let before-40 =
@@ -127,9 +94,6 @@ same-length-12 c =
     c .before .before .before .before .before .before .before .before .before .before .before .before .before .before .before .before .before .before .before
     .before .before .before .before .before .before .before .before .before .before .before .read-rows .kept .1 .1 .1 .1 .1 .1 .1 .0
 
-same-length-13 : tie.Need-same-length-13
-same-length-13 c = search needs
-
 returns-2 : tie.Need-returns-2
 returns-2 c =
     let before-50 =
@@ -155,27 +119,6 @@ returns-2 c =
 
 pub run-spec : {M : Type 1} → statement M
 run-spec =
-    tie.close
-    (tie.spec
-    nothing-told-requires
-    tell-openings-requires
-    read-rows-requires
-    has-failed-requires
-    nothing-sent-requires
-    same-length
-    same-length-2
-    same-length-3
-    same-length-4
-    same-length-5
-    same-length-6
-    returns
-    print-all-requires
-    tell-counts-requires
-    same-length-7
-    same-length-8
-    same-length-9
-    same-length-10
-    same-length-11
-    same-length-12
-    same-length-13
-    returns-2)
+    tie.close (tie.spec (λ c κs. search needs) (λ c κs. search needs) (λ c κs. search needs) (λ c κs. search needs) (λ c κs. search needs) (λ c. search needs)
+    (λ c. search needs) (λ c. search needs) (λ c. search needs) (λ c. search needs) (λ c. search needs) returns print-all-requires tell-counts-requires
+    same-length-7 same-length-8 same-length-9 same-length-10 same-length-11 same-length-12 (λ c. search needs) returns-2)

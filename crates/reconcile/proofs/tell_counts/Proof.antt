@@ -5,23 +5,8 @@ use Rattle.reconcile.proofs.Fits.{counts-line}
 use Rattle.reconcile.proofs.tell_counts.Statement.{statement}
 use Rattle.reconcile.proofs.tell_counts.Tie as tie
 
-is-open-requires : tie.Need-is-open-requires
-is-open-requires c κs = search needs
-
 returns : tie.Need-returns
 returns c = λ o. clash o (said-no (c .before .before .is-open .ensures) (c .before .if1 .taken))
-
-record-count-requires : tie.Need-record-count-requires
-record-count-requires c κs = search needs
-
-cast-rows : tie.Need-cast-rows
-cast-rows c = search needs
-
-cast-bad : tie.Need-cast-bad
-cast-bad c = search needs
-
-summary-line-requires : tie.Need-summary-line-requires
-summary-line-requires c κs = search needs
 
 tell-last-requires : tie.Need-tell-last-requires
 tell-last-requires c κs =
@@ -29,18 +14,7 @@ tell-last-requires c κs =
     let n = c .before .before .before .before .record-count .ensures in
     counts-line _ _ _ _ _ (n .0) (n .1) (start .pre .0) (start .pre .1) (start .pre .2) (start .pre .3) _ (c .summary-line .ensures)
 
-returns-2 : tie.Need-returns-2
-returns-2 c = search needs
-
 pub tell-counts-spec : {M : Type 1} → statement M
 tell-counts-spec =
-    tie.close
-    (tie.spec
-    is-open-requires
-    returns
-    record-count-requires
-    cast-rows
-    cast-bad
-    summary-line-requires
-    tell-last-requires
-    returns-2)
+    tie.close (tie.spec (λ c κs. search needs) returns (λ c κs. search needs) (λ c. search needs) (λ c. search needs) (λ c κs. search needs) tell-last-requires
+    (λ c. search needs))

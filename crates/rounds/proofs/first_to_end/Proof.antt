@@ -10,12 +10,6 @@ use Prim.Native.Nat.{_≤_}
 use Rattle.rounds.proofs.first_to_end.Statement.{statement}
 use Rattle.rounds.proofs.first_to_end.Tie as tie
 
-cast-n : tie.Need-cast-n
-cast-n c = search needs
-
-cast-k : tie.Need-cast-k
-cast-k c = search needs
-
 -- ---- the three moves stay within the places
 put-after-requires : tie.Need-put-after-requires
 put-after-requires c κs =
@@ -57,14 +51,5 @@ returns c =
 
 pub first-to-end-spec : {M : Type 1} → statement M
 first-to-end-spec =
-    tie.close
-    (tie.spec
-    cast-n
-    (λ c κs. tt)
-    cast-k
-    (λ c κs. tt)
-    put-after-requires
-    put-after-requires-2
-    sub-put-after
-    put-after-requires-3
-    returns)
+    tie.close (tie.spec (λ c. search needs) (λ c κs. tt) (λ c. search needs) (λ c κs. tt) put-after-requires put-after-requires-2 sub-put-after
+    put-after-requires-3 returns)

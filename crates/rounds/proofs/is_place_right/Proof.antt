@@ -65,18 +65,4 @@ returns-3 c =
 
 pub is-place-right-spec : {M : Type 1} → statement M
 is-place-right-spec =
-    tie.close
-    (tie.spec
-    Inv-loop
-    μ-loop
-    mul-number
-    array-read-number
-    returns
-    loop-holds
-    mul-if2
-    array-read-if2
-    returns-2
-    add-j
-    loop-less
-    loop-again
-    returns-3)
+    tie.close (tie.spec Inv-loop μ-loop mul-number array-read-number returns loop-holds mul-if2 array-read-if2 returns-2 add-j loop-less loop-again returns-3)

@@ -62,17 +62,4 @@ returns-3 c =
     sym (and-both (le-leb _ _ (v .0)) (rw e at (v .2)))
 
 pub is-right-spec : {M : Type 1} → statement M
-is-right-spec =
-    tie.close
-    (tie.spec
-    Inv-loop
-    μ-loop
-    cast-n
-    returns
-    loop-holds
-    is-place-right-requires
-    returns-2
-    add-i
-    loop-less
-    loop-again
-    returns-3)
+is-right-spec = tie.close (tie.spec Inv-loop μ-loop cast-n returns loop-holds is-place-right-requires returns-2 add-i loop-less loop-again returns-3)

@@ -51,18 +51,4 @@ returns : tie.Need-returns Inv-loop μ-loop
 returns c = puts-all _ _ _ _ _ _ (c .before .loop .inv) (c .loop-test .left)
 
 pub put-after-spec : {M : Type 1} → statement M
-put-after-spec =
-    tie.close
-    (tie.spec
-    Inv-loop
-    μ-loop
-    loop-holds
-    mul-out
-    array-read-out
-    mul-out-2
-    array-write-out
-    add-at
-    add-i
-    loop-less
-    loop-again
-    returns)
+put-after-spec = tie.close (tie.spec Inv-loop μ-loop loop-holds mul-out array-read-out mul-out-2 array-write-out add-at add-i loop-less loop-again returns)

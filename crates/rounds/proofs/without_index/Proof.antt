@@ -9,14 +9,8 @@ use borrow.Author.Needs.{needs}
 use Rattle.rounds.proofs.without_index.Statement.{statement}
 use Rattle.rounds.proofs.without_index.Tie as tie
 
-cast-n : tie.Need-cast-n
-cast-n c = search needs
-
 put-after-requires : tie.Need-put-after-requires
 put-after-requires c κs = (omega arith, omega arith, omega arith, c .no-tables .ensures)
-
-add-put-after : tie.Need-add-put-after
-add-put-after c = search needs
 
 put-after-requires-2 : tie.Need-put-after-requires-2
 put-after-requires-2 c κs =
@@ -24,9 +18,6 @@ put-after-requires-2 c κs =
     let l : length (start .args .q .tables) ≡ 200 = simp length-map at (start .good .0 .1 .1 .0 .1 .0 .1) in
     let e = length-take-le (start .args .index) (start .args .q .tables) (omega (arith, l)) in
     (omega arith, omega arith, omega arith, placed _ _ _ (c .put-after .ensures) e)
-
-sub-t10 : tie.Need-sub-t10
-sub-t10 c = search needs
 
 returns : tie.Need-returns
 returns c =
@@ -37,12 +28,4 @@ returns c =
 
 pub without-index-spec : {M : Type 1} → statement M
 without-index-spec =
-    tie.close
-    (tie.spec
-    cast-n
-    (λ c κs. tt)
-    put-after-requires
-    add-put-after
-    put-after-requires-2
-    sub-t10
-    returns)
+    tie.close (tie.spec (λ c. search needs) (λ c κs. tt) put-after-requires (λ c. search needs) put-after-requires-2 (λ c. search needs) returns)

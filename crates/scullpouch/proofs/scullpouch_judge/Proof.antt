@@ -7,5 +7,4 @@ returns : tie.Need-returns
 returns c = c .reply-of-verdict .ensures ∙ (rw (c .before .before .unflat-table .ensures) at (c .before .judge .ensures))
 
 pub scullpouch-judge-spec : {M : Type 1} → statement M
-scullpouch-judge-spec =
-    tie.close (tie.spec (λ c κs. tt) (λ c κs. tt) (λ c κs. tt) returns)
+scullpouch-judge-spec = tie.close (tie.spec (λ c κs. tt) (λ c κs. tt) (λ c κs. tt) returns)

@@ -6,5 +6,4 @@ returns : tie.Need-returns
 returns c = rw (c .before .unflat-table .ensures) at (c .last-trading-day .ensures)
 
 pub scullpouch-last-trading-day-spec : {M : Type 1} → statement M
-scullpouch-last-trading-day-spec =
-    tie.close (tie.spec (λ c κs. tt) (λ c κs. tt) returns)
+scullpouch-last-trading-day-spec = tie.close (tie.spec (λ c κs. tt) (λ c κs. tt) returns)

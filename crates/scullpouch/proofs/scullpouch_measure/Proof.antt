@@ -8,5 +8,4 @@ returns : tie.Need-returns
 returns c = c .measured-on .ensures ∙ ap (measuredOn _) (rw (c .before .before .unflat-table .ensures) at (c .before .measure .ensures))
 
 pub scullpouch-measure-spec : {M : Type 1} → statement M
-scullpouch-measure-spec =
-    tie.close (tie.spec (λ c κs. tt) (λ c κs. tt) (λ c κs. tt) returns)
+scullpouch-measure-spec = tie.close (tie.spec (λ c κs. tt) (λ c κs. tt) (λ c κs. tt) returns)

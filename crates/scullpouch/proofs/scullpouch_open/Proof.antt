@@ -8,5 +8,4 @@ returns : tie.Need-returns
 returns c = c .flat-outcome .ensures ∙ ap flatOutcome (c .before .«open» .ensures)
 
 pub scullpouch-open-spec : {M : Type 1} → statement M
-scullpouch-open-spec =
-    tie.close (tie.spec (λ c κs. tt) (λ c κs. tt) (λ c κs. tt) returns)
+scullpouch-open-spec = tie.close (tie.spec (λ c κs. tt) (λ c κs. tt) (λ c κs. tt) returns)

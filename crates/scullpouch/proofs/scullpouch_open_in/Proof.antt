@@ -8,5 +8,4 @@ returns : tie.Need-returns
 returns c = c .flat-outcome .ensures ∙ ap flatOutcome (c .before .open-in .ensures)
 
 pub scullpouch-open-in-spec : {M : Type 1} → statement M
-scullpouch-open-in-spec =
-    tie.close (tie.spec (λ c κs. tt) (λ c κs. tt) returns)
+scullpouch-open-in-spec = tie.close (tie.spec (λ c κs. tt) (λ c κs. tt) returns)

@@ -6,15 +6,6 @@ use Rattle.session_apart.proofs.Keeping.{map-store}
 use Rattle.session_apart.proofs.close_in.Statement.{statement}
 use Rattle.session_apart.proofs.close_in.Tie as tie
 
-sub-bit : tie.Need-sub-bit
-sub-bit c = search needs
-
-cast-bit : tie.Need-cast-bit
-cast-bit c = search needs
-
-shl-bit : tie.Need-shl-bit
-shl-bit c = search needs
-
 element-copy-out-byte : tie.Need-element-copy-out-byte
 element-copy-out-byte c = omega (arith, c .slot-of .ensures, c .before .pre .1)
 
@@ -25,13 +16,4 @@ returns : tie.Need-returns
 returns c = map-store _ _ _ _ (c .before .slot-of .ensures) (c .before .before .pre .0)
 
 pub close-in-spec : {M : Type 1} → statement M
-close-in-spec =
-    tie.close
-    (tie.spec
-    (λ c κs. tt)
-    sub-bit
-    cast-bit
-    shl-bit
-    element-copy-out-byte
-    element-write-closed
-    returns)
+close-in-spec = tie.close (tie.spec (λ c κs. tt) (λ c. search needs) (λ c. search needs) (λ c. search needs) element-copy-out-byte element-write-closed returns)

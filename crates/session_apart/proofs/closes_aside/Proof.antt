@@ -61,18 +61,5 @@ returns-8 c = λ e.
 
 pub closes-aside-spec : {M : Type 1} → statement M
 closes-aside-spec =
-    tie.close
-    (tie.spec
-    returns
-    returns-2
-    (λ c κs. tt)
-    returns-3
-    returns-4
-    (λ c κs. tt)
-    returns-5
-    (λ c κs. tt)
-    returns-6
-    (λ c κs. tt)
-    returns-7
-    (λ c κs. tt)
+    tie.close (tie.spec returns returns-2 (λ c κs. tt) returns-3 returns-4 (λ c κs. tt) returns-5 (λ c κs. tt) returns-6 (λ c κs. tt) returns-7 (λ c κs. tt)
     returns-8)

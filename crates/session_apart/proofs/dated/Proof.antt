@@ -3,8 +3,5 @@ use mathlib.Core.Path.{refl}
 use Rattle.session_apart.proofs.dated.Statement.{statement}
 use Rattle.session_apart.proofs.dated.Tie as tie
 
-returns : tie.Need-returns
-returns c = refl
-
 pub dated-spec : {M : Type 1} → statement M
-dated-spec = tie.close (tie.spec returns)
+dated-spec = tie.close (tie.spec (λ c. refl))

@@ -88,18 +88,5 @@ returns-3 c = λ w.
 
 pub reply-spec : {M : Type 1} → statement M
 reply-spec =
-    tie.close
-    (tie.spec
-    (λ c κs. tt)
-    (λ c κs. tt)
-    (λ c κs. tt)
-    same-length
-    returns
-    (λ c κs. tt)
-    (λ c κs. tt)
-    same-length-2
-    returns-2
-    (λ c κs. tt)
-    (λ c κs. tt)
-    same-length-3
-    returns-3)
+    tie.close (tie.spec (λ c κs. tt) (λ c κs. tt) (λ c κs. tt) same-length returns (λ c κs. tt) (λ c κs. tt) same-length-2 returns-2 (λ c κs. tt) (λ c κs. tt)
+    same-length-3 returns-3)

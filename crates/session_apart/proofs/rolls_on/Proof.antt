@@ -23,9 +23,6 @@ returns-3 c = λ e. absurd (true≢false (sym e))
 returns-4 : tie.Need-returns-4
 returns-4 c = λ e. absurd (true≢false (sym e))
 
-array-copy-out-first : tie.Need-array-copy-out-first
-array-copy-out-first c = omega arith
-
 returns-5 : tie.Need-returns-5
 returns-5 c = λ e.
     let at-front-key-in = c .before in
@@ -43,14 +40,4 @@ returns-5 c = λ e.
     )
 
 pub rolls-on-spec : {M : Type 1} → statement M
-rolls-on-spec =
-    tie.close
-    (tie.spec
-    returns
-    returns-2
-    (λ c κs. tt)
-    returns-3
-    returns-4
-    array-copy-out-first
-    (λ c κs. tt)
-    returns-5)
+rolls-on-spec = tie.close (tie.spec returns returns-2 (λ c κs. tt) returns-3 returns-4 (λ c. omega arith) (λ c κs. tt) returns-5)

@@ -3,8 +3,5 @@ use mathlib.Core.Path.{refl}
 use Rattle.session_apart.proofs.table_of.Statement.{statement}
 use Rattle.session_apart.proofs.table_of.Tie as tie
 
-returns : tie.Need-returns
-returns c = refl
-
 pub table-of-spec : {M : Type 1} → statement M
-table-of-spec = tie.close (tie.spec returns)
+table-of-spec = tie.close (tie.spec (λ c. refl))

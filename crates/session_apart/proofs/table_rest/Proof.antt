@@ -3,8 +3,5 @@ use mathlib.Core.Path.{refl}
 use Rattle.session_apart.proofs.table_rest.Statement.{statement}
 use Rattle.session_apart.proofs.table_rest.Tie as tie
 
-returns : tie.Need-returns
-returns c = refl
-
 pub table-rest-spec : {M : Type 1} → statement M
-table-rest-spec = tie.close (tie.spec returns)
+table-rest-spec = tie.close (tie.spec (λ c. refl))

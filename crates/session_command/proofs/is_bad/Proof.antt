@@ -3,11 +3,5 @@ use mathlib.Core.Path.{refl}
 use Rattle.session_command.proofs.is_bad.Statement.{statement}
 use Rattle.session_command.proofs.is_bad.Tie as tie
 
-returns : tie.Need-returns
-returns c = refl
-
 pub is-bad-spec : {M : Type 1} → statement M
-is-bad-spec =
-    tie.close
-    (tie.spec
-    returns)
+is-bad-spec = tie.close (tie.spec (λ c. refl))

@@ -9,8 +9,4 @@ unfolding nothingKept
 returns c = rw (c .zero-table .ensures) refl
 
 pub nothing-kept-spec : {M : Type 1} → statement M
-nothing-kept-spec =
-    tie.close
-    (tie.spec
-    (λ c κs. tt)
-    returns)
+nothing-kept-spec = tie.close (tie.spec (λ c κs. tt) returns)

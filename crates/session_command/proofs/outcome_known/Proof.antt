@@ -21,14 +21,4 @@ returns-4 c = λ k. c .close-sound .ensures (said-yes k (c .before .before .if2 
     closes _ _ _ (c .before .before .before .if1 .left) (c .before .if3 .left)
 
 pub outcome-known-spec : {M : Type 1} → statement M
-outcome-known-spec =
-    tie.close
-    (tie.spec
-    (λ c κs. tt)
-    returns
-    (λ c κs. tt)
-    returns-2
-    (λ c κs. tt)
-    returns-3
-    (λ c κs. tt)
-    returns-4)
+outcome-known-spec = tie.close (tie.spec (λ c κs. tt) returns (λ c κs. tt) returns-2 (λ c κs. tt) returns-3 (λ c κs. tt) returns-4)

@@ -44,15 +44,4 @@ returns-2 c =
     (λ h. record { on = v .0; within = v .1 h; none = v .3; found = λ l. absurd (omega arith) }, v .2)
 
 pub byte-from-spec : {M : Type 1} → statement M
-byte-from-spec =
-    tie.close
-    (tie.spec
-    Inv-loop
-    μ-loop
-    loop-holds
-    shared-slice-read-if1
-    returns
-    add-i
-    loop-less
-    loop-again
-    returns-2)
+byte-from-spec = tie.close (tie.spec Inv-loop μ-loop loop-holds shared-slice-read-if1 returns add-i loop-less loop-again returns-2)

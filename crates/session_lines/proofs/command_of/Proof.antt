@@ -7,9 +7,6 @@ use mathlib.Core.Path.{_∙_}
 use Rattle.session_lines.proofs.command_of.Statement.{statement}
 use Rattle.session_lines.proofs.command_of.Tie as tie
 
-array-read-if1 : tie.Need-array-read-if1
-array-read-if1 c = omega arith
-
 returns : tie.Need-returns
 unfolding lineCommand
 returns c = c .open-command .ensures ∙ begins-o _ _ (c .before .if1 .taken)
@@ -19,11 +16,4 @@ unfolding lineCommand
 returns-2 c = c .move-command .ensures ∙ begins-else _ _ (c .before .if1 .left)
 
 pub command-of-spec : {M : Type 1} → statement M
-command-of-spec =
-    tie.close
-    (tie.spec
-    array-read-if1
-    (λ c κs. tt)
-    returns
-    (λ c κs. tt)
-    returns-2)
+command-of-spec = tie.close (tie.spec (λ c. omega arith) (λ c κs. tt) returns (λ c κs. tt) returns-2)

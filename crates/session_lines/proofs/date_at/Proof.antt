@@ -10,46 +10,16 @@ use borrow.Author.Needs.{needs}
 use Rattle.session_lines.proofs.date_at.Statement.{statement}
 use Rattle.session_lines.proofs.date_at.Tie as tie
 
-is-date-form-requires : tie.Need-is-date-form-requires
-is-date-form-requires c κs = omega arith
-
 -- ---- not the form of a date
 returns : tie.Need-returns
 returns c = date-formless _ _ (said-no (c .before .is-date-form .ensures) (c .if1 .taken))
-
-two-value-requires : tie.Need-two-value-requires
-two-value-requires c κs = omega arith
 
 -- ---- the numbers fit, and the bytes are within the line
 mul-year : tie.Need-mul-year
 mul-year c = omega (arith, c .two-value .ensures .1)
 
-add-two-value : tie.Need-add-two-value
-add-two-value c = omega arith
-
-two-value-requires-2 : tie.Need-two-value-requires-2
-two-value-requires-2 c κs = omega arith
-
 add-year : tie.Need-add-year
 add-year c = omega (arith, c .before .two-value .ensures .1, c .two-value2 .ensures .1)
-
-add-two-value-2 : tie.Need-add-two-value-2
-add-two-value-2 c = omega arith
-
-two-value-requires-3 : tie.Need-two-value-requires-3
-two-value-requires-3 c κs = omega arith
-
-add-two-value-3 : tie.Need-add-two-value-3
-add-two-value-3 c = omega arith
-
-two-value-requires-4 : tie.Need-two-value-requires-4
-two-value-requires-4 c κs = omega arith
-
-enum-known-day : tie.Need-enum-known-day
-enum-known-day c = search needs
-
-enum-told : tie.Need-enum-told
-enum-told c = search needs
 
 -- ---- a day
 returns-2 : tie.Need-returns-2
@@ -84,21 +54,5 @@ returns-3 c =
 
 pub date-at-spec : {M : Type 1} → statement M
 date-at-spec =
-    tie.close
-    (tie.spec
-    is-date-form-requires
-    returns
-    two-value-requires
-    mul-year
-    add-two-value
-    two-value-requires-2
-    add-year
-    add-two-value-2
-    two-value-requires-3
-    add-two-value-3
-    two-value-requires-4
-    (λ c κs. tt)
-    enum-known-day
-    enum-told
-    returns-2
-    returns-3)
+    tie.close (tie.spec (λ c κs. omega arith) returns (λ c κs. omega arith) mul-year (λ c. omega arith) (λ c κs. omega arith) add-year (λ c. omega arith)
+    (λ c κs. omega arith) (λ c. omega arith) (λ c κs. omega arith) (λ c κs. tt) (λ c. search needs) (λ c. search needs) returns-2 returns-3)

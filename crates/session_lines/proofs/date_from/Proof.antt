@@ -12,16 +12,8 @@ returns c =
     let l : length (c .before .args .line .bytes) ≡ 64 = simp length-map at (c .before .good .0 .1 .1 .0 .1 .0 .1) in
     date-beyond (c .before .args .line .bytes) _ l (c .if1 .taken)
 
-date-at-requires : tie.Need-date-at-requires
-date-at-requires c κs = omega arith
-
 returns-2 : tie.Need-returns-2
 returns-2 c = c .date-at .ensures
 
 pub date-from-spec : {M : Type 1} → statement M
-date-from-spec =
-    tie.close
-    (tie.spec
-    returns
-    date-at-requires
-    returns-2)
+date-from-spec = tie.close (tie.spec returns (λ c κs. omega arith) returns-2)

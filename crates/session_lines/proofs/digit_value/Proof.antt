@@ -7,16 +7,8 @@ use Rattle.session_lines.proofs.digit_value.Tie as tie
 returns : tie.Need-returns
 returns c = (omega arith, omega arith)
 
-cast-result : tie.Need-cast-result
-cast-result c = omega arith
-
 returns-2 : tie.Need-returns-2
 returns-2 c = (refl, omega arith)
 
 pub digit-value-spec : {M : Type 1} → statement M
-digit-value-spec =
-    tie.close
-    (tie.spec
-    returns
-    cast-result
-    returns-2)
+digit-value-spec = tie.close (tie.spec returns (λ c. omega arith) returns-2)

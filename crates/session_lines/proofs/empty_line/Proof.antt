@@ -9,7 +9,4 @@ unfolding emptyLine
 returns c = refl
 
 pub empty-line-spec : {M : Type 1} → statement M
-empty-line-spec =
-    tie.close
-    (tie.spec
-    returns)
+empty-line-spec = tie.close (tie.spec returns)

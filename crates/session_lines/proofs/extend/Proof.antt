@@ -11,21 +11,9 @@ returns : tie.Need-returns
 unfolding extended
 returns c = rw (le-ltb (c .before .args .line .length) 64 (c .if1 .taken)) refl
 
-array-write-bytes : tie.Need-array-write-bytes
-array-write-bytes c = omega arith
-
-add-t9 : tie.Need-add-t9
-add-t9 c = omega arith
-
 returns-2 : tie.Need-returns-2
 unfolding extended
 returns-2 c = rw (lt-ltb (c .before .before .args .line .length) 64 (c .before .if1 .left)) refl
 
 pub extend-spec : {M : Type 1} → statement M
-extend-spec =
-    tie.close
-    (tie.spec
-    returns
-    array-write-bytes
-    add-t9
-    returns-2)
+extend-spec = tie.close (tie.spec returns (λ c. omega arith) (λ c. omega arith) returns-2)

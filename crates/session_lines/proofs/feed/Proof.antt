@@ -44,17 +44,4 @@ returns-2 : tie.Need-returns-2 Inv-loop μ-loop
 returns-2 c = sym (fed-done _ _ _ (c .loop-test .left)) ∙ c .before .loop .inv
 
 pub feed-spec : {M : Type 1} → statement M
-feed-spec =
-    tie.close
-    (tie.spec
-    Inv-loop
-    μ-loop
-    loop-holds
-    returns
-    shared-slice-read-held
-    array-write-held
-    add-n
-    add-i
-    loop-less
-    loop-again
-    returns-2)
+feed-spec = tie.close (tie.spec Inv-loop μ-loop loop-holds returns shared-slice-read-held array-write-held add-n add-i loop-less loop-again returns-2)

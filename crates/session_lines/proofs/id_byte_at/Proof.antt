@@ -6,12 +6,6 @@ use borrow.Author.Tests.{lt-ltb, le-ltb}
 use Rattle.session_lines.proofs.id_byte_at.Statement.{statement}
 use Rattle.session_lines.proofs.id_byte_at.Tie as tie
 
-add-result : tie.Need-add-result
-add-result c = omega arith
-
-array-read-result : tie.Need-array-read-result
-array-read-result c = omega arith
-
 returns : tie.Need-returns
 returns c = rw (lt-ltb (c .before .args .i) (c .before .args .k) (c .if1 .taken)) refl
 
@@ -19,10 +13,4 @@ returns-2 : tie.Need-returns-2
 returns-2 c = rw (le-ltb (c .before .args .i) (c .before .args .k) (c .if1 .left)) refl
 
 pub id-byte-at-spec : {M : Type 1} → statement M
-id-byte-at-spec =
-    tie.close
-    (tie.spec
-    add-result
-    array-read-result
-    returns
-    returns-2)
+id-byte-at-spec = tie.close (tie.spec (λ c. omega arith) (λ c. omega arith) returns returns-2)

@@ -4,18 +4,6 @@ use native.Mathlib.Omega.{arith}
 use Rattle.session_lines.proofs.id_in_line.Statement.{statement}
 use Rattle.session_lines.proofs.id_in_line.Tie as tie
 
-id-byte-at-requires : tie.Need-id-byte-at-requires
-id-byte-at-requires c κs = omega arith
-
-id-byte-at-requires-2 : tie.Need-id-byte-at-requires-2
-id-byte-at-requires-2 c κs = omega arith
-
-id-byte-at-requires-3 : tie.Need-id-byte-at-requires-3
-id-byte-at-requires-3 c κs = omega arith
-
-id-byte-at-requires-4 : tie.Need-id-byte-at-requires-4
-id-byte-at-requires-4 c κs = omega arith
-
 returns : tie.Need-returns
 unfolding idInLine
 returns c = rw (
@@ -26,11 +14,4 @@ returns c = rw (
 )
 
 pub id-in-line-spec : {M : Type 1} → statement M
-id-in-line-spec =
-    tie.close
-    (tie.spec
-    id-byte-at-requires
-    id-byte-at-requires-2
-    id-byte-at-requires-3
-    id-byte-at-requires-4
-    returns)
+id-in-line-spec = tie.close (tie.spec (λ c κs. omega arith) (λ c κs. omega arith) (λ c κs. omega arith) (λ c κs. omega arith) returns)

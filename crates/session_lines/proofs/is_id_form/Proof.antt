@@ -59,16 +59,5 @@ returns-2 c =
 
 pub is-id-form-spec : {M : Type 1} → statement M
 is-id-form-spec =
-    tie.close
-    (tie.spec
-    Inv-loop
-    μ-loop
-    loop-holds
-    add-is-id-character
-    array-read-is-id-character
-    is-id-character-requires
-    returns
-    add-i
-    loop-less
-    loop-again
+    tie.close (tie.spec Inv-loop μ-loop loop-holds add-is-id-character array-read-is-id-character is-id-character-requires returns add-i loop-less loop-again
     returns-2)

@@ -12,29 +12,8 @@ returns c = sym (open-few _ _ (c .if1 .taken))
 returns-2 : tie.Need-returns-2
 returns-2 c = sym (open-many _ _ (c .if2 .taken))
 
-array-read-result : tie.Need-array-read-result
-array-read-result c = omega arith
-
-is-id-form-requires : tie.Need-is-id-form-requires
-is-id-form-requires c κs = omega arith
-
-add-result : tie.Need-add-result
-add-result c = omega arith
-
-array-read-result-2 : tie.Need-array-read-result-2
-array-read-result-2 c = omega arith
-
 returns-3 : tie.Need-returns-3
 returns-3 c = open-rest _ _ _ (c .before .before .if1 .left) (c .before .if2 .left) (c .is-id-form .ensures)
 
 pub is-open-form-spec : {M : Type 1} → statement M
-is-open-form-spec =
-    tie.close
-    (tie.spec
-    returns
-    returns-2
-    array-read-result
-    is-id-form-requires
-    add-result
-    array-read-result-2
-    returns-3)
+is-open-form-spec = tie.close (tie.spec returns returns-2 (λ c. omega arith) (λ c κs. omega arith) (λ c. omega arith) (λ c. omega arith) returns-3)

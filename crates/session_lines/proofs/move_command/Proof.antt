@@ -7,20 +7,11 @@ use native.Mathlib.Omega.{arith}
 use Rattle.session_lines.proofs.move_command.Statement.{statement}
 use Rattle.session_lines.proofs.move_command.Tie as tie
 
-array-read-letter : tie.Need-array-read-letter
-array-read-letter c = omega arith
-
 returns : tie.Need-returns
 returns c = c .other-line .ensures ∙ move-length _ _ (c .before .if1 .taken)
 
-array-read-if2 : tie.Need-array-read-if2
-array-read-if2 c = omega arith
-
 returns-2 : tie.Need-returns-2
 returns-2 c = c .other-line2 .ensures ∙ move-formless _ _ (c .before .before .if1 .left) (not-true _ (c .before .if2 .taken))
-
-date-at-requires : tie.Need-date-at-requires
-date-at-requires c κs = omega arith
 
 returns-3 : tie.Need-returns-3
 returns-3 c =
@@ -36,15 +27,5 @@ returns-4 c = move-is _ _ (c .before .before .before .before .if1 .left) (not-fa
 
 pub move-command-spec : {M : Type 1} → statement M
 move-command-spec =
-    tie.close
-    (tie.spec
-    array-read-letter
-    (λ c κs. tt)
-    returns
-    array-read-if2
-    (λ c κs. tt)
-    returns-2
-    date-at-requires
-    (λ c κs. tt)
-    returns-3
+    tie.close (tie.spec (λ c. omega arith) (λ c κs. tt) returns (λ c. omega arith) (λ c κs. tt) returns-2 (λ c κs. omega arith) (λ c κs. tt) returns-3
     returns-4)

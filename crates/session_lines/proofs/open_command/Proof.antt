@@ -15,9 +15,6 @@ returns c = c .other-line .ensures ∙ open-short _ _ (c .before .if1 .taken)
 returns-2 : tie.Need-returns-2
 returns-2 c = c .other-line2 .ensures ∙ open-formless _ _ (said-no (c .before .before .is-open-form .ensures) (c .before .if2 .taken))
 
-add-date-at : tie.Need-add-date-at
-add-date-at c = omega arith
-
 date-at-requires : tie.Need-date-at-requires
 date-at-requires c κs = omega (arith, open-most _ _ (said-yes (c .before .is-open-form .ensures) (c .if2 .left)))
 
@@ -39,16 +36,5 @@ returns-4 c =
 
 pub open-command-spec : {M : Type 1} → statement M
 open-command-spec =
-    tie.close
-    (tie.spec
-    (λ c κs. tt)
-    returns
-    (λ c κs. tt)
-    (λ c κs. tt)
-    returns-2
-    add-date-at
-    date-at-requires
-    (λ c κs. tt)
-    returns-3
-    (λ c κs. tt)
+    tie.close (tie.spec (λ c κs. tt) returns (λ c κs. tt) (λ c κs. tt) returns-2 (λ c. omega arith) date-at-requires (λ c κs. tt) returns-3 (λ c κs. tt)
     returns-4)

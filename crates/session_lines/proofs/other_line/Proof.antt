@@ -3,11 +3,5 @@ use mathlib.Core.Path.{refl}
 use Rattle.session_lines.proofs.other_line.Statement.{statement}
 use Rattle.session_lines.proofs.other_line.Tie as tie
 
-returns : tie.Need-returns
-returns c = refl
-
 pub other-line-spec : {M : Type 1} → statement M
-other-line-spec =
-    tie.close
-    (tie.spec
-    returns)
+other-line-spec = tie.close (tie.spec (λ c. refl))

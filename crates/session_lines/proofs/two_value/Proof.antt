@@ -4,17 +4,8 @@ use native.Mathlib.Omega.{arith}
 use Rattle.session_lines.proofs.two_value.Statement.{statement}
 use Rattle.session_lines.proofs.two_value.Tie as tie
 
-array-read-digit-value : tie.Need-array-read-digit-value
-array-read-digit-value c = omega arith
-
 mul-result : tie.Need-mul-result
 mul-result c = omega (arith, c .digit-value .ensures .1)
-
-add-digit-value : tie.Need-add-digit-value
-add-digit-value c = omega arith
-
-array-read-digit-value-2 : tie.Need-array-read-digit-value-2
-array-read-digit-value-2 c = omega arith
 
 add-result : tie.Need-add-result
 add-result c = omega (arith, c .before .digit-value .ensures .1, c .digit-value2 .ensures .1)
@@ -26,14 +17,4 @@ returns c = (
 )
 
 pub two-value-spec : {M : Type 1} → statement M
-two-value-spec =
-    tie.close
-    (tie.spec
-    array-read-digit-value
-    (λ c κs. tt)
-    mul-result
-    add-digit-value
-    array-read-digit-value-2
-    (λ c κs. tt)
-    add-result
-    returns)
+two-value-spec = tie.close (tie.spec (λ c. omega arith) (λ c κs. tt) mul-result (λ c. omega arith) (λ c. omega arith) (λ c κs. tt) add-result returns)

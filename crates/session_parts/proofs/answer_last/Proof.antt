@@ -8,11 +8,8 @@ use Rattle.session_parts.proofs.answer_last.Tie as tie
 returns : tie.Need-returns
 returns c = no-last _ _ _ _ (c .if1 .taken)
 
-same-length : tie.Need-same-length
-same-length c = search needs
-
 returns-2 : tie.Need-returns-2
 returns-2 c = last _ _ _ _ _ _ (c .before .before .before .before .if1 .left) (c .before .before .answer .ensures .1)
 
 pub answer-last-spec : {M : Type 1} → statement M
-answer-last-spec = tie.close (tie.spec returns (λ c κs. tt) same-length returns-2)
+answer-last-spec = tie.close (tie.spec returns (λ c κs. tt) (λ c. search needs) returns-2)

@@ -37,9 +37,6 @@ add-next c =
     let start = at-if1 .before .before .before .before .before .before .before .before .before in
     omega (arith, at-if1 .if1 .left, start .good .1 .1 .1 .1 .1 .1 .0 .0)
 
-same-length : tie.Need-same-length
-same-length c = search needs
-
 returns-2 : tie.Need-returns-2
 returns-2 c =
     let at-reply = c .before .before .before in
@@ -57,16 +54,5 @@ returns-2 c =
 
 pub answer-next-spec : {M : Type 1} → statement M
 answer-next-spec =
-    tie.close
-    (tie.spec
-    (λ c κs. tt)
-    sub-feed
-    part-feed-start
-    part-feed-end
-    (λ c κs. tt)
-    returns
-    (λ c κs. tt)
-    (λ c κs. tt)
-    add-next
-    same-length
+    tie.close (tie.spec (λ c κs. tt) sub-feed part-feed-start part-feed-end (λ c κs. tt) returns (λ c κs. tt) (λ c κs. tt) add-next (λ c. search needs)
     returns-2)

@@ -83,18 +83,5 @@ returns c =
 
 pub answer-part-spec : {M : Type 1} → statement M
 answer-part-spec =
-    tie.close
-    (tie.spec
-    Inv-loop
-    μ-loop
-    is-calendar-sound-requires
-    is-sound-requires
-    table-rest-requires
-    loop-holds
-    goes-on-requires
-    answer-next-requires
-    loop-less
-    loop-again
-    put-together-requires
-    same-length
-    returns)
+    tie.close (tie.spec Inv-loop μ-loop is-calendar-sound-requires is-sound-requires table-rest-requires loop-holds goes-on-requires answer-next-requires
+    loop-less loop-again put-together-requires same-length returns)

@@ -5,15 +5,6 @@ use borrow.Author.Needs.{needs}
 use Rattle.session_text.proofs.date_or_zeros.Statement.{statement}
 use Rattle.session_text.proofs.date_or_zeros.Tie as tie
 
-date-of-day-requires : tie.Need-date-of-day-requires
-date-of-day-requires c κs = search needs
-
-enum-known-date : tie.Need-enum-known-date
-enum-known-date c = search needs
-
-enum-told : tie.Need-enum-told
-enum-told c = search needs
-
 returns : tie.Need-returns
 returns c = is-date _ _ _ (c .before .before .before .date-of-day .ensures) (c .before .date .given .1)
 
@@ -21,5 +12,4 @@ returns-2 : tie.Need-returns-2
 returns-2 c = no-date _ _ (c .before .before .date-of-day .ensures) (c .enum-told .given .1)
 
 pub date-or-zeros-spec : {M : Type 1} → statement M
-date-or-zeros-spec =
-    tie.close (tie.spec date-of-day-requires enum-known-date enum-told returns returns-2)
+date-or-zeros-spec = tie.close (tie.spec (λ c κs. search needs) (λ c. search needs) (λ c. search needs) returns returns-2)

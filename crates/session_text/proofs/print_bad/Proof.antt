@@ -7,9 +7,6 @@ use borrow.Author.Needs.{needs}
 use Rattle.session_text.proofs.print_bad.Statement.{statement}
 use Rattle.session_text.proofs.print_bad.Tie as tie
 
-same-length : tie.Need-same-length
-same-length c = search needs
-
 returns : tie.Need-returns
 returns c = unprinted (said-no (c .before .has-room .ensures) (c .if1 .taken))
 
@@ -28,6 +25,4 @@ returns-2 c =
     printed yes-has-room (w .0) (omega (arith, w .1))
 
 pub print-bad-spec : {M : Type 1} → statement M
-print-bad-spec =
-    tie.close
-    (tie.spec (λ c κs. tt) same-length returns put-bad-requires same-length-2 returns-2)
+print-bad-spec = tie.close (tie.spec (λ c κs. tt) (λ c. search needs) returns put-bad-requires same-length-2 returns-2)

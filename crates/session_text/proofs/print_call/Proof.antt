@@ -6,9 +6,6 @@ use borrow.Author.Needs.{needs}
 use Rattle.session_text.proofs.print_call.Statement.{statement}
 use Rattle.session_text.proofs.print_call.Tie as tie
 
-same-length : tie.Need-same-length
-same-length c = search needs
-
 returns : tie.Need-returns
 returns c = unprinted (said-no (c .before .has-room .ensures) (c .if1 .taken))
 
@@ -27,6 +24,4 @@ returns-2 c =
     printed yes-has-room (w .0) (omega (arith, w .1))
 
 pub print-call-spec : {M : Type 1} → statement M
-print-call-spec =
-    tie.close
-    (tie.spec (λ c κs. tt) same-length returns put-call-requires same-length-2 returns-2)
+print-call-spec = tie.close (tie.spec (λ c κs. tt) (λ c. search needs) returns put-call-requires same-length-2 returns-2)

@@ -7,12 +7,6 @@ use borrow.Author.Needs.{needs}
 use Rattle.session_text.proofs.put_call.Statement.{statement}
 use Rattle.session_text.proofs.put_call.Tie as tie
 
-put-heading-requires : tie.Need-put-heading-requires
-put-heading-requires c κs = omega arith
-
-cast-put-maturities : tie.Need-cast-put-maturities
-cast-put-maturities c = search needs
-
 put-maturities-requires : tie.Need-put-maturities-requires
 put-maturities-requires c κs =
     let at-put-heading = c .before .before .before in
@@ -35,5 +29,4 @@ returns c =
     (rw (← at-places-of-kind .places-of-kind .ensures .0) (then (h .0) (m .0)), omega (arith, h .1, m .1))
 
 pub put-call-spec : {M : Type 1} → statement M
-put-call-spec =
-    tie.close (tie.spec (λ c κs. tt) put-heading-requires cast-put-maturities put-maturities-requires same-length returns)
+put-call-spec = tie.close (tie.spec (λ c κs. tt) (λ c κs. omega arith) (λ c. search needs) put-maturities-requires same-length returns)

@@ -7,21 +7,6 @@ use borrow.Author.Needs.{needs}
 use Rattle.session_text.proofs.put_day.Statement.{statement}
 use Rattle.session_text.proofs.put_day.Tie as tie
 
-date-or-zeros-requires : tie.Need-date-or-zeros-requires
-date-or-zeros-requires c κs = search needs
-
-put-year-month-requires : tie.Need-put-year-month-requires
-put-year-month-requires c κs = search needs
-
-put-requires : tie.Need-put-requires
-put-requires c κs = search needs
-
-put-two-requires : tie.Need-put-two-requires
-put-two-requires c κs = search needs
-
-same-length : tie.Need-same-length
-same-length c = search needs
-
 returns : tie.Need-returns
 unfolding dayText dateText
 returns c =
@@ -34,5 +19,4 @@ returns c =
     )
 
 pub put-day-spec : {M : Type 1} → statement M
-put-day-spec =
-    tie.close (tie.spec date-or-zeros-requires put-year-month-requires put-requires put-two-requires same-length returns)
+put-day-spec = tie.close (tie.spec (λ c κs. search needs) (λ c κs. search needs) (λ c κs. search needs) (λ c κs. search needs) (λ c. search needs) returns)

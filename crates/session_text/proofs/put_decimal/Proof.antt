@@ -8,12 +8,6 @@ use borrow.Author.Needs.{needs}
 use Rattle.session_text.proofs.put_decimal.Statement.{statement}
 use Rattle.session_text.proofs.put_decimal.Tie as tie
 
-put-digit-requires : tie.Need-put-digit-requires
-put-digit-requires c κs = search needs
-
-same-length : tie.Need-same-length
-same-length c = search needs
-
 -- ---- one and two digits
 returns : tie.Need-returns
 returns c = (
@@ -21,26 +15,11 @@ returns c = (
   omega (arith, c .before .before .put-digit .ensures .1),
 )
 
-put-two-requires : tie.Need-put-two-requires
-put-two-requires c κs = search needs
-
-same-length-2 : tie.Need-same-length-2
-same-length-2 c = search needs
-
 returns-2 : tie.Need-returns-2
 returns-2 c =
     let at-if2 = c .before .before .before .before in
     let at-if1 = at-if2 .before in
     (rw (decimal-2 _ (at-if1 .if1 .left) (at-if2 .if2 .taken)) (c .before .before .put-two .ensures .0), omega (arith, c .before .before .put-two .ensures .1))
-
-put-digit-requires-2 : tie.Need-put-digit-requires-2
-put-digit-requires-2 c κs = search needs
-
-put-two-requires-2 : tie.Need-put-two-requires-2
-put-two-requires-2 c κs = search needs
-
-same-length-3 : tie.Need-same-length-3
-same-length-3 c = search needs
 
 -- ---- three and four digits
 returns-3 : tie.Need-returns-3
@@ -54,12 +33,6 @@ returns-3 c =
       omega (arith, at-put-digit2 .put-digit2 .ensures .1, c .before .before .put-two2 .ensures .1),
     )
 
-put-four-requires : tie.Need-put-four-requires
-put-four-requires c κs = search needs
-
-same-length-4 : tie.Need-same-length-4
-same-length-4 c = search needs
-
 returns-4 : tie.Need-returns-4
 returns-4 c =
     let at-if4 = c .before .before .before .before in
@@ -69,15 +42,6 @@ returns-4 c =
       rw (decimal-4 _ (at-if1 .if1 .left) (at-if2 .if2 .left) (at-if3 .if3 .left) (at-if4 .if4 .taken)) (c .before .before .put-four .ensures .0),
       omega (arith, c .before .before .put-four .ensures .1),
     )
-
-put-digit-requires-3 : tie.Need-put-digit-requires-3
-put-digit-requires-3 c κs = search needs
-
-put-four-requires-2 : tie.Need-put-four-requires-2
-put-four-requires-2 c κs = search needs
-
-same-length-5 : tie.Need-same-length-5
-same-length-5 c = search needs
 
 -- ---- five digits
 returns-5 : tie.Need-returns-5
@@ -94,22 +58,6 @@ returns-5 c =
 
 pub put-decimal-spec : {M : Type 1} → statement M
 put-decimal-spec =
-    tie.close
-    (tie.spec
-    put-digit-requires
-    same-length
-    returns
-    put-two-requires
-    same-length-2
-    returns-2
-    put-digit-requires-2
-    put-two-requires-2
-    same-length-3
-    returns-3
-    put-four-requires
-    same-length-4
-    returns-4
-    put-digit-requires-3
-    put-four-requires-2
-    same-length-5
-    returns-5)
+    tie.close (tie.spec (λ c κs. search needs) (λ c. search needs) returns (λ c κs. search needs) (λ c. search needs) returns-2 (λ c κs. search needs)
+    (λ c κs. search needs) (λ c. search needs) returns-3 (λ c κs. search needs) (λ c. search needs) returns-4 (λ c κs. search needs) (λ c κs. search needs)
+    (λ c. search needs) returns-5)

@@ -74,16 +74,4 @@ returns c =
 
 pub put-maturities-spec : {M : Type 1} → statement M
 put-maturities-spec =
-    tie.close
-    (tie.spec
-    Inv-loop
-    μ-loop
-    loop-holds
-    mul-m
-    array-copy-out-m
-    put-maturity-requires
-    add-i
-    loop-less
-    loop-again
-    same-length
-    returns)
+    tie.close (tie.spec Inv-loop μ-loop loop-holds mul-m array-copy-out-m put-maturity-requires add-i loop-less loop-again same-length returns)

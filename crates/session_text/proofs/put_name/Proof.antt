@@ -15,9 +15,6 @@ put-day-requires c κs = omega (
       (sym (c .before .before .is-weekly .ensures) ∙ c .before .if1 .taken),
 )
 
-same-length : tie.Need-same-length
-same-length c = search needs
-
 returns : tie.Need-returns
 unfolding nameText
 returns c =
@@ -34,9 +31,6 @@ put-month-requires c κs = omega (
       (sym (c .before .before .is-weekly .ensures) ∙ c .before .if1 .left),
 )
 
-same-length-2 : tie.Need-same-length-2
-same-length-2 c = search needs
-
 returns-2 : tie.Need-returns-2
 unfolding nameText
 returns-2 c =
@@ -47,5 +41,4 @@ returns-2 c =
     )
 
 pub put-name-spec : {M : Type 1} → statement M
-put-name-spec =
-    tie.close (tie.spec (λ c κs. tt) put-day-requires same-length returns put-month-requires same-length-2 returns-2)
+put-name-spec = tie.close (tie.spec (λ c κs. tt) put-day-requires (λ c. search needs) returns put-month-requires (λ c. search needs) returns-2)

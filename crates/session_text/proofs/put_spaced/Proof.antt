@@ -6,15 +6,6 @@ use borrow.Author.Needs.{needs}
 use Rattle.session_text.proofs.put_spaced.Statement.{statement}
 use Rattle.session_text.proofs.put_spaced.Tie as tie
 
-put-requires : tie.Need-put-requires
-put-requires c κs = search needs
-
-put-decimal-requires : tie.Need-put-decimal-requires
-put-decimal-requires c κs = search needs
-
-same-length : tie.Need-same-length
-same-length c = search needs
-
 returns : tie.Need-returns
 unfolding spaced
 returns c =
@@ -24,5 +15,4 @@ returns c =
     )
 
 pub put-spaced-spec : {M : Type 1} → statement M
-put-spaced-spec =
-    tie.close (tie.spec put-requires put-decimal-requires same-length returns)
+put-spaced-spec = tie.close (tie.spec (λ c κs. search needs) (λ c κs. search needs) (λ c. search needs) returns)

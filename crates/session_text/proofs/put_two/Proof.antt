@@ -6,15 +6,6 @@ use borrow.Author.Needs.{needs}
 use Rattle.session_text.proofs.put_two.Statement.{statement}
 use Rattle.session_text.proofs.put_two.Tie as tie
 
-put-digit-requires : tie.Need-put-digit-requires
-put-digit-requires c κs = search needs
-
-put-digit-requires-2 : tie.Need-put-digit-requires-2
-put-digit-requires-2 c κs = search needs
-
-same-length : tie.Need-same-length
-same-length c = search needs
-
 returns : tie.Need-returns
 unfolding inTwoDigits
 returns c =
@@ -24,5 +15,4 @@ returns c =
     )
 
 pub put-two-spec : {M : Type 1} → statement M
-put-two-spec =
-    tie.close (tie.spec put-digit-requires put-digit-requires-2 same-length returns)
+put-two-spec = tie.close (tie.spec (λ c κs. search needs) (λ c κs. search needs) (λ c. search needs) returns)

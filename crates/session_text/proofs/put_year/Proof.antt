@@ -7,37 +7,6 @@ use borrow.Author.Needs.{needs}
 use Rattle.session_text.proofs.put_year.Statement.{statement}
 use Rattle.session_text.proofs.put_year.Tie as tie
 
-put-four-requires : tie.Need-put-four-requires
-put-four-requires c κs = search needs
-
-same-length : tie.Need-same-length
-same-length c = search needs
-
--- ---- a year before 2000 or after 2099
-returns : tie.Need-returns
-returns c = search needs
-
-put-four-requires-2 : tie.Need-put-four-requires-2
-put-four-requires-2 c κs = search needs
-
-same-length-2 : tie.Need-same-length-2
-same-length-2 c = search needs
-
-returns-2 : tie.Need-returns-2
-returns-2 c = search needs
-
-put-requires : tie.Need-put-requires
-put-requires c κs = search needs
-
-put-requires-2 : tie.Need-put-requires-2
-put-requires-2 c κs = search needs
-
-put-two-requires : tie.Need-put-two-requires
-put-two-requires c κs = search needs
-
-same-length-3 : tie.Need-same-length-3
-same-length-3 c = search needs
-
 -- ---- a year from 2000 to 2099
 returns-3 : tie.Need-returns-3
 returns-3 c =
@@ -51,16 +20,5 @@ returns-3 c =
 
 pub put-year-spec : {M : Type 1} → statement M
 put-year-spec =
-    tie.close
-    (tie.spec
-    put-four-requires
-    same-length
-    returns
-    put-four-requires-2
-    same-length-2
-    returns-2
-    put-requires
-    put-requires-2
-    put-two-requires
-    same-length-3
-    returns-3)
+    tie.close (tie.spec (λ c κs. search needs) (λ c. search needs) (λ c. search needs) (λ c κs. search needs) (λ c. search needs) (λ c. search needs)
+    (λ c κs. search needs) (λ c κs. search needs) (λ c κs. search needs) (λ c. search needs) returns-3)

@@ -6,18 +6,6 @@ use borrow.Author.Needs.{needs}
 use Rattle.session_text.proofs.put_year_month.Statement.{statement}
 use Rattle.session_text.proofs.put_year_month.Tie as tie
 
-put-year-requires : tie.Need-put-year-requires
-put-year-requires c κs = search needs
-
-put-requires : tie.Need-put-requires
-put-requires c κs = search needs
-
-put-two-requires : tie.Need-put-two-requires
-put-two-requires c κs = search needs
-
-same-length : tie.Need-same-length
-same-length c = search needs
-
 returns : tie.Need-returns
 unfolding yearMonth
 returns c =
@@ -28,5 +16,4 @@ returns c =
     )
 
 pub put-year-month-spec : {M : Type 1} → statement M
-put-year-month-spec =
-    tie.close (tie.spec put-year-requires put-requires put-two-requires same-length returns)
+put-year-month-spec = tie.close (tie.spec (λ c κs. search needs) (λ c κs. search needs) (λ c κs. search needs) (λ c. search needs) returns)

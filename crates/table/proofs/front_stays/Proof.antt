@@ -4,11 +4,8 @@ use native.Mathlib.Omega.{arith}
 use Rattle.table.proofs.front_stays.Statement.{statement}
 use Rattle.table.proofs.front_stays.Tie as tie
 
-array-copy-out-first : tie.Need-array-copy-out-first
-array-copy-out-first c = omega arith
-
 returns : tie.Need-returns
 returns c = rw (c .before .front-key .ensures)
 
 pub front-stays-spec : {M : Type 1} → statement M
-front-stays-spec = tie.close (tie.spec array-copy-out-first (λ c κs. tt) returns)
+front-stays-spec = tie.close (tie.spec (λ c. omega arith) (λ c κs. tt) returns)

@@ -35,9 +35,6 @@ returns-3 c =
     sym (listing-few t yes-is-fresh (said-yes (at-are-numbers-right .are-numbers-right .ensures) (at-if2 .if2 .left)) _
     (c .before .before .places-of-kind .ensures .0) (c .if3 .taken))
 
-array-copy-out-first : tie.Need-array-copy-out-first
-array-copy-out-first c = omega arith
-
 -- ---- the keys of the cover before the front
 returns-4 : tie.Need-returns-4
 returns-4 c =
@@ -55,15 +52,4 @@ returns-4 c =
     (keys-there t (fresh .0) (fresh .1) _ (c .keys-before .ensures))
 
 pub is-listing-sound-spec : {M : Type 1} → statement M
-is-listing-sound-spec =
-    tie.close
-    (tie.spec
-    (λ c κs. tt)
-    returns
-    (λ c κs. tt)
-    returns-2
-    (λ c κs. tt)
-    returns-3
-    array-copy-out-first
-    (λ c κs. tt)
-    returns-4)
+is-listing-sound-spec = tie.close (tie.spec (λ c κs. tt) returns (λ c κs. tt) returns-2 (λ c κs. tt) returns-3 (λ c. omega arith) (λ c κs. tt) returns-4)

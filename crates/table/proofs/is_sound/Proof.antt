@@ -73,19 +73,5 @@ returns-7 c = c .is-listing-sound .ensures ∙ sym (yes-6 (c .before))
 
 pub is-sound-spec : {M : Type 1} → statement M
 is-sound-spec =
-    tie.close
-    (tie.spec
-    (λ c κs. tt)
-    returns
-    (λ c κs. tt)
-    returns-2
-    (λ c κs. tt)
-    returns-3
-    (λ c κs. tt)
-    returns-4
-    (λ c κs. tt)
-    returns-5
-    (λ c κs. tt)
-    returns-6
-    (λ c κs. tt)
-    returns-7)
+    tie.close (tie.spec (λ c κs. tt) returns (λ c κs. tt) returns-2 (λ c κs. tt) returns-3 (λ c κs. tt) returns-4 (λ c κs. tt) returns-5 (λ c κs. tt) returns-6
+    (λ c κs. tt) returns-7)

@@ -44,16 +44,4 @@ returns-2 c =
     none-all _ _ _ (omega arith) (v .2)
 
 pub none-ends-on-spec : {M : Type 1} → statement M
-none-ends-on-spec =
-    tie.close
-    (tie.spec
-    Inv-loop
-    μ-loop
-    loop-holds
-    mul-m
-    array-copy-out-m
-    returns
-    add-i
-    loop-less
-    loop-again
-    returns-2)
+none-ends-on-spec = tie.close (tie.spec Inv-loop μ-loop loop-holds mul-m array-copy-out-m returns add-i loop-less loop-again returns-2)

@@ -15,12 +15,4 @@ returns-2 c = c .opened-with .ensures ∙ in-accepted _ _ _ _ _ (c .before .befo
     (c .before .before .before .before .if1 .left)
 
 pub open-in-spec : {M : Type 1} → statement M
-open-in-spec =
-    tie.close
-    (tie.spec
-    (λ c κs. tt)
-    (λ c κs. tt)
-    (λ c κs. tt)
-    returns
-    (λ c κs. tt)
-    returns-2)
+open-in-spec = tie.close (tie.spec (λ c κs. tt) (λ c κs. tt) (λ c κs. tt) returns (λ c κs. tt) returns-2)

@@ -56,16 +56,4 @@ returns-3 : tie.Need-returns-3 Inv-loop μ-loop
 returns-3 c = search-end _ _ _ (c .loop-test .left) (c .before .loop .inv .2)
 
 pub steps-back-spec : {M : Type 1} → statement M
-steps-back-spec =
-    tie.close
-    (tie.spec
-    Inv-loop
-    μ-loop
-    loop-holds
-    returns
-    is-trading-day-in-requires
-    returns-2
-    add-n
-    loop-less
-    loop-again
-    returns-3)
+steps-back-spec = tie.close (tie.spec Inv-loop μ-loop loop-holds returns is-trading-day-in-requires returns-2 add-n loop-less loop-again returns-3)

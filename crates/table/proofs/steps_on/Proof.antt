@@ -57,16 +57,4 @@ returns-3 c = search-end _ _ _ (c .loop-test .left) (c .before .loop .inv .3)
 
 pub steps-on-spec : {M : Type 1} → statement M
 steps-on-spec =
-    tie.close
-    (tie.spec
-    Inv-loop
-    μ-loop
-    returns
-    loop-holds
-    add-is-trading-day-in
-    is-trading-day-in-requires
-    returns-2
-    add-n
-    loop-less
-    loop-again
-    returns-3)
+    tie.close (tie.spec Inv-loop μ-loop returns loop-holds add-is-trading-day-in is-trading-day-in-requires returns-2 add-n loop-less loop-again returns-3)

@@ -92,26 +92,5 @@ returns-6 c =
 
 pub measure-spec : {M : Type 1} → statement M
 measure-spec =
-    tie.close
-    (tie.spec
-    (λ c κs. tt)
-    (λ c κs. tt)
-    returns
-    (λ c κs. tt)
-    (λ c κs. tt)
-    returns-2
-    (λ c κs. tt)
-    (λ c κs. tt)
-    returns-3
-    (λ c κs. tt)
-    (λ c κs. tt)
-    returns-4
-    (λ c κs. tt)
-    (λ c κs. tt)
-    returns-5
-    (λ c κs. tt)
-    cast-changed
-    (λ c κs. tt)
-    cast-moved
-    (λ c κs. tt)
-    returns-6)
+    tie.close (tie.spec (λ c κs. tt) (λ c κs. tt) returns (λ c κs. tt) (λ c κs. tt) returns-2 (λ c κs. tt) (λ c κs. tt) returns-3 (λ c κs. tt) (λ c κs. tt)
+    returns-4 (λ c κs. tt) (λ c κs. tt) returns-5 (λ c κs. tt) cast-changed (λ c κs. tt) cast-moved (λ c κs. tt) returns-6)

@@ -5,9 +5,6 @@ use borrow.Author.Needs.{needs}
 use Rattle.table_numbering.proofs.absent.Statement.{statement}
 use Rattle.table_numbering.proofs.absent.Tie as tie
 
-is-among-requires : tie.Need-is-among-requires
-is-among-requires c κs = search needs
-
 returns : tie.Need-returns
 returns c = rw (sym (c .before .is-among .ensures) ∙ c .if1 .taken)
 
@@ -15,4 +12,4 @@ returns-2 : tie.Need-returns-2
 returns-2 c = rw (sym (c .before .is-among .ensures) ∙ c .if1 .left)
 
 pub absent-spec : {M : Type 1} → statement M
-absent-spec = tie.close (tie.spec is-among-requires returns returns-2)
+absent-spec = tie.close (tie.spec (λ c κs. search needs) returns returns-2)

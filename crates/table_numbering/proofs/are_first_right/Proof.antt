@@ -44,15 +44,4 @@ returns-2 c =
     sym (rw e at (c .before .loop .inv .1))
 
 pub are-first-right-spec : {M : Type 1} → statement M
-are-first-right-spec =
-    tie.close
-    (tie.spec
-    Inv-loop
-    μ-loop
-    loop-holds
-    is-number-right-requires
-    returns
-    add-i
-    loop-less
-    loop-again
-    returns-2)
+are-first-right-spec = tie.close (tie.spec Inv-loop μ-loop loop-holds is-number-right-requires returns add-i loop-less loop-again returns-2)

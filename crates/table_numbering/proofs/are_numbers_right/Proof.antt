@@ -4,14 +4,8 @@ use borrow.Author.Needs.{needs}
 use Rattle.table_numbering.proofs.are_numbers_right.Statement.{statement}
 use Rattle.table_numbering.proofs.are_numbers_right.Tie as tie
 
-cast-n : tie.Need-cast-n
-cast-n c = search needs
-
-are-first-right-requires : tie.Need-are-first-right-requires
-are-first-right-requires c κs = search needs
-
 returns : tie.Need-returns
 returns c = rw (← c .before .places-of-kind .ensures .0) (c .are-first-right .ensures)
 
 pub are-numbers-right-spec : {M : Type 1} → statement M
-are-numbers-right-spec = tie.close (tie.spec (λ c κs. tt) cast-n are-first-right-requires returns)
+are-numbers-right-spec = tie.close (tie.spec (λ c κs. tt) (λ c. search needs) (λ c κs. search needs) returns)

@@ -54,16 +54,4 @@ returns-2 c =
 
 pub are-places-right-spec : {M : Type 1} → statement M
 are-places-right-spec =
-    tie.close
-    (tie.spec
-    Inv-loop
-    μ-loop
-    places-of-kind-requires
-    cast-n
-    loop-holds
-    is-place-right-requires
-    returns
-    add-i
-    loop-less
-    loop-again
-    returns-2)
+    tie.close (tie.spec Inv-loop μ-loop places-of-kind-requires cast-n loop-holds is-place-right-requires returns add-i loop-less loop-again returns-2)

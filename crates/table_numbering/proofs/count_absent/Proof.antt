@@ -70,17 +70,4 @@ returns c =
     (omega (arith, v .4, missing-none (args .t1) (args .n) (c .before .loop .i) (v .0) (take (args .n) (args .others)) (c .loop-test .left)), omega arith)
 
 pub count-absent-spec : {M : Type 1} → statement M
-count-absent-spec =
-    tie.close
-    (tie.spec
-    Inv-loop
-    μ-loop
-    loop-holds
-    mul-m
-    array-copy-out-m
-    absent-requires
-    add-count
-    add-i
-    loop-less
-    loop-again
-    returns)
+count-absent-spec = tie.close (tie.spec Inv-loop μ-loop loop-holds mul-m array-copy-out-m absent-requires add-count add-i loop-less loop-again returns)

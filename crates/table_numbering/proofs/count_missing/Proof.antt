@@ -4,14 +4,8 @@ use borrow.Author.Needs.{needs}
 use Rattle.table_numbering.proofs.count_missing.Statement.{statement}
 use Rattle.table_numbering.proofs.count_missing.Tie as tie
 
-cast-n : tie.Need-cast-n
-cast-n c = search needs
-
-count-absent-requires : tie.Need-count-absent-requires
-count-absent-requires c κs = search needs
-
 returns : tie.Need-returns
 returns c = rw (← c .before .places-of-kind .ensures .0) (c .count-absent .ensures)
 
 pub count-missing-spec : {M : Type 1} → statement M
-count-missing-spec = tie.close (tie.spec (λ c κs. tt) cast-n count-absent-requires returns)
+count-missing-spec = tie.close (tie.spec (λ c κs. tt) (λ c. search needs) (λ c κs. search needs) returns)

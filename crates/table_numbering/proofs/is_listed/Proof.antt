@@ -4,14 +4,8 @@ use borrow.Author.Needs.{needs}
 use Rattle.table_numbering.proofs.is_listed.Statement.{statement}
 use Rattle.table_numbering.proofs.is_listed.Tie as tie
 
-cast-n : tie.Need-cast-n
-cast-n c = search needs
-
-is-among-requires : tie.Need-is-among-requires
-is-among-requires c κs = search needs
-
 returns : tie.Need-returns
 returns c = rw (← c .before .places-of-kind .ensures .0) (c .is-among .ensures)
 
 pub is-listed-spec : {M : Type 1} → statement M
-is-listed-spec = tie.close (tie.spec (λ c κs. tt) cast-n is-among-requires returns)
+is-listed-spec = tie.close (tie.spec (λ c κs. tt) (λ c. search needs) (λ c κs. search needs) returns)

@@ -5,18 +5,6 @@ use borrow.Author.Needs.{needs}
 use Rattle.table_numbering.proofs.is_place_right.Statement.{statement}
 use Rattle.table_numbering.proofs.is_place_right.Tie as tie
 
-mul-m : tie.Need-mul-m
-mul-m c = search needs
-
-array-copy-out-m : tie.Need-array-copy-out-m
-array-copy-out-m c = search needs
-
-mul-f : tie.Need-mul-f
-mul-f c = search needs
-
-array-copy-out-f : tie.Need-array-copy-out-f
-array-copy-out-f c = search needs
-
 returns : tie.Need-returns
 returns c = simp (ne-eqb _ _ (c .if1 .taken))
 
@@ -45,5 +33,4 @@ returns-5 c =
 
 pub is-place-right-spec : {M : Type 1} → statement M
 is-place-right-spec =
-    tie.close
-    (tie.spec mul-m array-copy-out-m mul-f array-copy-out-f returns returns-2 returns-3 returns-4 returns-5)
+    tie.close (tie.spec (λ c. search needs) (λ c. search needs) (λ c. search needs) (λ c. search needs) returns returns-2 returns-3 returns-4 returns-5)

@@ -60,17 +60,4 @@ returns-2 c =
 
 pub is-unlike-before-spec : {M : Type 1} → statement M
 is-unlike-before-spec =
-    tie.close
-    (tie.spec
-    Inv-loop
-    μ-loop
-    mul-last
-    array-copy-out-last
-    loop-holds
-    mul-m
-    array-copy-out-m
-    returns
-    add-j
-    loop-less
-    loop-again
-    returns-2)
+    tie.close (tie.spec Inv-loop μ-loop mul-last array-copy-out-last loop-holds mul-m array-copy-out-m returns add-j loop-less loop-again returns-2)

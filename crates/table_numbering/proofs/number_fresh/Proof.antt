@@ -61,18 +61,5 @@ returns c =
 
 pub number-fresh-spec : {M : Type 1} → statement M
 number-fresh-spec =
-    tie.close
-    (tie.spec
-    Inv-loop
-    μ-loop
-    unused-places-requires
-    loop-holds
-    mul-m
-    array-copy-out-m
-    numbered-requires
-    mul-maturities
-    array-set-from-maturities
-    add-i
-    loop-less
-    loop-again
-    returns)
+    tie.close (tie.spec Inv-loop μ-loop unused-places-requires loop-holds mul-m array-copy-out-m numbered-requires mul-maturities array-set-from-maturities
+    add-i loop-less loop-again returns)

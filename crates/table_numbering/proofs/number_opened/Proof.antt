@@ -4,14 +4,8 @@ use borrow.Author.Needs.{needs}
 use Rattle.table_numbering.proofs.number_opened.Statement.{statement}
 use Rattle.table_numbering.proofs.number_opened.Tie as tie
 
-cast-n : tie.Need-cast-n
-cast-n c = search needs
-
-number-fresh-requires : tie.Need-number-fresh-requires
-number-fresh-requires c κs = search needs
-
 returns : tie.Need-returns
 returns c = rw (c .number-fresh .ensures, c .before .places-of-kind .ensures .0)
 
 pub number-opened-spec : {M : Type 1} → statement M
-number-opened-spec = tie.close (tie.spec (λ c κs. tt) cast-n number-fresh-requires returns)
+number-opened-spec = tie.close (tie.spec (λ c κs. tt) (λ c. search needs) (λ c κs. search needs) returns)

@@ -5,19 +5,10 @@ use borrow.Author.Needs.{needs}
 use Rattle.table_numbering.proofs.numbered.Statement.{statement}
 use Rattle.table_numbering.proofs.numbered.Tie as tie
 
-is-among-requires : tie.Need-is-among-requires
-is-among-requires c κs = search needs
-
-number-of-requires : tie.Need-number-of-requires
-number-of-requires c κs = search needs
-
 returns : tie.Need-returns
 returns c =
     let q = sym (c .before .before .is-among .ensures) ∙ c .before .if1 .taken in
     (rw (q, c .number-of .ensures), rw q)
-
-add-number : tie.Need-add-number
-add-number c = search needs
 
 returns-2 : tie.Need-returns-2
 returns-2 c =
@@ -25,5 +16,4 @@ returns-2 c =
     (rw q, rw q)
 
 pub numbered-spec : {M : Type 1} → statement M
-numbered-spec =
-    tie.close (tie.spec is-among-requires number-of-requires returns add-number returns-2)
+numbered-spec = tie.close (tie.spec (λ c κs. search needs) (λ c κs. search needs) returns (λ c. search needs) returns-2)

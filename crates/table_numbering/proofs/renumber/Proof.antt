@@ -8,16 +8,8 @@ use Rattle.table_numbering.proofs.renumber.Tie as tie
 returns : tie.Need-returns
 returns c = rw (lt-leb _ _ (c .if1 .taken))
 
-cast-n : tie.Need-cast-n
-cast-n c = search needs
-
-number-fresh-requires : tie.Need-number-fresh-requires
-number-fresh-requires c κs = search needs
-
 returns-2 : tie.Need-returns-2
 returns-2 c = rw (le-leb _ _ (c .before .before .if1 .left), ← c .before .places-of-kind .ensures .0) (c .number-fresh .ensures)
 
 pub renumber-spec : {M : Type 1} → statement M
-renumber-spec =
-    tie.close
-    (tie.spec returns (λ c κs. tt) cast-n number-fresh-requires returns-2)
+renumber-spec = tie.close (tie.spec returns (λ c κs. tt) (λ c. search needs) (λ c κs. search needs) returns-2)

@@ -65,15 +65,6 @@ yes-24 c =
 returns : tie.Need-returns
 returns c = rw (c .none-listed .ensures) (listed-refused _ _ _ _ _ refl (c .before .if1 .taken))
 
-find-rising-requires : tie.Need-find-rising-requires
-find-rising-requires c κs = search needs
-
-enum-known-block : tie.Need-enum-known-block
-enum-known-block c = search needs
-
-enum-told : tie.Need-enum-told
-enum-told c = search needs
-
 returns-2 : tie.Need-returns-2
 unfolding asksIn
 returns-2 c =
@@ -119,23 +110,5 @@ returns-6 c =
 
 pub listed-in-spec : {M : Type 1} → statement M
 listed-in-spec =
-    tie.close
-    (tie.spec
-    (λ c κs. tt)
-    returns
-    find-rising-requires
-    enum-known-block
-    enum-told
-    (λ c κs. tt)
-    returns-2
-    (λ c κs. tt)
-    (λ c κs. tt)
-    returns-3
-    (λ c κs. tt)
-    (λ c κs. tt)
-    (λ c κs. tt)
-    returns-4
-    (λ c κs. tt)
-    (λ c κs. tt)
-    returns-5
-    returns-6)
+    tie.close (tie.spec (λ c κs. tt) returns (λ c κs. search needs) (λ c. search needs) (λ c. search needs) (λ c κs. tt) returns-2 (λ c κs. tt) (λ c κs. tt)
+    returns-3 (λ c κs. tt) (λ c κs. tt) (λ c κs. tt) returns-4 (λ c κs. tt) (λ c κs. tt) returns-5 returns-6)

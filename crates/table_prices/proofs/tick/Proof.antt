@@ -35,13 +35,4 @@ returns-4 : tie.Need-returns-4
 returns-4 c = sym (yes-19 (c .before .before) ∙ first-yes 20 _ (said-yes (c .before .is-multiple .ensures) (c .if3 .left)) ∙ no-asks)
 
 pub tick-spec : {M : Type 1} → statement M
-tick-spec =
-    tie.close
-    (tie.spec
-    (λ c κs. tt)
-    returns
-    (λ c κs. tt)
-    returns-2
-    (λ c κs. tt)
-    returns-3
-    returns-4)
+tick-spec = tie.close (tie.spec (λ c κs. tt) returns (λ c κs. tt) returns-2 (λ c κs. tt) returns-3 returns-4)

@@ -14,9 +14,6 @@ returns-2 : tie.Need-returns-2
 returns-2 c = c .no-day2 .ensures ∙ sym (due-11 _ _ (said-yes (c .before .before .before .before .is-sound .ensures) (c .before .before .before .if1 .left))
     (said-no (c .before .before .in-cover .ensures) (c .before .if2 .taken)))
 
-cast-n : tie.Need-cast-n
-cast-n c = search needs
-
 returns-3 : tie.Need-returns-3
 returns-3 c =
     let at-nth-exchange-day = c .before .before .before in
@@ -45,18 +42,5 @@ returns-4 c =
 
 pub due-spec : {M : Type 1} → statement M
 due-spec =
-    tie.close
-    (tie.spec
-    (λ c κs. tt)
-    (λ c κs. tt)
-    returns
-    (λ c κs. tt)
-    (λ c κs. tt)
-    returns-2
-    (λ c κs. tt)
-    cast-n
-    (λ c κs. tt)
-    (λ c κs. tt)
-    (λ c κs. tt)
-    returns-3
-    returns-4)
+    tie.close (tie.spec (λ c κs. tt) (λ c κs. tt) returns (λ c κs. tt) (λ c κs. tt) returns-2 (λ c κs. tt) (λ c. search needs) (λ c κs. tt) (λ c κs. tt)
+    (λ c κs. tt) returns-3 returns-4)

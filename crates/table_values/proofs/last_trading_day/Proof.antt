@@ -25,14 +25,4 @@ returns-3 c =
     sym (last-day-yes _ _ yes-is-sound yes-is-listed _ (c .last-trading-day .ensures))
 
 pub last-trading-day-spec : {M : Type 1} → statement M
-last-trading-day-spec =
-    tie.close
-    (tie.spec
-    (λ c κs. tt)
-    (λ c κs. tt)
-    returns
-    (λ c κs. tt)
-    (λ c κs. tt)
-    returns-2
-    (λ c κs. tt)
-    returns-3)
+last-trading-day-spec = tie.close (tie.spec (λ c κs. tt) (λ c κs. tt) returns (λ c κs. tt) (λ c κs. tt) returns-2 (λ c κs. tt) returns-3)

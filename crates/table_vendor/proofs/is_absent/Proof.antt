@@ -66,16 +66,4 @@ returns-2 c =
 
 pub is-absent-spec : {M : Type 1} → statement M
 is-absent-spec =
-    tie.close
-    (tie.spec
-    Inv-loop
-    μ-loop
-    entry-count-requires
-    loop-holds
-    mul-list-number
-    list-number-requires
-    returns
-    add-j
-    loop-less
-    loop-again
-    returns-2)
+    tie.close (tie.spec Inv-loop μ-loop entry-count-requires loop-holds mul-list-number list-number-requires returns add-j loop-less loop-again returns-2)

@@ -12,12 +12,6 @@ use Rattle.table_vendor.proofs.judge.Tie as tie
 returns : tie.Need-returns
 returns c = sym (vendor-10 _ _ (said-no (c .before .is-sound .ensures) (c .if1 .taken)))
 
-cast-n : tie.Need-cast-n
-cast-n c = search needs
-
-least-listed-requires : tie.Need-least-listed-requires
-least-listed-requires c κs = search needs
-
 verdict-of-requires : tie.Need-verdict-of-requires
 verdict-of-requires c κs =
     let at-places = c .before .before in
@@ -38,14 +32,4 @@ returns-2 c =
     (c .before .least-other .ensures)
 
 pub judge-spec : {M : Type 1} → statement M
-judge-spec =
-    tie.close
-    (tie.spec
-    (λ c κs. tt)
-    returns
-    (λ c κs. tt)
-    cast-n
-    least-listed-requires
-    (λ c κs. tt)
-    verdict-of-requires
-    returns-2)
+judge-spec = tie.close (tie.spec (λ c κs. tt) returns (λ c κs. tt) (λ c. search needs) (λ c κs. search needs) (λ c κs. tt) verdict-of-requires returns-2)

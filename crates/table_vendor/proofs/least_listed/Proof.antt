@@ -63,16 +63,4 @@ returns c =
 
 pub least-listed-spec : {M : Type 1} → statement M
 least-listed-spec =
-    tie.close
-    (tie.spec
-    Inv-loop
-    μ-loop
-    loop-holds
-    mul-m
-    array-copy-out-m
-    stands-once-requires
-    lesser-of-requires
-    add-i
-    loop-less
-    loop-again
-    returns)
+    tie.close (tie.spec Inv-loop μ-loop loop-holds mul-m array-copy-out-m stands-once-requires lesser-of-requires add-i loop-less loop-again returns)

@@ -70,17 +70,5 @@ returns c =
 
 pub least-other-spec : {M : Type 1} → statement M
 least-other-spec =
-    tie.close
-    (tie.spec
-    Inv-loop
-    μ-loop
-    entry-count-requires
-    loop-holds
-    mul-list-number
-    list-number-requires
-    is-listed-requires
-    lesser-of-requires
-    add-j
-    loop-less
-    loop-again
-    returns)
+    tie.close (tie.spec Inv-loop μ-loop entry-count-requires loop-holds mul-list-number list-number-requires is-listed-requires lesser-of-requires add-j
+    loop-less loop-again returns)

@@ -97,22 +97,5 @@ returns-3 c =
 
 pub stands-once-spec : {M : Type 1} → statement M
 stands-once-spec =
-    tie.close
-    (tie.spec
-    Inv-loop
-    μ-loop
-    entry-count-requires
-    loop-holds
-    mul-list-number
-    list-number-requires
-    mul-list-number-2
-    add-list-number
-    list-number-requires-2
-    returns
-    add-is-absent
-    is-absent-requires
-    returns-2
-    add-j
-    loop-less
-    loop-again
-    returns-3)
+    tie.close (tie.spec Inv-loop μ-loop entry-count-requires loop-holds mul-list-number list-number-requires mul-list-number-2 add-list-number
+    list-number-requires-2 returns add-is-absent is-absent-requires returns-2 add-j loop-less loop-again returns-3)

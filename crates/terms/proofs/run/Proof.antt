@@ -125,29 +125,6 @@ returns-2 c = λ e.
 
 pub run-spec : {M : Type 1} → statement M
 run-spec =
-    tie.close
-    (tie.spec
-    Inv-loop
-    μ-loop
-    judge-requires
-    large-buffer-requires
-    large-buffer-requires-2
-    nothing-kept-requires
-    empty-line-requires
-    no-text-requires
-    nothing-read-requires
-    loop-holds
-    reads-left-requires
-    slice-aggregate-read-part
-    read-part-requires
-    array-share-prefix-part
-    slice-aggregate-write-part
-    slice-aggregate-write-part-2
-    write-part-requires
-    is-open-requires
-    returns
-    loop-less
-    loop-again
-    slice-aggregate-write-last
-    write-last-requires
-    returns-2)
+    tie.close (tie.spec Inv-loop μ-loop judge-requires large-buffer-requires large-buffer-requires-2 nothing-kept-requires empty-line-requires no-text-requires
+    nothing-read-requires loop-holds reads-left-requires slice-aggregate-read-part read-part-requires array-share-prefix-part slice-aggregate-write-part
+    slice-aggregate-write-part-2 write-part-requires is-open-requires returns loop-less loop-again slice-aggregate-write-last write-last-requires returns-2)

@@ -13,9 +13,6 @@ write-out-requires c κs =
     let start = at-answer-last .before .before .before .before .before .before in
     (omega (arith, at-answer-last .answer-last .ensures .fits), last (at-answer-last .answer-last .ensures .text (start .pre .0)))
 
-same-length : tie.Need-same-length
-same-length c = search needs
-
 returns : tie.Need-returns
 returns c = λ e.
     let at-answer-last = c .before .before .before .before in
@@ -23,4 +20,4 @@ returns c = λ e.
     last-count _ _ _ _ _ _ _ _ (start .pre .0) (at-answer-last .answer-last .ensures) (c .write-out .ensures e)
 
 pub write-last-spec : {M : Type 1} → statement M
-write-last-spec = tie.close (tie.spec (λ c κs. tt) write-out-requires same-length returns)
+write-last-spec = tie.close (tie.spec (λ c κs. tt) write-out-requires (λ c. search needs) returns)

@@ -76,17 +76,5 @@ returns-2 c = λ e. handed-all _ _ _ _ _ _ _ _ _ (c .before .before .if1 .left) 
 
 pub write-part-spec : {M : Type 1} → statement M
 write-part-spec =
-    tie.close
-    (tie.spec
-    Inv-loop
-    μ-loop
-    loop-holds
-    answer-part-requires
-    write-out-requires
-    is-open-requires
-    same-length
-    returns
-    loop-less
-    loop-again
-    same-length-2
-    returns-2)
+    tie.close (tie.spec Inv-loop μ-loop loop-holds answer-part-requires write-out-requires is-open-requires same-length returns loop-less loop-again
+    same-length-2 returns-2)

@@ -12,18 +12,5 @@ slice-aggregate-take c =
     let block = now (c .before .before .args .block) in
     sym (length-take-le 511 block (omega (arith, c .before .before .pre)))
 
-returns : tie.Need-returns
-returns c = search needs
-
 pub hand-over-spec : {M : Type 1} → statement M
-hand-over-spec =
-    tie.close
-    (tie.spec
-    slice-aggregate-take
-    (λ c κs. tt)
-    (λ c κs. tt)
-    (λ c κs. tt)
-    (λ c κs. tt)
-    (λ c κs. tt)
-    (λ c κs. tt)
-    returns)
+hand-over-spec = tie.close (tie.spec slice-aggregate-take (λ c κs. tt) (λ c κs. tt) (λ c κs. tt) (λ c κs. tt) (λ c κs. tt) (λ c κs. tt) (λ c. search needs))

@@ -52,19 +52,5 @@ returns c = search needs
 
 pub hand-over-all-spec : {M : Type 1} → statement M
 hand-over-all-spec =
-    tie.close
-    (tie.spec
-    Inv-loop
-    μ-loop
-    loop-holds
-    block-at-requires
-    hand-over-requires
-    add-k
-    loop-less
-    loop-again
-    block-at-requires-2
-    take-requires
-    finish-requires
-    put-byte-requires
-    put-answer-requires
-    returns)
+    tie.close (tie.spec Inv-loop μ-loop loop-holds block-at-requires hand-over-requires add-k loop-less loop-again block-at-requires-2 take-requires
+    finish-requires put-byte-requires put-answer-requires returns)

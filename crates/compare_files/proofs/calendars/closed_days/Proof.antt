@@ -51,18 +51,5 @@ returns c = search needs
 
 pub closed-days-spec : {M : Type 1} → statement M
 closed-days-spec =
-    tie.close
-    (tie.spec
-    Inv-loop
-    μ-loop
-    cover-end-requires
-    cover-start-requires
-    loop-holds
-    is-closed-requires
-    add-count
-    cast-sum
-    add-sum
-    add-day
-    loop-less
-    loop-again
-    returns)
+    tie.close (tie.spec Inv-loop μ-loop cover-end-requires cover-start-requires loop-holds is-closed-requires add-count cast-sum add-sum add-day loop-less
+    loop-again returns)

@@ -51,18 +51,5 @@ returns c = search needs
 
 pub second-days-spec : {M : Type 1} → statement M
 second-days-spec =
-    tie.close
-    (tie.spec
-    Inv-loop
-    μ-loop
-    cover-end-requires
-    cover-start-requires
-    loop-holds
-    is-in-second-map-requires
-    add-count
-    cast-sum
-    add-sum
-    add-day
-    loop-less
-    loop-again
-    returns)
+    tie.close (tie.spec Inv-loop μ-loop cover-end-requires cover-start-requires loop-holds is-in-second-map-requires add-count cast-sum add-sum add-day
+    loop-less loop-again returns)

@@ -4,22 +4,8 @@ use borrow.Author.Needs.{needs}
 use Rattle.compare_rounds.proofs.calls.handle.Statement.{statement}
 use Rattle.compare_rounds.proofs.calls.handle.Tie as tie
 
-cast-put-short : tie.Need-cast-put-short
-cast-put-short c = search needs
-
 returns : tie.Need-returns
 returns c = rw (c .before .before .before .before .before .before .before .before .before .handle .ensures) (taken-right _ _)
 
 pub handle-spec : {M : Type 1} → statement M
-handle-spec =
-    tie.close
-    (tie.spec
-    (λ c κs. tt)
-    (λ c κs. tt)
-    (λ c κs. tt)
-    cast-put-short
-    (λ c κs. tt)
-    (λ c κs. tt)
-    (λ c κs. tt)
-    (λ c κs. tt)
-    returns)
+handle-spec = tie.close (tie.spec (λ c κs. tt) (λ c κs. tt) (λ c κs. tt) (λ c. search needs) (λ c κs. tt) (λ c κs. tt) (λ c κs. tt) (λ c κs. tt) returns)

@@ -36,16 +36,4 @@ returns : tie.Need-returns Inv-loop μ-loop
 returns c = search needs
 
 pub put-first-spec : {M : Type 1} → statement M
-put-first-spec =
-    tie.close
-    (tie.spec
-    Inv-loop
-    μ-loop
-    loop-holds
-    mul-put-short
-    array-read-put-short
-    put-short-requires
-    add-i
-    loop-less
-    loop-again
-    returns)
+put-first-spec = tie.close (tie.spec Inv-loop μ-loop loop-holds mul-put-short array-read-put-short put-short-requires add-i loop-less loop-again returns)

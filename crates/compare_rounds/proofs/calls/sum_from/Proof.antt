@@ -39,17 +39,4 @@ returns : tie.Need-returns Inv-loop μ-loop
 returns c = search needs
 
 pub sum-from-spec : {M : Type 1} → statement M
-sum-from-spec =
-    tie.close
-    (tie.spec
-    Inv-loop
-    μ-loop
-    loop-holds
-    mul-wide
-    array-read-wide
-    wide-requires
-    add-sum
-    add-i
-    loop-less
-    loop-again
-    returns)
+sum-from-spec = tie.close (tie.spec Inv-loop μ-loop loop-holds mul-wide array-read-wide wide-requires add-sum add-i loop-less loop-again returns)

@@ -72,22 +72,5 @@ returns c = search needs
 
 pub roll-taken-spec : {M : Type 1} → statement M
 roll-taken-spec =
-    tie.close
-    (tie.spec
-    Inv-loop
-    μ-loop
-    cast-n
-    loop-holds
-    mul-number
-    array-read-number
-    cast-place
-    mul-t
-    array-copy-out-t
-    roll-requires
-    outcome-line-requires
-    mul-tables
-    array-set-from-tables
-    add-i
-    loop-less
-    loop-again
-    returns)
+    tie.close (tie.spec Inv-loop μ-loop cast-n loop-holds mul-number array-read-number cast-place mul-t array-copy-out-t roll-requires outcome-line-requires
+    mul-tables array-set-from-tables add-i loop-less loop-again returns)

@@ -43,17 +43,5 @@ returns c = search needs
 
 pub closing-lines-spec : {M : Type 1} → statement M
 closing-lines-spec =
-    tie.close
-    (tie.spec
-    Inv-loop
-    μ-loop
-    loop-holds
-    start-line-requires
-    put-short-requires
-    trades-with-closed-requires
-    put-answer-requires
-    end-line-requires
-    add-day
-    loop-less
-    loop-again
-    returns)
+    tie.close (tie.spec Inv-loop μ-loop loop-holds start-line-requires put-short-requires trades-with-closed-requires put-answer-requires end-line-requires
+    add-day loop-less loop-again returns)

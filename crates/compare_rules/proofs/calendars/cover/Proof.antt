@@ -33,15 +33,4 @@ returns : tie.Need-returns Inv-loop μ-loop
 returns c = search needs
 
 pub cover-spec : {M : Type 1} → statement M
-cover-spec =
-    tie.close
-    (tie.spec
-    Inv-loop
-    μ-loop
-    loop-holds
-    add-one
-    one-requires
-    add-pattern
-    loop-less
-    loop-again
-    returns)
+cover-spec = tie.close (tie.spec Inv-loop μ-loop loop-holds add-one one-requires add-pattern loop-less loop-again returns)

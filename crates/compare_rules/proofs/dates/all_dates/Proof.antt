@@ -29,14 +29,4 @@ returns : tie.Need-returns Inv-loop μ-loop
 returns c = search needs
 
 pub all-dates-spec : {M : Type 1} → statement M
-all-dates-spec =
-    tie.close
-    (tie.spec
-    Inv-loop
-    μ-loop
-    loop-holds
-    month-dates-requires
-    add-year
-    loop-less
-    loop-again
-    returns)
+all-dates-spec = tie.close (tie.spec Inv-loop μ-loop loop-holds month-dates-requires add-year loop-less loop-again returns)

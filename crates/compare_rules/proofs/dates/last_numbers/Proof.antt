@@ -29,6 +29,4 @@ returns : tie.Need-returns Inv-loop μ-loop
 returns c = search needs
 
 pub last-numbers-spec : {M : Type 1} → statement M
-last-numbers-spec =
-    tie.close
-    (tie.spec Inv-loop μ-loop loop-holds number-requires add-n loop-less loop-again returns)
+last-numbers-spec = tie.close (tie.spec Inv-loop μ-loop loop-holds number-requires add-n loop-less loop-again returns)

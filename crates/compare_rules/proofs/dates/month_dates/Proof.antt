@@ -51,19 +51,5 @@ returns c = search needs
 
 pub month-dates-spec : {M : Type 1} → statement M
 month-dates-spec =
-    tie.close
-    (tie.spec
-    Inv-loop
-    μ-loop
-    loop-holds
-    date-requires
-    date-requires-2
-    date-requires-3
-    date-requires-4
-    date-requires-5
-    date-requires-6
-    date-requires-7
-    add-month
-    loop-less
-    loop-again
-    returns)
+    tie.close (tie.spec Inv-loop μ-loop loop-holds date-requires date-requires-2 date-requires-3 date-requires-4 date-requires-5 date-requires-6 date-requires-7
+    add-month loop-less loop-again returns)

@@ -64,23 +64,6 @@ returns c = search needs
 
 pub months-spec : {M : Type 1} → statement M
 months-spec =
-    tie.close
-    (tie.spec
-    Inv-loop
-    μ-loop
-    loop-holds
-    first-day-requires
-    start-line-requires
-    put-short-requires
-    put-short-requires-2
-    weekday-requires
-    put-short-requires-3
-    add-month-length
-    add-month-length-2
-    month-length-requires
-    put-short-requires-4
-    end-line-requires
-    add-k
-    loop-less
-    loop-again
+    tie.close (tie.spec Inv-loop μ-loop loop-holds first-day-requires start-line-requires put-short-requires put-short-requires-2 weekday-requires
+    put-short-requires-3 add-month-length add-month-length-2 month-length-requires put-short-requires-4 end-line-requires add-k loop-less loop-again
     returns)

@@ -33,15 +33,4 @@ returns : tie.Need-returns Inv-loop μ-loop
 returns c = search needs
 
 pub spread-numbers-spec : {M : Type 1} → statement M
-spread-numbers-spec =
-    tie.close
-    (tie.spec
-    Inv-loop
-    μ-loop
-    loop-holds
-    mul-number
-    number-requires
-    add-i
-    loop-less
-    loop-again
-    returns)
+spread-numbers-spec = tie.close (tie.spec Inv-loop μ-loop loop-holds mul-number number-requires add-i loop-less loop-again returns)

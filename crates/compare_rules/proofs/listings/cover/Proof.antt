@@ -54,20 +54,5 @@ returns c = search needs
 
 pub cover-spec : {M : Type 1} → statement M
 cover-spec =
-    tie.close
-    (tie.spec
-    Inv-loop
-    μ-loop
-    loop-holds
-    closed-by-requires
-    start-line-requires
-    put-short-requires
-    put-short-requires-2
-    put-short-requires-3
-    end-line-requires
-    group-lines-requires
-    group-lines-requires-2
-    add-pattern
-    loop-less
-    loop-again
-    returns)
+    tie.close (tie.spec Inv-loop μ-loop loop-holds closed-by-requires start-line-requires put-short-requires put-short-requires-2 put-short-requires-3
+    end-line-requires group-lines-requires group-lines-requires-2 add-pattern loop-less loop-again returns)

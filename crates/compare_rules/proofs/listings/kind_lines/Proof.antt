@@ -52,19 +52,5 @@ returns-2 c = search needs
 
 pub kind-lines-spec : {M : Type 1} → statement M
 kind-lines-spec =
-    tie.close
-    (tie.spec
-    Inv-loop
-    μ-loop
-    kind-of-requires
-    enum-known-kind
-    enum-told
-    returns
-    cover-end-requires
-    cover-start-requires
-    loop-holds
-    listing-line-requires
-    add-date
-    loop-less
-    loop-again
-    returns-2)
+    tie.close (tie.spec Inv-loop μ-loop kind-of-requires enum-known-kind enum-told returns cover-end-requires cover-start-requires loop-holds
+    listing-line-requires add-date loop-less loop-again returns-2)

@@ -72,24 +72,6 @@ returns c = search needs
 
 pub month-lines-spec : {M : Type 1} → statement M
 month-lines-spec =
-    tie.close
-    (tie.spec
-    Inv-loop
-    μ-loop
-    cover-start-requires
-    month-of-requires
-    cover-end-requires
-    month-of-requires-2
-    loop-holds
-    start-line-requires
-    put-short-requires
-    third-friday-requires
-    put-short-requires-2
-    last-trading-day-requires
-    put-short-requires-3
-    put-short-requires-4
-    end-line-requires
-    add-month
-    loop-less
-    loop-again
-    returns)
+    tie.close (tie.spec Inv-loop μ-loop cover-start-requires month-of-requires cover-end-requires month-of-requires-2 loop-holds start-line-requires
+    put-short-requires third-friday-requires put-short-requires-2 last-trading-day-requires put-short-requires-3 put-short-requires-4 end-line-requires
+    add-month loop-less loop-again returns)

@@ -37,15 +37,4 @@ returns c = search needs
 
 pub put-closed-spec : {M : Type 1} → statement M
 put-closed-spec =
-    tie.close
-    (tie.spec
-    Inv-loop
-    μ-loop
-    cover-start-requires
-    cover-end-requires
-    loop-holds
-    put-if-closed-requires
-    add-day
-    loop-less
-    loop-again
-    returns)
+    tie.close (tie.spec Inv-loop μ-loop cover-start-requires cover-end-requires loop-holds put-if-closed-requires add-day loop-less loop-again returns)

@@ -43,17 +43,5 @@ returns c = search needs
 
 pub years-spec : {M : Type 1} → statement M
 years-spec =
-    tie.close
-    (tie.spec
-    Inv-loop
-    μ-loop
-    loop-holds
-    cast-seed
-    mul-seed
-    value-line-requires
-    add-calendar-line
-    calendar-line-requires
-    add-i
-    loop-less
-    loop-again
+    tie.close (tie.spec Inv-loop μ-loop loop-holds cast-seed mul-seed value-line-requires add-calendar-line calendar-line-requires add-i loop-less loop-again
     returns)

@@ -40,16 +40,5 @@ returns c = search needs
 
 pub closed-by-spec : {M : Type 1} → statement M
 closed-by-spec =
-    tie.close
-    (tie.spec
-    Inv-loop
-    μ-loop
-    open-calendar-requires
-    cover-end-requires
-    cover-start-requires
-    loop-holds
-    closed-if-requires
-    add-day
-    loop-less
-    loop-again
-    returns)
+    tie.close (tie.spec Inv-loop μ-loop open-calendar-requires cover-end-requires cover-start-requires loop-holds closed-if-requires add-day loop-less
+    loop-again returns)

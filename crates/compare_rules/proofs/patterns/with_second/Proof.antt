@@ -37,15 +37,4 @@ returns c = search needs
 
 pub with-second-spec : {M : Type 1} → statement M
 with-second-spec =
-    tie.close
-    (tie.spec
-    Inv-loop
-    μ-loop
-    cover-end-requires
-    cover-start-requires
-    loop-holds
-    marked-if-requires
-    add-day
-    loop-less
-    loop-again
-    returns)
+    tie.close (tie.spec Inv-loop μ-loop cover-end-requires cover-start-requires loop-holds marked-if-requires add-day loop-less loop-again returns)

@@ -43,17 +43,5 @@ returns c = search needs
 
 pub country-spec : {M : Type 1} → statement M
 country-spec =
-    tie.close
-    (tie.spec
-    Inv-loop
-    μ-loop
-    loop-holds
-    add-group-line
-    add-group-line-2
-    group-line-requires
-    add-i
-    loop-less
-    loop-again
-    group-line-requires-2
-    group-line-requires-3
-    returns)
+    tie.close (tie.spec Inv-loop μ-loop loop-holds add-group-line add-group-line-2 group-line-requires add-i loop-less loop-again group-line-requires-2
+    group-line-requires-3 returns)

@@ -94,33 +94,7 @@ returns c = search needs
 
 pub put-answers-spec : {M : Type 1} → statement M
 put-answers-spec =
-    tie.close
-    (tie.spec
-    Inv-loop
-    μ-loop
-    loop-holds
-    start-line-requires
-    mul-put-long
-    mul-put-long-2
-    array-read-put-long
-    put-long-requires
-    mul-put-long-3
-    add-put-long
-    mul-put-long-4
-    array-read-put-long-2
-    put-long-requires-2
-    mul-put-long-5
-    add-put-long-2
-    mul-put-long-6
-    array-read-put-long-3
-    put-long-requires-3
-    mul-put-long-7
-    add-put-long-3
-    mul-put-long-8
-    array-read-put-long-4
-    put-long-requires-4
-    end-line-requires
-    add-i
-    loop-less
-    loop-again
+    tie.close (tie.spec Inv-loop μ-loop loop-holds start-line-requires mul-put-long mul-put-long-2 array-read-put-long put-long-requires mul-put-long-3
+    add-put-long mul-put-long-4 array-read-put-long-2 put-long-requires-2 mul-put-long-5 add-put-long-2 mul-put-long-6 array-read-put-long-3
+    put-long-requires-3 mul-put-long-7 add-put-long-3 mul-put-long-8 array-read-put-long-4 put-long-requires-4 end-line-requires add-i loop-less loop-again
     returns)

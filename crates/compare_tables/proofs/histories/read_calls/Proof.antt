@@ -97,33 +97,6 @@ returns c = search needs
 
 pub read-calls-spec : {M : Type 1} → statement M
 read-calls-spec =
-    tie.close
-    (tie.spec
-    Inv-loop
-    μ-loop
-    loop-holds
-    next-requires
-    call-in-requires
-    array-read-calls
-    mul-calls
-    mul-calls-2
-    array-write-calls
-    array-read-calls-2
-    mul-calls-3
-    add-calls
-    mul-calls-4
-    array-write-calls-2
-    array-read-calls-3
-    mul-calls-5
-    add-calls-2
-    mul-calls-6
-    array-write-calls-3
-    array-read-calls-4
-    mul-calls-7
-    add-calls-3
-    mul-calls-8
-    array-write-calls-4
-    add-i
-    loop-less
-    loop-again
-    returns)
+    tie.close (tie.spec Inv-loop μ-loop loop-holds next-requires call-in-requires array-read-calls mul-calls mul-calls-2 array-write-calls array-read-calls-2
+    mul-calls-3 add-calls mul-calls-4 array-write-calls-2 array-read-calls-3 mul-calls-5 add-calls-2 mul-calls-6 array-write-calls-3 array-read-calls-4
+    mul-calls-7 add-calls-3 mul-calls-8 array-write-calls-4 add-i loop-less loop-again returns)

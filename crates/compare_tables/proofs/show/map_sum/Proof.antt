@@ -39,17 +39,4 @@ returns : tie.Need-returns Inv-loop μ-loop
 returns c = search needs
 
 pub map-sum-spec : {M : Type 1} → statement M
-map-sum-spec =
-    tie.close
-    (tie.spec
-    Inv-loop
-    μ-loop
-    loop-holds
-    sub-i
-    element-copy-out-wide
-    wide-requires
-    add-bytes
-    add-sum
-    loop-less
-    loop-again
-    returns)
+map-sum-spec = tie.close (tie.spec Inv-loop μ-loop loop-holds sub-i element-copy-out-wide wide-requires add-bytes add-sum loop-less loop-again returns)

@@ -45,18 +45,4 @@ returns : tie.Need-returns Inv-loop μ-loop
 returns c = tt
 
 pub digest-spec : {M : Type 1} → statement M
-digest-spec =
-    tie.close
-    (tie.spec
-    Inv-loop
-    μ-loop
-    loop-holds
-    mul-sum
-    shared-slice-read-wide
-    wide-requires
-    add-sum
-    add-sum-2
-    add-i
-    loop-less
-    loop-again
-    returns)
+digest-spec = tie.close (tie.spec Inv-loop μ-loop loop-holds mul-sum shared-slice-read-wide wide-requires add-sum add-sum-2 add-i loop-less loop-again returns)

@@ -38,16 +38,4 @@ returns : tie.Need-returns Inv-loop μ-loop
 returns c = tt
 
 pub fill-spec : {M : Type 1} → statement M
-fill-spec =
-    tie.close
-    (tie.spec
-    Inv-loop
-    μ-loop
-    loop-holds
-    byte-before-requires
-    slice-write-out
-    add-i
-    loop-less
-    loop-again
-    same-length
-    returns)
+fill-spec = tie.close (tie.spec Inv-loop μ-loop loop-holds byte-before-requires slice-write-out add-i loop-less loop-again same-length returns)

@@ -36,16 +36,4 @@ returns : tie.Need-returns Inv-loop μ-loop
 returns c = tt
 
 pub map-at-spec : {M : Type 1} → statement M
-map-at-spec =
-    tie.close
-    (tie.spec
-    Inv-loop
-    μ-loop
-    loop-holds
-    add-byte-at
-    byte-at-requires
-    array-write-map
-    add-i
-    loop-less
-    loop-again
-    returns)
+map-at-spec = tie.close (tie.spec Inv-loop μ-loop loop-holds add-byte-at byte-at-requires array-write-map add-i loop-less loop-again returns)

@@ -38,16 +38,4 @@ returns : tie.Need-returns Inv-loop μ-loop
 returns c = tt
 
 pub put-records-spec : {M : Type 1} → statement M
-put-records-spec =
-    tie.close
-    (tie.spec
-    Inv-loop
-    μ-loop
-    mul-places
-    loop-holds
-    put-place-requires
-    add-p
-    loop-less
-    loop-again
-    same-length
-    returns)
+put-records-spec = tie.close (tie.spec Inv-loop μ-loop mul-places loop-holds put-place-requires add-p loop-less loop-again same-length returns)

@@ -9,9 +9,6 @@ use Rattle.file_text_told.proofs.Whole.{handed}
 use Rattle.compose.proofs.output.hand_out.Statement.{statement}
 use Rattle.compose.proofs.output.hand_out.Tie as tie
 
-slice-aggregate-write-next : tie.Need-slice-aggregate-write-next
-slice-aggregate-write-next c = search needs
-
 slice-aggregate-write-next-2 : tie.Need-slice-aggregate-write-next-2
 slice-aggregate-write-next-2 c = sym (length-take-le _ _ (c .before .before .before .before .before .pre .2))
 
@@ -44,14 +41,5 @@ returns c =
 
 pub hand-out-spec : {M : Type 1} → statement M
 hand-out-spec =
-    tie.close
-    (tie.spec
-    (λ c κs. tt)
-    slice-aggregate-write-next
-    slice-aggregate-write-next-2
-    (λ c κs. tt)
-    (λ c κs. tt)
-    array-share-prefix-bytes
-    slice-aggregate-tell-next
-    (λ c κs. tt)
-    returns)
+    tie.close (tie.spec (λ c κs. tt) (λ c. search needs) slice-aggregate-write-next-2 (λ c κs. tt) (λ c κs. tt) array-share-prefix-bytes
+    slice-aggregate-tell-next (λ c κs. tt) returns)

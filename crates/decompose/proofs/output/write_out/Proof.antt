@@ -7,9 +7,6 @@ use Rattle.file_text_print.proofs.WholeText.{text-short}
 use Rattle.decompose.proofs.output.write_out.Statement.{statement}
 use Rattle.decompose.proofs.output.write_out.Tie as tie
 
-slice-aggregate-write-next : tie.Need-slice-aggregate-write-next
-slice-aggregate-write-next c = search needs
-
 slice-aggregate-write-next-2 : tie.Need-slice-aggregate-write-next-2
 slice-aggregate-write-next-2 c = sym (length-take-le _ _ (c .before .before .before .before .pre .0))
 
@@ -27,5 +24,4 @@ returns c = λ e.
     )
 
 pub write-out-spec : {M : Type 1} → statement M
-write-out-spec =
-    tie.close (tie.spec slice-aggregate-write-next slice-aggregate-write-next-2 (λ c κs. tt) returns)
+write-out-spec = tie.close (tie.spec (λ c. search needs) slice-aggregate-write-next-2 (λ c κs. tt) returns)

@@ -8,9 +8,6 @@ use borrow.Author.Needs.{needs}
 use Rattle.deliver.proofs.output.tell.Statement.{statement}
 use Rattle.deliver.proofs.output.tell.Tie as tie
 
-returns : tie.Need-returns
-returns c = search needs
-
 array-share-prefix-bytes : tie.Need-array-share-prefix-bytes
 array-share-prefix-bytes c =
     let start = c .before .before .before .before in
@@ -25,19 +22,5 @@ slice-aggregate-tell c =
     let h : start .args .line .length ≤ length (start .args .line .bytes) = omega (arith, l, start .pre .0) in
     sym (length-take-le _ _ h)
 
-add-t12 : tie.Need-add-t12
-add-t12 c = search needs
-
-returns-2 : tie.Need-returns-2
-returns-2 c = search needs
-
 pub tell-spec : {M : Type 1} → statement M
-tell-spec =
-    tie.close
-    (tie.spec
-    returns
-    array-share-prefix-bytes
-    slice-aggregate-tell
-    (λ c κs. tt)
-    add-t12
-    returns-2)
+tell-spec = tie.close (tie.spec (λ c. search needs) array-share-prefix-bytes slice-aggregate-tell (λ c κs. tt) (λ c. search needs) (λ c. search needs))

@@ -7,9 +7,6 @@ use borrow.Author.Needs.{needs}
 use Rattle.deliver.proofs.output.write_line.Statement.{statement}
 use Rattle.deliver.proofs.output.write_line.Tie as tie
 
-slice-aggregate-write-out : tie.Need-slice-aggregate-write-out
-slice-aggregate-write-out c = search needs
-
 write-out-requires : tie.Need-write-out-requires
 write-out-requires c κs =
     let start = c .before .before .before .before in
@@ -17,8 +14,5 @@ write-out-requires c κs =
     let h : start .args .line .length ≤ length (start .args .line .bytes) = omega (arith, l, start .pre .0) in
     (h, omega (arith, start .pre .0, start .pre .1), start .pre .2)
 
-returns : tie.Need-returns
-returns c = search needs
-
 pub write-line-spec : {M : Type 1} → statement M
-write-line-spec = tie.close (tie.spec slice-aggregate-write-out write-out-requires returns)
+write-line-spec = tie.close (tie.spec (λ c. search needs) write-out-requires (λ c. search needs))

@@ -37,14 +37,4 @@ returns-3 c =
     )
 
 pub finish-spec : {M : Type 1} → statement M
-finish-spec =
-    tie.close
-    (tie.spec
-    (λ c κs. tt)
-    (λ c κs. tt)
-    returns
-    cast-ended
-    (λ c κs. tt)
-    returns-2
-    (λ c κs. tt)
-    returns-3)
+finish-spec = tie.close (tie.spec (λ c κs. tt) (λ c κs. tt) returns cast-ended (λ c κs. tt) returns-2 (λ c κs. tt) returns-3)

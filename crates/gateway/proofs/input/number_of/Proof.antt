@@ -52,19 +52,5 @@ returns-4 c = search needs
 
 pub number-of-spec : {M : Type 1} → statement M
 number-of-spec =
-    tie.close
-    (tie.spec
-    Inv-loop
-    μ-loop
-    loop-holds
-    shared-slice-read-byte
-    returns
-    returns-2
-    returns-3
-    mul-number
-    wide-requires
-    add-number
-    add-i
-    loop-less
-    loop-again
-    returns-4)
+    tie.close (tie.spec Inv-loop μ-loop loop-holds shared-slice-read-byte returns returns-2 returns-3 mul-number wide-requires add-number add-i loop-less
+    loop-again returns-4)

@@ -46,18 +46,5 @@ returns-2 c = search needs
 
 pub put-spec : {M : Type 1} → statement M
 put-spec =
-    tie.close
-    (tie.spec
-    Inv-loop
-    μ-loop
-    loop-holds
-    sub-write-some
-    part-write-some-start
-    part-write-some-end
-    write-some-requires
-    tell-failure-requires
-    returns
-    add-done
-    loop-less
-    loop-again
-    returns-2)
+    tie.close (tie.spec Inv-loop μ-loop loop-holds sub-write-some part-write-some-start part-write-some-end write-some-requires tell-failure-requires returns
+    add-done loop-less loop-again returns-2)

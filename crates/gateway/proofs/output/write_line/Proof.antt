@@ -5,22 +5,13 @@ use borrow.Author.Needs.{needs}
 use Rattle.gateway.proofs.output.write_line.Statement.{statement}
 use Rattle.gateway.proofs.output.write_line.Tie as tie
 
-slice-aggregate-write-piece : tie.Need-slice-aggregate-write-piece
-slice-aggregate-write-piece c = search needs
-
 write-piece-requires : tie.Need-write-piece-requires
 write-piece-requires c κs = rw (c .before .before .before .nothing-sent .ensures) (no-word _ (c .before .if1 .taken))
-
-cast-write-number : tie.Need-cast-write-number
-cast-write-number c = search needs
 
 write-number-requires : tie.Need-write-number-requires
 write-number-requires c κs =
     no-number _ (c .before .before .before .if1 .taken) _
     (omega (arith, c .before .write-piece .ensures .0, c .before .before .before .before .before .nothing-sent .ensures))
-
-slice-aggregate-write-piece-2 : tie.Need-slice-aggregate-write-piece-2
-slice-aggregate-write-piece-2 c = search needs
 
 write-piece-requires-2 : tie.Need-write-piece-requires-2
 write-piece-requires-2 c κs =
@@ -44,18 +35,12 @@ returns c =
           (c .before .before .before .before .before .before .if1 .taken),
     )
 
-slice-aggregate-write-piece-3 : tie.Need-slice-aggregate-write-piece-3
-slice-aggregate-write-piece-3 c = search needs
-
 write-piece-requires-3 : tie.Need-write-piece-requires-3
 write-piece-requires-3 c κs = rw (c .before .before .before .nothing-sent .ensures) (ok-word _ (c .before .if1 .left))
 
 write-number-requires-2 : tie.Need-write-number-requires-2
 write-number-requires-2 c κs =
     ok-years _ (c .before .before .if1 .left) _ (omega (arith, c .write-piece3 .ensures .0, c .before .before .before .before .nothing-sent .ensures))
-
-slice-aggregate-write-piece-4 : tie.Need-slice-aggregate-write-piece-4
-slice-aggregate-write-piece-4 c = search needs
 
 write-piece-requires-4 : tie.Need-write-piece-requires-4
 write-piece-requires-4 c κs =
@@ -77,9 +62,6 @@ write-number-requires-3 c κs =
       c .before .before .before .write-piece3 .ensures .0,
       c .before .before .before .before .before .before .before .nothing-sent .ensures,
     ))
-
-slice-aggregate-write-piece-5 : tie.Need-slice-aggregate-write-piece-5
-slice-aggregate-write-piece-5 c = search needs
 
 write-piece-requires-5 : tie.Need-write-piece-requires-5
 write-piece-requires-5 c κs =
@@ -109,22 +91,6 @@ returns-2 c =
 
 pub write-line-spec : {M : Type 1} → statement M
 write-line-spec =
-    tie.close
-    (tie.spec
-    (λ c κs. tt)
-    slice-aggregate-write-piece
-    write-piece-requires
-    cast-write-number
-    write-number-requires
-    slice-aggregate-write-piece-2
-    write-piece-requires-2
-    returns
-    slice-aggregate-write-piece-3
-    write-piece-requires-3
-    write-number-requires-2
-    slice-aggregate-write-piece-4
-    write-piece-requires-4
-    write-number-requires-3
-    slice-aggregate-write-piece-5
-    write-piece-requires-5
-    returns-2)
+    tie.close (tie.spec (λ c κs. tt) (λ c. search needs) write-piece-requires (λ c. search needs) write-number-requires (λ c. search needs)
+    write-piece-requires-2 returns (λ c. search needs) write-piece-requires-3 write-number-requires-2 (λ c. search needs) write-piece-requires-4
+    write-number-requires-3 (λ c. search needs) write-piece-requires-5 returns-2)

@@ -18,18 +18,6 @@ slice-is n k digits e q =
     let l : length (fiveDigits n) ≡ 5 = refl in
     rw e (take-all (5 - (5 - k)) (drop (5 - k) (fiveDigits n)) (omega (arith, length-drop (5 - k) (fiveDigits n))) ∙ digits-are n k q)
 
-sub-from : tie.Need-sub-from
-sub-from c = search needs
-
-sub-write-piece : tie.Need-sub-write-piece
-sub-write-piece c = search needs
-
-part-write-piece-start : tie.Need-part-write-piece-start
-part-write-piece-start c = search needs
-
-part-write-piece-end : tie.Need-part-write-piece-end
-part-write-piece-end c = search needs
-
 write-piece-requires : tie.Need-write-piece-requires
 write-piece-requires c κs =
     let at-count = c .before .before in
@@ -44,13 +32,4 @@ returns c =
 
 pub write-number-spec : {M : Type 1} → statement M
 write-number-spec =
-    tie.close
-    (tie.spec
-    (λ c κs. tt)
-    (λ c κs. tt)
-    sub-from
-    sub-write-piece
-    part-write-piece-start
-    part-write-piece-end
-    write-piece-requires
-    returns)
+    tie.close (tie.spec (λ c κs. tt) (λ c κs. tt) (λ c. search needs) (λ c. search needs) (λ c. search needs) (λ c. search needs) write-piece-requires returns)

@@ -20,14 +20,5 @@ slice-aggregate-tell c =
     let f = told-fits (queryTold (start .args .file .now) (start .args .text .now)) (start .args .line) (start .pre) in
     sym (length-take-le (start .args .line .length) (start .args .line .bytes) (omega (arith, f .0, f .1)))
 
-returns : tie.Need-returns
-returns c = search needs
-
 pub tell-spec : {M : Type 1} → statement M
-tell-spec =
-    tie.close
-    (tie.spec
-    array-share-prefix-bytes
-    slice-aggregate-tell
-    (λ c κs. tt)
-    returns)
+tell-spec = tie.close (tie.spec array-share-prefix-bytes slice-aggregate-tell (λ c κs. tt) (λ c. search needs))

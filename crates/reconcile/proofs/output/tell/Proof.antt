@@ -12,12 +12,5 @@ array-share-prefix-bytes c = text-fits _ (c .before .before .before .pre .0) _ (
 slice-aggregate-tell : tie.Need-slice-aggregate-tell
 slice-aggregate-tell c = sym (length-take-le _ _ (text-fits _ (c .before .before .before .before .pre .0) _ (c .before .before .before .before .pre .1) .0))
 
-tell-requires : tie.Need-tell-requires
-tell-requires c κs = search needs
-
-returns : tie.Need-returns
-returns c = search needs
-
 pub tell-spec : {M : Type 1} → statement M
-tell-spec =
-    tie.close (tie.spec array-share-prefix-bytes slice-aggregate-tell tell-requires returns)
+tell-spec = tie.close (tie.spec array-share-prefix-bytes slice-aggregate-tell (λ c κs. search needs) (λ c. search needs))

@@ -13,9 +13,6 @@ array-share-prefix-bytes c = text-fits _ (c .before .before .pre .0) _ (c .befor
 slice-aggregate-tell-next : tie.Need-slice-aggregate-tell-next
 slice-aggregate-tell-next c = sym (length-take-le _ _ (text-fits _ (c .before .before .before .pre .0) _ (c .before .before .before .pre .1) .0))
 
-tell-next-requires : tie.Need-tell-next-requires
-tell-next-requires c κs = search needs
-
 returns : tie.Need-returns
 returns c =
     let start = c .before .before .before .before in
@@ -23,6 +20,4 @@ returns c =
     omega (arith, c .tell-next .ensures, f .1, length-take-le (start .args .line .length) (start .args .line .bytes) (f .0))
 
 pub tell-last-spec : {M : Type 1} → statement M
-tell-last-spec =
-    tie.close
-    (tie.spec array-share-prefix-bytes slice-aggregate-tell-next tell-next-requires returns)
+tell-last-spec = tie.close (tie.spec array-share-prefix-bytes slice-aggregate-tell-next (λ c κs. search needs) returns)

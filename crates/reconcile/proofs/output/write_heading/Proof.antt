@@ -7,20 +7,11 @@ use Rattle.reconcile.proofs.Fits.{text-fits, heading-short}
 use Rattle.reconcile.proofs.output.write_heading.Statement.{statement}
 use Rattle.reconcile.proofs.output.write_heading.Tie as tie
 
-nothing-sent-requires : tie.Need-nothing-sent-requires
-nothing-sent-requires c κs = search needs
-
-slice-aggregate-write-next : tie.Need-slice-aggregate-write-next
-slice-aggregate-write-next c = search needs
-
 array-share-prefix-bytes : tie.Need-array-share-prefix-bytes
 array-share-prefix-bytes c = text-fits _ heading-short _ (c .before .before .before .pre) .0
 
 slice-aggregate-write-next-2 : tie.Need-slice-aggregate-write-next-2
 slice-aggregate-write-next-2 c = sym (length-take-le _ _ (text-fits _ heading-short _ (c .before .before .before .before .pre) .0))
-
-write-next-requires : tie.Need-write-next-requires
-write-next-requires c κs = search needs
 
 returns : tie.Need-returns
 returns c = λ o.
@@ -36,11 +27,4 @@ returns c = λ o.
 
 pub write-heading-spec : {M : Type 1} → statement M
 write-heading-spec =
-    tie.close
-    (tie.spec
-    nothing-sent-requires
-    slice-aggregate-write-next
-    array-share-prefix-bytes
-    slice-aggregate-write-next-2
-    write-next-requires
-    returns)
+    tie.close (tie.spec (λ c κs. search needs) (λ c. search needs) array-share-prefix-bytes slice-aggregate-write-next-2 (λ c κs. search needs) returns)

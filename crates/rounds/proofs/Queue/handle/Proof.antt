@@ -30,15 +30,4 @@ returns-4 c =
     c .first-to-end .ensures ∙ sym (handle-done _ _ r (le-leb _ _ (c .before .before .if2 .left)) (le-leb _ _ (c .before .if3 .left)))
 
 pub handle-spec : {M : Type 1} → statement M
-handle-spec =
-    tie.close
-    (tie.spec
-    (λ c κs. tt)
-    (λ c κs. tt)
-    returns
-    (λ c κs. tt)
-    returns-2
-    (λ c κs. tt)
-    returns-3
-    first-to-end-requires
-    returns-4)
+handle-spec = tie.close (tie.spec (λ c κs. tt) (λ c κs. tt) returns (λ c κs. tt) returns-2 (λ c κs. tt) returns-3 first-to-end-requires returns-4)

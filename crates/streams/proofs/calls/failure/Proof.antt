@@ -3,8 +3,5 @@ use mathlib.Core.Path.{refl}
 use Rattle.streams.proofs.calls.failure.Statement.{statement}
 use Rattle.streams.proofs.calls.failure.Tie as tie
 
-returns : tie.Need-returns
-returns c = refl
-
 pub failure-spec : {M : Type 1} → statement M
-failure-spec = tie.close (tie.spec returns)
+failure-spec = tie.close (tie.spec (λ c. refl))

@@ -50,19 +50,5 @@ returns-2 c = none-within _ _ (c .failure .ensures)
 
 pub read-some-spec : {M : Type 1} → statement M
 read-some-spec =
-    tie.close
-    (tie.spec
-    Inv-loop
-    μ-loop
-    loop-holds
-    read-requires
-    interrupted-requires
-    transfer-of-requires
-    same-length
-    returns
-    sub-tries
-    loop-less
-    loop-again
-    failure-requires
-    same-length-2
-    returns-2)
+    tie.close (tie.spec Inv-loop μ-loop loop-holds read-requires interrupted-requires transfer-of-requires same-length returns sub-tries loop-less loop-again
+    failure-requires same-length-2 returns-2)

@@ -42,17 +42,5 @@ returns-2 c = none-within _ _ (c .failure .ensures)
 
 pub write-some-spec : {M : Type 1} → statement M
 write-some-spec =
-    tie.close
-    (tie.spec
-    Inv-loop
-    μ-loop
-    loop-holds
-    write-requires
-    interrupted-requires
-    transfer-of-requires
-    returns
-    sub-tries
-    loop-less
-    loop-again
-    failure-requires
-    returns-2)
+    tie.close (tie.spec Inv-loop μ-loop loop-holds write-requires interrupted-requires transfer-of-requires returns sub-tries loop-less loop-again
+    failure-requires returns-2)

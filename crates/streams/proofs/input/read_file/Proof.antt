@@ -4,35 +4,10 @@ use Rattle.streams.proofs.TransferAnswers.{none-within}
 use Rattle.streams.proofs.input.read_file.Statement.{statement}
 use Rattle.streams.proofs.input.read_file.Tie as tie
 
-open-read-requires : tie.Need-open-read-requires
-open-read-requires c κs = search needs
-
-failure-requires : tie.Need-failure-requires
-failure-requires c κs = search needs
-
 returns : tie.Need-returns
 returns c = none-within _ _ (c .failure .ensures)
 
-read-all-requires : tie.Need-read-all-requires
-read-all-requires c κs = search needs
-
-close-requires : tie.Need-close-requires
-close-requires c κs = search needs
-
-same-length : tie.Need-same-length
-same-length c = search needs
-
-returns-2 : tie.Need-returns-2
-returns-2 c = search needs
-
 pub read-file-spec : {M : Type 1} → statement M
 read-file-spec =
-    tie.close
-    (tie.spec
-    open-read-requires
-    failure-requires
-    returns
-    read-all-requires
-    close-requires
-    same-length
-    returns-2)
+    tie.close (tie.spec (λ c κs. search needs) (λ c κs. search needs) returns (λ c κs. search needs) (λ c κs. search needs) (λ c. search needs)
+    (λ c. search needs))

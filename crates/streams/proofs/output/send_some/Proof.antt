@@ -6,17 +6,8 @@ use borrow.Author.Needs.{needs}
 use Rattle.streams.proofs.output.send_some.Statement.{statement}
 use Rattle.streams.proofs.output.send_some.Tie as tie
 
-write-some-requires : tie.Need-write-some-requires
-write-some-requires c κs = search needs
-
-tell-write-requires : tie.Need-tell-write-requires
-tell-write-requires c κs = search needs
-
 returns : tie.Need-returns
 returns c = (zero-le, (λ h. absurd (omega (arith, h)), λ _. refl))
-
-wrapping-add-u64-requires : tie.Need-wrapping-add-u64-requires
-wrapping-add-u64-requires c κs = search needs
 
 returns-2 : tie.Need-returns-2
 returns-2 c =
@@ -24,6 +15,4 @@ returns-2 c =
     (at-write-some .write-some .ensures .0 .0, (λ _. (refl, c .wrapping-add-u64 .ensures), λ e. absurd (c .before .if1 .left e)))
 
 pub send-some-spec : {M : Type 1} → statement M
-send-some-spec =
-    tie.close
-    (tie.spec write-some-requires tell-write-requires returns wrapping-add-u64-requires returns-2)
+send-some-spec = tie.close (tie.spec (λ c κs. search needs) (λ c κs. search needs) returns (λ c κs. search needs) returns-2)

@@ -43,17 +43,5 @@ returns-2 c = search needs
 
 pub tell-spec : {M : Type 1} → statement M
 tell-spec =
-    tie.close
-    (tie.spec
-    Inv-loop
-    μ-loop
-    loop-holds
-    sub-write-some
-    part-write-some-start
-    part-write-some-end
-    write-some-requires
-    returns
-    add-done
-    loop-less
-    loop-again
-    returns-2)
+    tie.close (tie.spec Inv-loop μ-loop loop-holds sub-write-some part-write-some-start part-write-some-end write-some-requires returns add-done loop-less
+    loop-again returns-2)

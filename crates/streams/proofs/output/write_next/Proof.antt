@@ -54,18 +54,5 @@ returns-3 c = λ e. let v = c .before .loop .inv in (sym (v .1) ∙ e, omega (ar
 
 pub write-next-spec : {M : Type 1} → statement M
 write-next-spec =
-    tie.close
-    (tie.spec
-    Inv-loop
-    μ-loop
-    returns
-    loop-holds
-    sub-send-some
-    part-send-some-start
-    part-send-some-end
-    send-some-requires
-    returns-2
-    add-done
-    loop-less
-    loop-again
-    returns-3)
+    tie.close (tie.spec Inv-loop μ-loop returns loop-holds sub-send-some part-send-some-start part-send-some-end send-some-requires returns-2 add-done loop-less
+    loop-again returns-3)

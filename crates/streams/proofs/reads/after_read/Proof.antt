@@ -10,12 +10,9 @@ returns : tie.Need-returns
 unfolding inputAfter
 returns c = rw (eq-eqb _ 0 (c .if1 .taken)) refl
 
-sub-t5 : tie.Need-sub-t5
-sub-t5 c = search needs
-
 returns-2 : tie.Need-returns-2
 unfolding inputAfter
 returns-2 c = rw (ne-eqb _ 0 (c .before .before .if1 .left), c .before .wrapping-add-u64 .ensures) refl
 
 pub after-read-spec : {M : Type 1} → statement M
-after-read-spec = tie.close (tie.spec returns (λ c κs. tt) sub-t5 returns-2)
+after-read-spec = tie.close (tie.spec returns (λ c κs. tt) (λ c. search needs) returns-2)

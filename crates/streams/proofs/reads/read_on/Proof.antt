@@ -76,18 +76,5 @@ returns c =
 
 pub read-on-spec : {M : Type 1} → statement M
 read-on-spec =
-    tie.close
-    (tie.spec
-    Inv-loop
-    μ-loop
-    loop-holds
-    sub-read-some
-    part-read-some-start
-    part-read-some-end
-    read-some-requires
-    after-read-requires
-    add-n
-    loop-less
-    loop-again
-    same-length
-    returns)
+    tie.close (tie.spec Inv-loop μ-loop loop-holds sub-read-some part-read-some-start part-read-some-end read-some-requires after-read-requires add-n loop-less
+    loop-again same-length returns)

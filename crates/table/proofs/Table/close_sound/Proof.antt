@@ -70,9 +70,6 @@ returns-6 c s =
     sym (unmoved _ s (c .kept .ensures .1) _ (at-if3 .if3 .left) none _ (close-cover _ _) (last-but _ _)) ∙ close-last _ _ (yes-15 at-if5 s)
 
 -- ---- one does
-relisted-requires : tie.Need-relisted-requires
-relisted-requires c κs = omega arith
-
 returns-7 : tie.Need-returns-7
 returns-7 c s =
     let at-close-day = c .before .before .before .before in
@@ -80,24 +77,5 @@ returns-7 c s =
 
 pub close-sound-spec : {M : Type 1} → statement M
 close-sound-spec =
-    tie.close
-    (tie.spec
-    (λ c κs. tt)
-    returns
-    (λ c κs. tt)
-    (λ c κs. tt)
-    returns-2
-    (λ c κs. tt)
-    returns-3
-    (λ c κs. tt)
-    (λ c κs. tt)
-    returns-4
-    (λ c κs. tt)
-    (λ c κs. tt)
-    returns-5
-    (λ c κs. tt)
-    (λ c κs. tt)
-    (λ c κs. tt)
-    returns-6
-    relisted-requires
-    returns-7)
+    tie.close (tie.spec (λ c κs. tt) returns (λ c κs. tt) (λ c κs. tt) returns-2 (λ c κs. tt) returns-3 (λ c κs. tt) (λ c κs. tt) returns-4 (λ c κs. tt)
+    (λ c κs. tt) returns-5 (λ c κs. tt) (λ c κs. tt) (λ c κs. tt) returns-6 (λ c κs. omega arith) returns-7)

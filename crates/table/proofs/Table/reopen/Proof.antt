@@ -79,22 +79,5 @@ returns-6 c =
 
 pub reopen-spec : {M : Type 1} → statement M
 reopen-spec =
-    tie.close
-    (tie.spec
-    (λ c κs. tt)
-    (λ c κs. tt)
-    returns
-    (λ c κs. tt)
-    (λ c κs. tt)
-    returns-2
-    (λ c κs. tt)
-    returns-3
-    (λ c κs. tt)
-    (λ c κs. tt)
-    returns-4
-    (λ c κs. tt)
-    (λ c κs. tt)
-    (λ c κs. tt)
-    returns-5
-    relisted-requires
-    returns-6)
+    tie.close (tie.spec (λ c κs. tt) (λ c κs. tt) returns (λ c κs. tt) (λ c κs. tt) returns-2 (λ c κs. tt) returns-3 (λ c κs. tt) (λ c κs. tt) returns-4
+    (λ c κs. tt) (λ c κs. tt) (λ c κs. tt) returns-5 relisted-requires returns-6)

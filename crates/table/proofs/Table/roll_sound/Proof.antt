@@ -48,25 +48,10 @@ returns-4 c s =
     ∙ roll-last _ _ (yes-12 (c .before .before .before) s)
 
 -- ---- the front moves
-relisted-requires : tie.Need-relisted-requires
-relisted-requires c κs = omega arith
-
 returns-5 : tie.Need-returns-5
 returns-5 c s = c .relisted .ensures ∙ roll-last _ _ (yes-12 (c .before .before .before) s)
 
 pub roll-sound-spec : {M : Type 1} → statement M
 roll-sound-spec =
-    tie.close
-    (tie.spec
-    (λ c κs. tt)
-    returns
-    (λ c κs. tt)
-    (λ c κs. tt)
-    returns-2
-    (λ c κs. tt)
-    returns-3
-    (λ c κs. tt)
-    (λ c κs. tt)
-    returns-4
-    relisted-requires
-    returns-5)
+    tie.close (tie.spec (λ c κs. tt) returns (λ c κs. tt) (λ c κs. tt) returns-2 (λ c κs. tt) returns-3 (λ c κs. tt) (λ c κs. tt) returns-4
+    (λ c κs. omega arith) returns-5)
