@@ -94,9 +94,9 @@ def ids():
     spoilt = FILE[:-1] + bytes([FILE[-1] ^ 1])
     for text in ('ŻYW', 'Ω', '\ud800', '\U0001d11e', 'ÉTÉ', 'A\0', 'A?', '', ' AXA', 'AXAAX', 'ŻŻŻŻŻ'):
         for file in (FILE, spoilt, FILE[:-1], b''):
-            for date in (DATE, 0):
-                refusal = table.open_table(file, b'\xff' * 4, date)[0]
-                expect(came(scullpouch.open, file, text, date), ('refused', refusal), (text, len(file), date))
+            for day in (DATE, 0):
+                refusal = table.open_table(file, b'\xff' * 4, day)[0]
+                expect(came(scullpouch.open, file, text, day), ('refused', refusal), (text, len(file), day))
         expect(came(scullpouch.Master(FILE).open, text, DATE), ('refused', 9), text)
     expect(came(scullpouch.open, FILE, b'AXA', DATE), 'TypeError')
 
