@@ -1,22 +1,20 @@
 -- All that a run of the program writes is the text of the definition, however its input arrives, and so many bytes were counted.
 -- Assumes nothing.
-use mathlib.Core.Path.{_≡_, refl, sym, ap, _∙_, subst, fun-ext}
-use mathlib.Core.List.{List, [], _∷_, _++_, append-assoc}
+use mathlib.Core.Path.{_≡_, refl, sym, ap, _∙_}
+use mathlib.Core.List.{List, [], _++_, append-assoc}
 use Prim.Native.Nat.{ℕ, _+_, _^_, _≤_, _<_}
 use native.Mathlib.Omega.{arith}
 use lib.ListN.{length, take, drop, drop-of-length-le, length-append}
 use lib.Seq.{length-take-le}
 use Rattle.table.specs.declared.Outcome.{Outcome}
-use Rattle.file_load.specs.Load.{judgeCall}
-use Rattle.table.specs.Table.{openCall, openIn}
-use Rattle.table.proofs.Opens.{open-is}
+use Rattle.table.specs.Table.{openCall}
 use Rattle.session_lines.specs.declared.Line.{Line}
 use Rattle.session_lines.specs.CommandLines.{emptyLine}
 use Rattle.session_command.specs.declared.Kept.{Kept}
 use Rattle.session_command.specs.Sessions.{nothingKept, restText, termsText}
 use Rattle.session_command.proofs.Session.{whole-text}
 use Rattle.session_parts.specs.declared.TermsProgress.{TermsProgress}
-use Rattle.session_parts.specs.TermsParts.{counted, Answers, LastAnswer, Handed, inOne, Run, ended, goes-on, Ran}
+use Rattle.session_parts.specs.TermsParts.{counted, Answers, LastAnswer, Handed, inOne, Run, ended, goes-on}
 
 -- counted twice
 counted-twice : (n a b : ℕ) → counted (counted n a) b ≡ counted n (a + b)
@@ -55,40 +53,6 @@ module _ (opening : List ℕ → ℕ → Outcome) (h : Kept) (l : Line) (part : 
 pub last-count : (opening : List ℕ → ℕ → Outcome) (h : Kept) (l : Line) (before after : List ℕ) (n n′ r : ℕ) → 512 ≤ length before
     → LastAnswer opening h l before after r → n′ ≡ counted n r → n′ ≡ counted n (length (restText opening h l []))
 last-count opening h l before after n n′ r room a c = c ∙ ap (counted n) (sym (length-take-le r after (a .fits)) ∙ ap length (sym (a .text room)))
-
--- on the way: whatever a run from here writes, it is the rest of a run from the first command on
-pub record Came (opening : List ℕ → ℕ → Outcome) (h : Kept) (l : Line) (n : ℕ) : Type 0 where
-  -- the parts that have come
-  pub parts : List (List ℕ)
-  -- the text that has been written
-  pub text : List ℕ
-  -- a run from here on, put after what has come, is a run from the first command on
-  pub on : (later : List (List ℕ)) (t : List ℕ) (n′ : ℕ) → Run opening h l n later t n′ → Run opening nothingKept emptyLine 0 (parts ++ later) (text ++ t) n′
-
--- what has come with one more part handed over
-pub came-more : (opening : List ℕ → ℕ → Outcome) (h h′ : Kept) (l l′ : Line) (n m : ℕ) (part : List ℕ) → Came opening h l n
-    → Handed opening h l part n h′ l′ [] m → Came opening h′ l′ m
-came-more opening h h′ l l′ n m part c d =
-    record {
-      parts = c .parts ++ (part ∷ []);
-      text = c .text ++ d .text;
-      on = λ later t n′ r. rw (append-assoc (c .parts) (part ∷ []) later, append-assoc (c .text) (d .text) t)
-          (c .on (part ∷ later) (d .text ++ t) n′ (goes-on d r));
-    }
-
--- after the last line the parts that have come are a whole run
-pub came-all : (opening : List ℕ → ℕ → Outcome) (h : Kept) (l : Line) (n n′ : ℕ) → Came opening h l n → n′ ≡ counted n (length (restText opening h l []))
-    → Ran opening n′
-came-all opening h l n n′ c e = record {
-  parts = c .parts ++ [];
-  text = c .text ++ restText opening h l [];
-  run =
-      c .on [] (restText opening h l []) n′ (ended e);
-}
-
--- a run with tables opened by the file's own verdict is one with tables opened from the file
-pub ran-own : (file : List ℕ) (n : ℕ) → Ran (openIn (judgeCall file) file) n → Ran (openCall file) n
-ran-own file n r = subst (λ (opening : List ℕ → ℕ → Outcome). Ran opening n) (fun-ext (λ id. fun-ext (λ date. open-is file id date))) r
 
 -- what a run writes, and the count of its bytes
 pub run-text : {opening : List ℕ → ℕ → Outcome} {h : Kept} {l : Line} {n n′ : ℕ} {parts : List (List ℕ)} {text : List ℕ} → Run opening h l n parts text n′
