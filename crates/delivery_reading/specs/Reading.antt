@@ -1,4 +1,5 @@
 -- What the lines of standard input brought: line by line, part by part and as a whole.
+-- That bad lines are told is said by the count of their bytes, modulo 2^64; which bytes these are is required where they are told.
 -- Assumes nothing.
 use Prim.Native.Nat.{ℕ, _+_, _%_, _^_, _<_}
 use mathlib.Core.Path.{_≡_}
@@ -21,7 +22,8 @@ pub record BadsTold (bads : List ℕ) (k r : Reading) : Type 0 where
   pub count : (n : ℕ) → k .bad ≡ badsCounted n → r .bad ≡ badsCounted (n + length bads)
 
 -- of what is kept before and after a line:
--- the rows are those of the definition, and so is the line where it is bad, whichever were told before; it is told, and counted
+-- the rows are those of the definition, and so is the line where it is bad, whichever were told before; it is told, and counted;
+-- the lists are as long as they were
 pub record RowTold (f : List ℕ) (k : Reading) (l : LongLine) (before after : Lists) (r : Reading) : Type 0 where
   pub is : (told : List ℕ)
       → receiptIn (r .state) after (told ++ toldOf (r .state .bad)) ≡ lineReceived (roomIn before) f (receiptIn (k .state) before told) (heldRead l)
@@ -34,7 +36,8 @@ pub record EndTold (f : List ℕ) (k : Reading) (e : LineEnd) (before after : Li
   pub begun : e .ended ≡ false → (r .kept ≡ k) × ((after ≡ before) × (r .line ≡ e .line))
 
 -- of the bytes of a part, of which some are left: whatever was told before and whatever follows,
--- they bring from what was kept before what those left bring from what is kept after, with some bad lines, which are told and counted
+-- they bring from what was kept before what those left bring from what is kept after, with some bad lines, which are told and counted;
+-- the lists are as long as they were
 pub record PartTold (f : List ℕ) (k : LinesRead) (before : Lists) (part : List ℕ) (r : LinesRead) (after : Lists) (left : List ℕ) : Type 0 where
   pub bads : List ℕ
   pub is : (told rest : List ℕ)
@@ -43,7 +46,8 @@ pub record PartTold (f : List ℕ) (k : LinesRead) (before : Lists) (part : List
   pub tells : BadsTold bads (k .kept) (r .kept)
   pub lengths : SameLengths before after
 
--- of the end of the input: what is kept and the line begun bring what the lists hold then, with some bad lines, which are told and counted
+-- of the end of the input: what is kept and the line begun bring what the lists hold then, with some bad lines, which are told and counted;
+-- the lists are as long as they were
 pub record LastTold (f : List ℕ) (k : LinesRead) (before after : Lists) (r : Reading) : Type 0 where
   pub bads : List ℕ
   pub is : (told : List ℕ)
@@ -56,26 +60,28 @@ pub record Told (told : ℕ) (bads : List ℕ) (s : Reading) : Type 0 where
   pub text : Grew told (length (badRowsText bads)) (s .told .bytes)
   pub count : s .bad ≡ badsCounted (length bads)
 
--- after the first bytes of an input, whatever follows where reads are left, what is received is what the lists hold and what the rest brings
+-- after the first bytes of an input, whatever follows where reads are left, what is received is what the lists hold and what the rest brings;
+-- the bad lines so far were told, and counted
 pub record Came (f : List ℕ) (told : ℕ) (a : Lists) (input : List ℕ) (left : ℕ) (k : LinesRead) : Type 0 where
   pub bads : List ℕ
   pub is : (rest : List ℕ) → (left ≡ 0 → rest ≡ [])
       → receiptOf f (input ++ rest) ≡ restReceived 65536 f (receiptIn (k .kept .state) a bads) (k .line) rest
   pub tells : Told told bads (k .kept)
 
--- of the first part of an input; where it has fewer than three bytes, no read is left
+-- after the first part of an input, for every number of reads left that is 0 where the part has fewer than three bytes:
+-- its bytes have come; the lists are as long as they were
 pub record FirstTold (f : List ℕ) (told : ℕ) (before : Lists) (part : List ℕ) (r : LinesRead) (after : Lists) : Type 0 where
   pub came : roomIn before ≡ 65536 → (left : ℕ) → (length part < 3 → left ≡ 0) → Came f told after part left r
   pub lengths : SameLengths before after
 
--- the same of an input of which n bytes were counted, modulo 2^64
+-- there is an input of which n bytes were counted, modulo 2^64, and its bytes have come
 pub record ReadTo (f : List ℕ) (told : ℕ) (a : Lists) (left n : ℕ) (k : LinesRead) : Type 0 where
   pub input : List ℕ
   pub count : n ≡ length input % 2 ^ 64
   pub came : Came f told a input left k
 
 -- there is an input of which n bytes were counted, modulo 2^64: its good rows are those in the lists, its bad lines were told after so many bytes, and counted;
--- that it has the bytes that were read is not said
+-- that it has the bytes that were read, and that it ended there, is not said
 pub record RowsIn (f : List ℕ) (told : ℕ) (a : Lists) (n : ℕ) (s : Reading) : Type 0 where
   pub input : List ℕ
   pub count : n ≡ length input % 2 ^ 64
@@ -83,7 +89,7 @@ pub record RowsIn (f : List ℕ) (told : ℕ) (a : Lists) (n : ℕ) (s : Reading
   pub is : receiptIn (s .state) a bads ≡ receiptOf f input
   pub tells : Told told bads s
 
--- before the first line
+-- before the first line: no bad line, no row and no line is counted, no line is begun, and no row was too many
 pub record Nothing (s : Reading) : Type 0 where
   pub bad : s .bad ≡ 0
   pub rows : s .state .rows ≡ 0

@@ -38,7 +38,7 @@ pub struct InputRead {
     pub lines: LinesRead,
 }
 
-// How far standard input was read, to its end or to a good row too many, and what it brought. Where a read failed this is nothing.
+// How far standard input was read, to its end or to a good row too many, and what it brought. Where a read failed nothing is said of it.
 pub struct RowsRead {
     pub input: Input,
     pub kept: Reading,

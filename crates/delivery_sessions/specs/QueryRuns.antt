@@ -63,7 +63,7 @@ pub record Came (of : List ℕ → Standing) (k : ℕ) (l : LongLine) (n m : ℕ
   pub on : (later : List (List ℕ)) (t : List ℕ) (n′ : ℕ) → QueryRun of k l n later t n′ → QueryRun of 1 emptyLong 0 (parts ++ later) (text ++ t) n′
 
 -- a run on a file and a text of notices: the file is accepted, no notice is bad, and n bytes were written for an input of m bytes, both modulo 2^64;
--- then they are `queryText` of the three (proofs, Runs: `query-text`, `query-count`), and nothing is told
+-- by `query-text` and `query-count` they are then as many as `queryText` of the three has
 pub record RanOn (f notices : List ℕ) (n m : ℕ) : Type 0 where
   pub accepted : firstNo (loadAsks f) ≡ 0
   pub good : textTold notices .bad ≡ 0

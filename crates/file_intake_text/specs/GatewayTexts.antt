@@ -38,7 +38,7 @@ unfoldable pub countsText : Counts → List ℕ
 countsText c = (79 ∷ (75 ∷ [])) ++ (spaced (c .years) ++ (spaced (c .records) ++ (10 ∷ [])))
 
 -- 'or `NO` and the refusal':
--- the result of the final call
+-- the result of a call
 unfoldable pub resultText : Answer Counts → List ℕ
 resultText a = cond (eqb (a .refusal) 0) (countsText (a .value)) (refusalText (a .refusal))
 
@@ -46,12 +46,13 @@ resultText a = cond (eqb (a .refusal) 0) (countsText (a .value)) (refusalText (a
 unfoldable pub takenText : Taken → List ℕ
 takenText t = cond (eqb (t .refusal) 0) (resultText (finishCall (t .state))) (refusalText (t .refusal))
 
--- '`gateway N < master.bin` judges a file where there is no room for it'
+-- '`gateway N < master.bin` judges a file where there is no room for it':
+-- what is printed after N blocks were announced and all pieces of the input handed over
 unfoldable pub gatewayText : ℕ → List ℕ → List ℕ
 gatewayText n input = takenText (handedOver n input (pieceCount input))
 
 -- 'A read that fails gets 1';
--- else this is the text of an input with as many bytes as were read: whatever follows them, where a call was refused before the input ended
+-- else this is the text of every input that begins with some bytes, as many as were read; where no read is left, of them alone
 abbrev pub GatewaySays : ℕ → Input → List ℕ → Type 0
 GatewaySays n i text = (i .failed ≡ true → text ≡ refusalText 1) × (i .failed ≡ false → ForInput i (λ input. text ≡ gatewayText n input))
 
@@ -62,7 +63,7 @@ pub record GatewayRan (n : ℕ) (i : Input) (bytes : ℕ) : Type 0 where
   pub says : GatewaySays n i text
   pub count : bytes ≡ length text
 
--- what a run ended with, as an answer of the final call; a call that was refused has no counts
+-- what a run ended with, as an answer of the final call
 abbrev pub endedAnswer : Ended → Answer Counts
 endedAnswer e = record { refusal = e .refusal; value = record { years = e .years; records = e .records } }
 
@@ -70,7 +71,7 @@ endedAnswer e = record { refusal = e .refusal; value = record { years = e .years
 abbrev pub refusedEnd : ℕ → Ended
 refusedEnd n = record { refusal = n; years = 0; records = 0 }
 
--- its line
+-- the line of such an end
 unfoldable pub endedText : Ended → List ℕ
 endedText e = resultText (endedAnswer e)
 
@@ -82,7 +83,8 @@ fiveDigits n = lastDigit (n / 10000) ∷ inFourDigits (n % 10000)
 unfoldable pub digitCount : ℕ → ℕ
 digitCount n = cond (ltb n 10) 1 (cond (ltb n 100) 2 (cond (ltb n 1000) 3 (cond (ltb n 10000) 4 5)))
 
--- a state that the blocks read so far have left: there is an input of whole blocks that are all taken
+-- a state that some blocks leave: there is an input of as many whole blocks as were taken, of which none is refused;
+-- at most 128 are announced
 pub record IntakeReached (n : ℕ) (s : Intake) : Type 0 where
   pub input : List ℕ
   pub blocks : length input ≡ 512 * s .taken

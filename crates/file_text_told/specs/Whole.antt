@@ -45,7 +45,7 @@ composeTold input =
     (badEntryText (textContent input .bad))
 
 -- only the code needs it: what is held after some bytes of a text, of which n were counted, modulo 2^64:
--- whatever follows, the rest says after it what the whole says
+-- whatever follows, the rest says after it what the whole says; the records have room for 65,536 bytes
 pub record ReadTo (t : ListTaken) (l : LongLine) (records : List ℕ) (n : ℕ) : Type 0 where
   pub input : List ℕ
   pub count : n ≡ length input % 2 ^ 64
@@ -69,7 +69,7 @@ pub record Ran (n : ℕ) (taken : Bool) (bytes told : ℕ) : Type 0 where
   pub file : taken ≡ true → bytes ≡ length (composeText input)
   pub said : told % 2 ^ 64 ≡ length (composeTold input) % 2 ^ 64
 
--- the place that is told with a refusal is there: of a text with no bad line with 5, 7 and 8 a line's number from 1 on;
+-- the place that is told with a refusal: of a text with no bad line with 5, 7 and 8 a line's number from 1 on;
 -- of every text with 6 a day of the cover from which on seven days in the cover are no trading days
 -- that it is the first is what `firstFault` and `firstIdle` say
 pub record SaysPlace (input : List ℕ) : Type 0 where

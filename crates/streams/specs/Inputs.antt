@@ -21,19 +21,19 @@ inputAfter i t =
 
 -- reads that go on until they have brought enough, or the buffer is full, or no read is left
 pub record ReadOn (i : Input) (enough : ℕ) (buffer : List ℕ) (r : Part) : Type 0 where
-  -- what was read stands at the start of the buffer, and is counted
+  -- no more bytes came than the buffer holds, and they are counted, modulo 2^64; that they are those which were read is not said
   pub within : Counts (r .length) buffer
   pub count : r .input .bytes ≡ (i .bytes + r .length) % 2 ^ 64
   -- where more was asked for than came, though it had room, no read is left
   pub ended : r .length < enough → r .length < length buffer → r .input .left ≡ 0
-  -- else each read brought a byte or more, and none failed: the end is not said where it was not found
+  -- else at most as many reads were made as bytes came, and `failed` is what it was: the end is not said where it was not found
   pub goes : (enough ≤ r .length) ⊎ (length buffer ≤ r .length) → (i .left ≤ r .input .left + r .length) × (r .input .failed ≡ i .failed)
-  -- where a byte is asked for a read is made, so a loop over the reads ends
+  -- where a byte is asked for and has room, fewer reads are left than before, so a loop over the reads ends
   pub fewer : 0 < enough → 0 < length buffer → 0 < i .left → r .input .left < i .left
 
 -- of an input that was read so far: there are as many bytes as the reads brought, modulo 2^64, and this holds of every input that begins with them;
 -- where no read is left, of them alone;
--- that they are the bytes which were read is not said
+-- that they are the bytes which were read is not said, and whether a read failed plays no part
 pub record ForInput (i : Input) (holds : List ℕ → Type 0) : Type 0 where
   pub input : List ℕ
   pub count : i .bytes ≡ length input % 2 ^ 64
