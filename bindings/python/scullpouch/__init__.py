@@ -35,7 +35,7 @@ if TYPE_CHECKING:
 Day = Union[SupportsIndex, datetime.date]
 Price = Union[SupportsIndex, Decimal]
 
-__version__ = '2.1.0'
+__version__ = '2.2.0'
 INTERFACE = 2
 FILE_AT_MOST = 65536
 PLACES = 15
