@@ -5,7 +5,7 @@ are looked into by the standard library, and installed where there is the tool: 
 and of the morning is what is stored in examples/. What has no tool is left out, and a line says so. Nothing is proved,
 and nothing is fetched from a network.
 
-It is not a part of .ci/run yet: run it after .ci/run.
+.ci/run runs it last, after target/ is whole.
 """
 
 import argparse
@@ -26,9 +26,10 @@ from glob import glob
 from importlib.util import find_spec
 
 from tests import ROOT
+from tests.second.status import status
 
 EXAMPLES = os.path.join(ROOT, 'examples')
-PARTS = ('bin', 'log', 'staticlib', 'wasm')
+PARTS = ('log', 'programs', 'staticlib', 'wasm')
 SECONDS = 300
 TOOLS = {'dpkg-deb': 'the Debian package', 'dpkg': 'the Debian package as it is installed', 'npm': 'the archive for JavaScript',
          'node': 'the archive for JavaScript', 'cargo': 'the crate for Rust', 'cc': 'the library for C',
@@ -186,7 +187,7 @@ class Sheet(unittest.TestCase):
 
     @has('nm')
     def test_taken(self):
-        lines = [line.split() for name in programs() for line in run('nm', '-D', os.path.join(TARGET, 'bin', name)).decode().splitlines()]
+        lines = [line.split() for name in programs() for line in run('nm', '-D', os.path.join(TARGET, 'programs', name)).decode().splitlines()]
         expected = sorted({words[1].split('@')[0] for words in lines if words[0] == 'U'})
         said = re.search(r'^- what the built programs take of the C library: ((?:.*\n)(?:  .*\n)*)', self.text, re.M)[1]
         self.assertEqual(said.replace(',', ' ').split(), expected)
@@ -271,8 +272,8 @@ class Stops(unittest.TestCase):
     def test_program_changed_after_the_gate(self):
         self.complete_logs()
         self.mark()
-        write(read(self.clone, 'target', 'bin', 'query') + b'\0', self.clone, 'target', 'bin', 'query')
-        self.stopped('target/bin/query is not the one that the gate has tested')
+        write(read(self.clone, 'target', 'programs', 'query') + b'\0', self.clone, 'target', 'programs', 'query')
+        self.stopped('target/programs/query is not the one that the gate has tested')
 
     def test_edit_not_refused(self):
         self.complete_logs()
@@ -286,8 +287,8 @@ class Stops(unittest.TestCase):
         self.stopped('does not say that days is proved')
 
     def test_no_program(self):
-        os.remove(os.path.join(self.clone, 'target', 'bin', 'terms'))
-        self.stopped('target/bin/terms is missing', '--unpassed')
+        os.remove(os.path.join(self.clone, 'target', 'programs', 'terms'))
+        self.stopped('target/programs/terms is missing', '--unpassed')
 
     def test_module_of_another_archive(self):
         write(read(self.clone, 'target', 'staticlib', 'libscullpouch.a') + b'\n', self.clone, 'target', 'staticlib', 'libscullpouch.a')
@@ -344,7 +345,7 @@ class Contents(unittest.TestCase):
     # The files of target/ and of the commit, byte by byte, below a prefix.
     def below(self, found, top, libraries, documents):
         for name in programs():
-            self.assertEqual(found[f'{top}/lib/scullpouch/{name}'][1], read(TARGET, 'bin', name), name)
+            self.assertEqual(found[f'{top}/lib/scullpouch/{name}'][1], read(TARGET, 'programs', name), name)
             self.assertEqual(found[f'{top}/lib/scullpouch/{name}'][0].mode, 0o755, name)
         for name in ('libscullpouch.a', shared_object()):
             self.assertEqual(found[f'{top}/{libraries}/{name}'][1], read(TARGET, 'staticlib', name), name)
@@ -373,6 +374,7 @@ class Contents(unittest.TestCase):
         self.assertIn(f'\nVersion: {version()}\n', about['./control'][1].decode())
         # nothing of it has a name that another package may have
         own = re.compile(r'\./usr/(bin/scullpouch|include/scullpouch\.h|(lib/|share/|share/doc/)scullpouch/.*'
+                         r'|share/man/man1/scullpouch(-[a-z]*)?\.1'
                          r'|lib/[^/]*/(pkgconfig/scullpouch\.pc|cmake/scullpouch/[^/]*|libscullpouch\.[^/]*))')
         self.assertEqual([name for name in data if not data[name][0].isdir() and not own.fullmatch(name)], [])
 
@@ -420,10 +422,13 @@ class Installed(unittest.TestCase):
     def path(self, *names):
         return os.path.join(self.folder, *names)
 
-    # The stored session: commands to standard input in the folder of the master file, and what `terms` prints.
+    # The stored session: commands to standard input in the folder of the master file, and what `terms` prints; the
+    # status of an installed `terms` is the second program's.
     def session(self, *command, **ways):
-        found = run(*command, input=read(EXAMPLES, 'session.txt'), **{'cwd': EXAMPLES, **ways})
-        self.assertTrue(found == read(EXAMPLES, 'session.out'), found[:2000])
+        done = ran(*command, input=read(EXAMPLES, 'session.txt'), **{'cwd': EXAMPLES, **ways})
+        self.assertTrue(done.stdout == read(EXAMPLES, 'session.out'), done.stdout[:2000])
+        installed = any(os.path.basename(word) == 'terms' for word in command)
+        self.assertEqual(done.returncode, status('terms', done.stdout, b'') if installed else 0)
 
     # Whether CMake configures a project that asks for a version of what is installed below a folder.
     def configured(self, top, asked):
@@ -462,7 +467,8 @@ class Tar(Installed):
         blocks = str(len(read(EXAMPLES, 'master.bin')) // 512)
         file = read(EXAMPLES, 'master.bin')
         self.assertRegex(run(self.command, 'gateway', blocks, input=file), rb'^OK ')
-        self.assertEqual(run(self.command, 'gateway', f'{blocks} ', input=file), b'NO 1\n')
+        done = ran(self.command, 'gateway', f'{blocks} ', input=file)
+        self.assertEqual((done.returncode, done.stdout), (1, b'NO 1\n'))
 
     # A word that is no program: status 2, a line, and nothing is read.
     def test_no_program(self):
@@ -476,7 +482,18 @@ class Tar(Installed):
         said = run(self.command, '--version').decode()
         commit, kit = git(CLONES[0], 'rev-parse', 'HEAD'), read(CLONES[0], 'bindings', 'js', 'kit').decode().strip()
         self.assertEqual(said, f'scullpouch {version()}, commit {commit}, {kit}, the gate has not passed\n')
+        self.assertEqual(run(self.command, 'query', '--version').decode(), f'query ({said[:-1]})\n')
         self.assertIn(f'programs: {" ".join(programs())}\n', run(self.command, '--help').decode())
+
+    # Each program has a man page that its help is in, and man shows it.
+    @has('man', 'groff')
+    def test_manual(self):
+        for name in programs():
+            path = os.path.join(self.top, 'share', 'man', 'man1', f'scullpouch-{name}.1')
+            shown = run('man', '-l', '-P', 'cat', path, env=environment(MANWIDTH='200', LC_ALL='C')).decode()
+            words = read(CLONES[0], 'docs', 'help', f'{name}.txt').decode()
+            for word in set(re.findall(r'[A-Za-z]{4,}', words)) - {'usage', 'Reads', 'Writes', 'Example', 'Status'}:
+                self.assertIn(word, shown, f'{name}: {word}')
 
     # A program in C by the lines that pkg-config says, over the archive and over the shared object.
     @has('cc', 'pkg-config')
@@ -547,7 +564,7 @@ class Debian(Installed):
     @unittest.skipUnless(shutil.which('chroot') and os.getuid() == 0, 'no chroot')
     def test_alone(self):
         for name in programs():
-            self.put(os.path.join(TARGET, 'bin', name))
+            self.put(os.path.join(TARGET, 'programs', name))
         files = {os.path.basename(path) for path in glob(self.path('root', 'lib*', '**'), recursive=True) if os.path.isfile(path)}
         self.assertEqual({name for name in files if not re.match(r'ld-linux|libc\.so\.6$', name)}, set())
         self.put_examples(EXAMPLES)
@@ -571,14 +588,14 @@ class Debian(Installed):
     # It is installed beside a libc6 that its programs can run with, is as its sums say, and leaves nothing when it goes.
     @unittest.skipUnless(shutil.which('dpkg') and os.getuid() == 0, 'no dpkg')
     def test_dpkg(self):
-        needed = max(int(number) for name in programs() for number in re.findall(rb'GLIBC_2\.(\d+)', read(TARGET, 'bin', name)))
+        needed = max(int(number) for name in programs() for number in re.findall(rb'GLIBC_2\.(\d+)', read(TARGET, 'programs', name)))
         self.assertNotEqual(self.dpkg('-i', package('.deb'), libc6=f'2.{needed - 1}-1'), 0)
         self.assertEqual(self.dpkg('-i', package('.deb'), libc6=f'2.{needed}-1'), 0)
-        self.assertEqual(read(self.path('system', 'usr', 'lib', 'scullpouch', 'query')), read(TARGET, 'bin', 'query'))
+        self.assertEqual(read(self.path('system', 'usr', 'lib', 'scullpouch', 'query')), read(TARGET, 'programs', 'query'))
         self.assertEqual(self.dpkg('-V', 'scullpouch'), 0)
         if shutil.which('chroot'):
             for name in programs():
-                self.put(os.path.join(TARGET, 'bin', name), 'system')
+                self.put(os.path.join(TARGET, 'programs', name), 'system')
             self.put_examples(EXAMPLES, 'system')
             self.session('chroot', self.path('system'), '/usr/lib/scullpouch/terms')
         self.assertEqual(self.dpkg('-P', 'scullpouch'), 0)

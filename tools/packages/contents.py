@@ -10,6 +10,7 @@ from pathlib import Path
 from .archives import File, ar, below, tar, zipped
 from .checkout import ARCHIVE, PROGRAMS, WASM, Stop
 from .machine import OLDEST, glibc_of, machine_of
+from .manual import command_page, help_text, page as manual_page
 
 NAME = 'scullpouch'
 SUMMARY = 'Contract terms of stock futures and stock options'
@@ -24,7 +25,7 @@ class Built:
 
     def __init__(self, checkout):
         self.checkout, self.version = checkout, checkout.version
-        self.programs = {name: File(checkout.built(f'bin/{name}'), runs=True) for name in PROGRAMS}
+        self.programs = {name: File(checkout.built(f'programs/{name}'), runs=True) for name in PROGRAMS}
         self.archive = File(checkout.built(ARCHIVE))
         self.shared = File(checkout.built(f'staticlib/{checkout.shared_object}'))
 
@@ -94,6 +95,14 @@ def cmake(release, folder):
             version: File(filled(release, version, VERSION=release.version, INTERFACE=release.version.split('.')[0]))}
 
 
+# The man pages of the command and of its programs.
+def manual(release):
+    texts = {name: help_text(release.checkout.root, name) for name in PROGRAMS}
+    pages = {f'{NAME}-{name}.1': manual_page(name, text, release.version) for name, text in texts.items()}
+    pages[f'{NAME}.1'] = command_page(PROGRAMS, texts, release.version)
+    return {name: File(text.encode()) for name, text in pages.items()}
+
+
 # programs: where they are, as the shell reads it; prefix: where all is installed, as pkg-config reads it; folder: that of
 # the libraries below it. bindings/install has the same.
 def installed(release, programs, prefix, folder):
@@ -102,7 +111,7 @@ def installed(release, programs, prefix, folder):
             'include/scullpouch.h': release.file('bindings/include/scullpouch.h'), f'{folder}/libscullpouch.a': release.archive,
             f'{folder}/{name}': release.shared, f'{folder}/libscullpouch.so': File(link=name),
             f'{folder}/pkgconfig/scullpouch.pc': pkg_config(release, prefix, folder),
-            **below(f'{folder}/cmake/scullpouch', cmake(release, folder))}
+            **below(f'{folder}/cmake/scullpouch', cmake(release, folder)), **below('share/man/man1', manual(release))}
 
 
 # The command finds the programs beside itself, wherever the folder is, and so does pkg-config.

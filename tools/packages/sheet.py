@@ -102,7 +102,7 @@ def assumed(log):
 
 def axioms(checkout, found):
     shared = checkout.built(f'staticlib/{checkout.shared_object}')
-    called = sorted({name for program in PROGRAMS for name in taken(checkout.built(f'bin/{program}'))})
+    called = sorted({name for program in PROGRAMS for name in taken(checkout.built(f'programs/{program}'))})
     lines = [f'{crate}: {assumed(found[crate])}' for crate in (*PROGRAMS, 'scullpouch')]
     return ['C functions whose contracts are assumed, as the logs name them (scullpouch is the library for other languages):',
             *wrapped([*lines, f'what the built programs take of the C library: {", ".join(called)}',

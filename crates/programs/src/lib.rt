@@ -1,0 +1,114 @@
+// The programs: what their arguments ask for, a run or a text, and the status with which they end.
+use program_arguments::Asked;
+
+// `terms`: a run of it, or what it says of itself.
+#[no_mangle]
+pub extern "C" fn scullpouch_program_terms() -> i32 {
+    let none = streams::nothing_sent();
+    let asked = program_arguments::asked_for();
+    match asked {
+        Asked::Nothing => terms_run::run().status as i32,
+        Asked::Help => program_arguments::shown(program_help::terms_help(none)) as i32,
+        Asked::Version => program_arguments::shown(program_help::terms_version(none)) as i32,
+        Asked::Other => program_arguments::refused(b"terms") as i32,
+    }
+}
+
+// `compose`: a run of it, or what it says of itself.
+#[no_mangle]
+pub extern "C" fn scullpouch_program_compose() -> i32 {
+    let none = streams::nothing_sent();
+    let asked = program_arguments::asked_for();
+    match asked {
+        Asked::Nothing => compose_run::run().status as i32,
+        Asked::Help => program_arguments::shown(program_help::compose_help(none)) as i32,
+        Asked::Version => program_arguments::shown(program_help::compose_version(none)) as i32,
+        Asked::Other => program_arguments::refused(b"compose") as i32,
+    }
+}
+
+// `decompose`: a run of it, or what it says of itself.
+#[no_mangle]
+pub extern "C" fn scullpouch_program_decompose() -> i32 {
+    let none = streams::nothing_sent();
+    let asked = program_arguments::asked_for();
+    match asked {
+        Asked::Nothing => decompose_run::run().status as i32,
+        Asked::Help => program_arguments::shown(program_help::decompose_help(none)) as i32,
+        Asked::Version => program_arguments::shown(program_help::decompose_version(none)) as i32,
+        Asked::Other => program_arguments::refused(b"decompose") as i32,
+    }
+}
+
+// `confirm`: a run of it, or what it says of itself.
+#[no_mangle]
+pub extern "C" fn scullpouch_program_confirm() -> i32 {
+    let none = streams::nothing_sent();
+    let asked = program_arguments::asked_for();
+    match asked {
+        Asked::Nothing => confirm_run::run().status as i32,
+        Asked::Help => program_arguments::shown(program_help::confirm_help(none)) as i32,
+        Asked::Version => program_arguments::shown(program_help::confirm_version(none)) as i32,
+        Asked::Other => program_arguments::refused(b"confirm") as i32,
+    }
+}
+
+// `deliver`: a run of it, or what it says of itself.
+#[no_mangle]
+pub extern "C" fn scullpouch_program_deliver() -> i32 {
+    let none = streams::nothing_sent();
+    let asked = program_arguments::asked_for();
+    match asked {
+        Asked::Nothing => deliver_run::run().status as i32,
+        Asked::Help => program_arguments::shown(program_help::deliver_help(none)) as i32,
+        Asked::Version => program_arguments::shown(program_help::deliver_version(none)) as i32,
+        Asked::Other => program_arguments::refused(b"deliver") as i32,
+    }
+}
+
+// `reconcile`: a run of it, or what it says of itself.
+#[no_mangle]
+pub extern "C" fn scullpouch_program_reconcile() -> i32 {
+    let none = streams::nothing_sent();
+    let asked = program_arguments::asked_for();
+    match asked {
+        Asked::Nothing => reconcile_run::run().status as i32,
+        Asked::Help => program_arguments::shown(program_help::reconcile_help(none)) as i32,
+        Asked::Version => program_arguments::shown(program_help::reconcile_version(none)) as i32,
+        Asked::Other => program_arguments::refused(b"reconcile") as i32,
+    }
+}
+
+// `query`: a run of it, or what it says of itself.
+#[no_mangle]
+pub extern "C" fn scullpouch_program_query() -> i32 {
+    let none = streams::nothing_sent();
+    let asked = program_arguments::asked_for();
+    match asked {
+        Asked::Nothing => query_run::run().status as i32,
+        Asked::Help => program_arguments::shown(program_help::query_help(none)) as i32,
+        Asked::Version => program_arguments::shown(program_help::query_version(none)) as i32,
+        Asked::Other => program_arguments::refused(b"query") as i32,
+    }
+}
+
+// `gateway`: its argument is the number of blocks; one that is none of those that it knows and no number gets 1.
+#[no_mangle]
+pub extern "C" fn scullpouch_program_gateway() -> i32 {
+    let none = streams::nothing_sent();
+    let asked = program_arguments::asked_for();
+    match asked {
+        Asked::Help => program_arguments::shown(program_help::gateway_help(none)) as i32,
+        Asked::Version => program_arguments::shown(program_help::gateway_version(none)) as i32,
+        Asked::Other => gateway_other(),
+        Asked::Nothing => gateway_run::run().status as i32,
+    }
+}
+
+// A run of `gateway`, unless its first argument begins with a hyphen.
+fn gateway_other() -> i32 {
+    if program_arguments::begins_with_hyphen() {
+        return program_arguments::refused(b"gateway") as i32;
+    }
+    gateway_run::run().status as i32
+}
