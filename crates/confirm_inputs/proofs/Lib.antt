@@ -2,3 +2,4 @@ pub mod VerdictTexts
 pub mod EntryLines
 pub mod InputLines
 pub mod VerdictLength
+pub mod FirstBytes

@@ -2,10 +2,10 @@
 -- (02, note 12; docs/OPERATIONS.md, `confirm`, and docs/DECISIONS.md, Listings from elsewhere, from which the quotations are).
 -- Assumes nothing.
 use Prim.Native.Nat.{ℕ, suc}
-use mathlib.Core.Bool.{Bool, _&&_, _||_, cond}
+use mathlib.Core.Bool.{Bool, not, _&&_, _||_, cond}
 use mathlib.Core.List.{List, [], _∷_, _++_}
 use lib.Dec.{eqb, ltb}
-use lib.ListN.{length, take}
+use lib.ListN.{length, take, getD}
 use Rattle.questions.specs.Questions.{Answer}
 use Rattle.product.specs.declared.Kind.{Kind}
 use Rattle.session_text.specs.TermsText.{decimal, nameText}
@@ -63,3 +63,13 @@ inputLinesText long file n s list (line ∷ lines) =
 -- of a longer one, that is the line that holds byte 65,537, the last of the lines of the first 65,537 bytes
 unfoldable pub confirmText : List ℕ → List ℕ → List ℕ
 confirmText file input = inputLinesText (ltb 65536 (length input)) file 0 nothingRead [] (linesFrom [] (take 65537 input))
+
+-- a text is 'YES' and its line feed
+unfoldable pub isYes : List ℕ → Bool
+isYes text =
+    eqb (length text) 4 && (eqb (getD text 0 0) 89 && (eqb (getD text 1 0) 69 && (eqb (getD text 2 0) 83 && eqb (getD text 3 0) 10)))
+
+-- 'something was refused, bad or differs' (docs/OPERATIONS.md, The status):
+-- the line that is printed is another than `YES`
+unfoldable pub confirmRefused : List ℕ → List ℕ → Bool
+confirmRefused file input = not (isYes (confirmText file input))

@@ -12,7 +12,7 @@ ghost use Rattle.session_lines.specs.CommandLines.{emptyLine, linesFrom};
 ghost use Rattle.table_vendor.specs.Vendor.{verdictAnswer};
 ghost use Rattle.confirm_lines.specs.ListingLines.{nothingRead};
 ghost use Rattle.file_text_print.specs.Contents.{LineWith};
-ghost use Rattle.confirm_inputs.specs.ConfirmInputs.{yesText, differsText, refusedText, badInputText, judgedText, endText, inputLinesText};
+ghost use Rattle.confirm_inputs.specs.ConfirmInputs.{yesText, differsText, refusedText, badInputText, judgedText, endText, inputLinesText, isYes};
 ghost use Rattle.confirm_inputs.specs.InputReading.{saidIn, EntryPut};
 
 // The listing is the table's.
@@ -121,4 +121,14 @@ pub fn confirm_line(file: &[u8], input: &[u8], list: &mut [u16]) -> Line
     }
     let n = delivery_notices::read_length(input.len());
     read_lines(file, &input[..n], 65536 < input.len(), list)
+}
+
+// Whether a line, with its line feed, is `YES`.
+pub fn is_yes(line: &[u8]) -> bool
+    ensures { λ r. ⌜ r ≡ isYes (now (line .entry)) ⌝ }
+{
+    if line.len() != 4 {
+        return false;
+    }
+    (line[0] == b'Y') & ((line[1] == b'E') & ((line[2] == b'S') & (line[3] == b'\n')))
 }

@@ -45,7 +45,7 @@ fn transfer_of(got: isize, buffer: &[u8]) -> Transfer
 }
 
 // The next bytes of a descriptor at the start of a buffer.
-pub fn read_some(fd: i32, part: &mut [u8]) -> Transfer
+pub(crate) fn read_some(fd: i32, part: &mut [u8]) -> Transfer
     ensures { λ r. ⌜ Within r (now (part .exit)) ⌝ }
 {
     let mut tries: u64 = 18446744073709551615;

@@ -1,12 +1,11 @@
-// Reading standard input and files by name. `what` is told before the reason: the program and what it reads, as `terms: standard input`.
+// Reading files by name. `what` is told before the reason: the program and what it reads, as `query: master.bin`.
 use crate::calls::Transfer;
 use crate::calls::failure;
 use crate::calls::read_some;
-use libc::STDIN_FILENO;
 ghost use Rattle.streams.specs.Transfers.{Within};
 
 // The bytes of a descriptor at the start of a buffer: up to the end, or as many as the buffer holds. None where any read fails.
-pub fn read_all(fd: i32, buffer: &mut [u8]) -> Transfer
+fn read_all(fd: i32, buffer: &mut [u8]) -> Transfer
     ensures { λ r. ⌜ Within r (now (buffer .exit)) ⌝ }
 {
     let mut n: usize = 0;
@@ -24,28 +23,6 @@ pub fn read_all(fd: i32, buffer: &mut [u8]) -> Transfer
         failed: false,
         length: n,
     }
-}
-
-// The next bytes of standard input at the start of a buffer. A read that fails is told.
-pub fn read_input_part(what: &[u8], part: &mut [u8]) -> Transfer
-    ensures { λ r. ⌜ Within r (now (part .exit)) ⌝ }
-{
-    let read = read_some(STDIN_FILENO, part);
-    if read.failed {
-        os::fail(what);
-    }
-    read
-}
-
-// Standard input at the start of a buffer: up to its end, or as many bytes as the buffer holds. None where any read fails, which is told.
-pub fn read_input(what: &[u8], buffer: &mut [u8]) -> Transfer
-    ensures { λ r. ⌜ Within r (now (buffer .exit)) ⌝ }
-{
-    let read = read_all(STDIN_FILENO, buffer);
-    if read.failed {
-        os::fail(what);
-    }
-    read
 }
 
 // The bytes of a file at the start of a buffer: up to its end, or as many as the buffer holds.

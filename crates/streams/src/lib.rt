@@ -5,13 +5,9 @@ mod output;
 mod reads;
 
 pub use calls::Transfer;
-pub use calls::read_some;
 pub use calls::write_some;
-pub use input::read_all;
 pub use input::read_file;
 pub use input::read_file_or_tell;
-pub use input::read_input;
-pub use input::read_input_part;
 pub use output::Sent;
 pub use output::Told;
 pub use output::is_open;

@@ -1,0 +1,28 @@
+-- The end of a run of `gateway`, with its status (docs/OPERATIONS.md, 'The status'). Assumes nothing.
+use Prim.Native.Nat.{ℕ}
+use mathlib.Core.Path.{_≡_}
+use mathlib.Core.Bool.{Bool, true, false, not, cond}
+use mathlib.Core.List.{List}
+use lib.Dec.{eqb}
+use Rattle.file_intake.specs.declared.Taken.{Taken}
+use Rattle.file_intake.specs.Intake.{finishCall}
+use Rattle.file_intake_text.specs.GatewayTexts.{pieceCount, handedOver, GatewayRan}
+use Rattle.program_status.specs.Statuses.{statusOf}
+use Rattle.streams.specs.Inputs.{ForInput}
+use Rattle.gateway_run.specs.declared.Outcome.{Outcome}
+
+-- the refusal after some calls, or of the final call where none was refused; 0 where that accepts the file
+unfoldable pub takenRefusal : Taken → ℕ
+takenRefusal t = cond (eqb (t .refusal) 0) (finishCall (t .state) .refusal) (t .refusal)
+
+-- '1 something was refused': the input of N announced blocks has a refusal
+unfoldable pub gatewayRefused : ℕ → List ℕ → Bool
+gatewayRefused n input = not (eqb (takenRefusal (handedOver n input (pieceCount input))) 0)
+
+-- the end of a run: what was handed out, and the status:
+-- after a read that failed it is that of a failure;
+-- else it is by whether standard output took all, and whether the input is refused, of every input that begins with the bytes that were read
+pub record GatewayEnded (n : ℕ) (r : Outcome) : Type 0 where
+  pub ran : GatewayRan n (r .input) (r .sent .bytes)
+  pub unread : r .input .failed ≡ true → r .status ≡ statusOf true false
+  pub status : r .input .failed ≡ false → ForInput (r .input) (λ input. r .status ≡ statusOf (not (r .sent .open)) (gatewayRefused n input))
