@@ -25,25 +25,10 @@ abbrev μ-loop : tie.MeasureT-loop
 loop-holds : tie.Need-loop-holds Inv-loop μ-loop
 loop-holds c = (omega (arith, c .good .0 .1 .0 .1), omega arith, omega arith, omega arith, zero-add _)
 
-mul-m : tie.Need-mul-m Inv-loop μ-loop
-mul-m c = omega arith
-
-array-copy-out-m : tie.Need-array-copy-out-m Inv-loop μ-loop
-array-copy-out-m c = omega arith
-
-absent-requires : tie.Need-absent-requires Inv-loop μ-loop
-absent-requires c κs = omega arith
-
 add-count : tie.Need-add-count Inv-loop μ-loop
 add-count c =
     let args = c .before .before .before .before .args in
     omega (arith, c .absent .ensures, cond-most (isListed (take (args .n) (args .others)) (getD (args .t1) (c .before .before .before .loop .i) unused .key)))
-
-add-i : tie.Need-add-i Inv-loop μ-loop
-add-i c = omega arith
-
-loop-less : tie.Need-loop-less Inv-loop μ-loop
-loop-less c = omega arith
 
 loop-again : tie.Need-loop-again Inv-loop μ-loop
 loop-again c =
@@ -70,4 +55,6 @@ returns c =
     (omega (arith, v .4, missing-none (args .t1) (args .n) (c .before .loop .i) (v .0) (take (args .n) (args .others)) (c .loop-test .left)), omega arith)
 
 pub count-absent-spec : {M : Type 1} → statement M
-count-absent-spec = tie.close (tie.spec Inv-loop μ-loop loop-holds mul-m array-copy-out-m absent-requires add-count add-i loop-less loop-again returns)
+count-absent-spec =
+    tie.close (tie.spec Inv-loop μ-loop loop-holds (λ c. omega arith) (λ c. omega arith) (λ c κs. omega arith) add-count (λ c. omega arith) (λ c. omega arith)
+    loop-again returns)
