@@ -18,8 +18,8 @@ use Rattle.file_text_lines.specs.declared.NumberRead.{NumberRead}
 use Rattle.file_text_lines.specs.declared.CoverRead.{CoverRead}
 use Rattle.file_records.specs.Records.{threeBytes, fourBytes}
 use Rattle.file_write.specs.Writing.{fieldBytes}
-use Rattle.file_text_lines.specs.Entries.{wordAt, wordNumber, sharesRead, partRead, otherEntry, idBytes, letterForm, coverAt, coverEntry, seedEntry}
-use Rattle.file_text_lines.specs.Entries.{dayForm, dayEntry, productForm, lineRecord, productEntry, entryAt, entryOf, lineEntry}
+use Rattle.file_text_lines.specs.Entries.{wordAt, wordNumber, otherEntry, idBytes, letterForm, coverAt, coverEntry, seedEntry}
+use Rattle.file_text_lines.specs.Entries.{dayForm, dayEntry, lineRecord, productEntry, entryAt, entryOf, lineEntry}
 
 -- a cover
 module _ (line : List ℕ) where
@@ -87,43 +87,6 @@ module _ (f : ℕ → ℕ) (n : ℕ) where
           ≡ dayEntry f n
       unfolding dayEntry dayForm
       day-is u = rw (eq-eqb n 12 e, t, ← q, u) refl
-
--- a product
-module _ (line : List ℕ) where
-  -- a line that has not the words of a product, each of its length, is no line of a product
-  pub product-formless : productForm line ≡ false → otherEntry ≡ productEntry line
-  unfolding productEntry
-  product-formless e = rw e refl
-
-  module _ (e : productForm line ≡ true) (kind : NumberRead) (p : kind ≡ wordNumber (wordAt line 4) 255) where
-    -- a line whose kind is no number up to 255 is no line of a product
-    pub product-kindless : kind .there ≡ false → otherEntry ≡ productEntry line
-    unfolding productEntry
-    product-kindless t = rw (e, ← p, t) refl
-
-    module _ (t : kind .there ≡ true) (shares : NumberRead) (q : shares ≡ sharesRead (wordAt line 5)) where
-      -- a line whose size has no number of shares up to 65,535 is no line of a product
-      pub product-shareless : shares .there ≡ false → otherEntry ≡ productEntry line
-      unfolding productEntry
-      product-shareless u = rw (e, ← p, t, ← q, u) refl
-
-      module _ (u : shares .there ≡ true) (part : NumberRead) (s : part ≡ partRead (wordAt line 5)) where
-        -- a line whose size has a point and no four digits after it is no line of a product
-        pub product-partless : part .there ≡ false → otherEntry ≡ productEntry line
-        unfolding productEntry
-        product-partless v = rw (e, ← p, t, ← q, u, ← s, v) refl
-
-        module _ (v : part .there ≡ true) (tick : NumberRead) (w : tick ≡ wordNumber (wordAt line 6) 65535) where
-          -- a line whose tick is no number up to 65,535 is no line of a product
-          pub product-tickless : tick .there ≡ false → otherEntry ≡ productEntry line
-          unfolding productEntry
-          product-tickless x = rw (e, ← p, t, ← q, u, ← s, v, ← w, x) refl
-
-          -- a line with a product's words and numbers is the entry with its record
-          pub product-is : tick .there ≡ true → (r : List ℕ) → r ≡ lineRecord line (kind .value) (shares .value) (part .value) (tick .value)
-              → record { letter = 80; cover = record { «first_year» = 0; years = 0 }; seed = 0; day = 0; «record» = r } ≡ productEntry line
-          unfolding productEntry
-          product-is x r y = rw (e, ← p, t, ← q, u, ← s, v, ← w, x, y) refl
 
 -- the record of a line, word by word
 pub record-words : (line : List ℕ) (kind shares part tick : ℕ) {a b d e id group market currency : List ℕ}
