@@ -21,33 +21,28 @@ Inv-loop others n maturities count₀ i₀ count i =
 abbrev μ-loop : tie.MeasureT-loop
 μ-loop others n maturities count₀ i₀ count i = n - i
 
--- ---- the loop
 loop-holds : tie.Need-loop-holds Inv-loop μ-loop
 loop-holds c = (omega (arith, c .good .0 .1 .0 .1), omega arith, omega arith, omega arith, zero-add _)
 
+-- ---- a turn: place i adds 0 or 1
+at-most-one : (c : tie.After-absent Inv-loop μ-loop) → c .absent .result ≤ 1
+at-most-one c =
+    let at-loop = c .before .before .before in
+    let args = at-loop .before .args in
+    rw (c .absent .ensures) (cond-most (isListed (take (args .n) (args .others)) (getD (args .t1) (at-loop .loop .i) unused .key)))
+
 add-count : tie.Need-add-count Inv-loop μ-loop
-add-count c =
-    let args = c .before .before .before .before .args in
-    omega (arith, c .absent .ensures, cond-most (isListed (take (args .n) (args .others)) (getD (args .t1) (c .before .before .before .loop .i) unused .key)))
+add-count c = omega (arith, at-most-one c)
 
 loop-again : tie.Need-loop-again Inv-loop μ-loop
 loop-again c =
-    let args = c .before .before .before .before .args in
-    let v = c .before .before .before .loop .inv in
-    let e = missing-next (args .t1) (args .n) (c .before .before .before .loop .i) (c .before .before .before .loop .inv .0) (take (args .n) (args .others))
-    (c .before .before .loop-test .taken) in (
-      v .0,
-      v .1,
-      omega (
-        arith,
-        c .absent .ensures,
-        cond-most (isListed (take (args .n) (args .others)) (getD (args .t1) (c .before .before .before .loop .i) unused .key)),
-      ),
-      omega arith,
-      omega (arith, c .absent .ensures, e, v .4),
-    )
+    let at-loop = c .before .before .before in
+    let args = at-loop .before .args in
+    let v = at-loop .loop .inv in
+    let e = missing-next (args .t1) (args .n) (at-loop .loop .i) (v .0) (take (args .n) (args .others)) (c .before .before .loop-test .taken) in
+    (v .0, v .1, omega (arith, at-most-one c), omega arith, omega (arith, c .absent .ensures, e, v .4))
 
--- ---- after the loop
+-- ---- after the loop: no place is left
 returns : tie.Need-returns Inv-loop μ-loop
 returns c =
     let args = c .before .before .args in
