@@ -1,86 +1,68 @@
 -- A product or another line. A line is a product where five tests pass: the form, the kind, the shares, the ten-thousandths and the tick.
--- A test that passes leaves those after it (`yes-1` ..); a `return` of another line is the first of those left, which fails.
+-- A test that passes leaves those after it (`passed`, `yes-1` ..); a `return` of another line is the first of those left, which fails (`failed`).
 -- No number passes its most (at-most, shares-most, part-most), so the casts keep the values.
 use native.Mathlib.Omega.{arith}
 use Prim.Native.Nat.{ℕ}
 use mathlib.Core.Path.{_≡_, _∙_, sym, ap}
-use mathlib.Core.Bool.{Bool, true, false, not, _&&_, cond, and-true}
-use mathlib.Core.List.{List, [], _∷_}
+use mathlib.Core.Bool.{true, false, not}
 use lib.ListN.{drop}
 use denote.Ref.{now}
 use Rattle.questions.proofs.Bools.{said-no, said-yes}
-use Rattle.file_text_lines.specs.declared.Entry.{Entry}
 use Rattle.file_text_lines.specs.declared.NumberRead.{NumberRead}
-use Rattle.file_text_lines.specs.Entries.{wordAt, wordNumber, sharesRead, partRead, otherEntry, productForm, lineRecord, productEntry}
 use Rattle.file_text_lines.proofs.NumberWords.{at-most, shares-most, part-most}
+use Rattle.file_text_lines.proofs.EntryForms.{productTests, productWith, Asked, all-asked, passed, failed, record-is}
 use Rattle.file_text_lines.proofs.product_entry.Statement.{statement}
 use Rattle.file_text_lines.proofs.product_entry.Tie as tie
 
--- the tests of a line, in the order in which they are asked
-abbrev tests : List ℕ → List Bool
-tests line = productForm line ∷ wordNumber (wordAt line 4) 255 .there ∷ sharesRead (wordAt line 5) .there ∷ partRead (wordAt line 5) .there
-    ∷ wordNumber (wordAt line 6) 65535 .there ∷ []
-
-abbrev each : List Bool → Bool
-each [] = true
-each (a ∷ rest) = a && each rest
-
--- the entry of a product with a record, and the record that a line says
-abbrev productWith : List ℕ → Entry
-productWith r = record { letter = 80; cover = record { «first_year» = 0; years = 0 }; seed = 0; day = 0; «record» = r }
-
-abbrev recordOf : List ℕ → List ℕ
-recordOf line = lineRecord line (wordNumber (wordAt line 4) 255 .value) (sharesRead (wordAt line 5) .value) (partRead (wordAt line 5) .value)
-    (wordNumber (wordAt line 6) 65535 .value)
-
--- the first k tests pass: the entry is as the others say
-abbrev Passed : ℕ → tie.Start → Type 0
-Passed k s = productEntry (now (s .args .line))
-    ≡ cond (each (drop k (tests (now (s .args .line))))) (productWith (recordOf (now (s .args .line)))) otherEntry
-
--- ---- the tests that pass; a number is there if the one that was read is
+-- a number is there if the one that was read is
 there-yes : {r a : NumberRead} → r ≡ a → not (r .there) ≡ false → a .there ≡ true
 there-yes e t = said-yes (ap (λ x. x .there) e) t
 
 there-no : {r a : NumberRead} → r ≡ a → not (r .there) ≡ true → a .there ≡ false
 there-no e t = said-no (ap (λ x. x .there) e) t
 
+-- ---- the tests that pass: the first k do, and the others are left
+abbrev Passed : ℕ → tie.Start → Type 0
+Passed k s = Asked (now (s .args .line)) (drop k (productTests (now (s .args .line))))
+
 yes-1 : (c : tie.Else1) → Passed 1 (c .before .before .before)
-unfolding productEntry
-yes-1 c = rw (said-yes (c .before .is-product-form .ensures) (c .if1 .left), and-true)
+yes-1 c = passed (all-asked _) (said-yes (c .before .is-product-form .ensures) (c .if1 .left))
 
 yes-2 : (c : tie.Else2) → Passed 2 (c .before .before .before .before .before .before)
-yes-2 c = yes-1 (c .before .before .before) ∙ rw (there-yes (c .before .before .number-in .ensures) (c .if2 .left))
+yes-2 c = passed (yes-1 (c .before .before .before)) (there-yes (c .before .before .number-in .ensures) (c .if2 .left))
 
 yes-3 : (c : tie.Else3) → Passed 3 (c .before .before .before .before .before .before .before .before .before)
-yes-3 c = yes-2 (c .before .before .before) ∙ rw (there-yes (c .before .before .shares-in .ensures) (c .if3 .left))
+yes-3 c = passed (yes-2 (c .before .before .before)) (there-yes (c .before .before .shares-in .ensures) (c .if3 .left))
 
 yes-4 : (c : tie.Else4) → Passed 4 (c .before .before .before .before .before .before .before .before .before .before .before .before)
-yes-4 c = yes-3 (c .before .before .before) ∙ rw (there-yes (c .before .before .part-in .ensures) (c .if4 .left))
+yes-4 c = passed (yes-3 (c .before .before .before)) (there-yes (c .before .before .part-in .ensures) (c .if4 .left))
 
 yes-5 : (c : tie.Else5) → Passed 5 (c .before .before .before .before .before .before .before .before .before .before .before .before .before .before .before)
-yes-5 c = yes-4 (c .before .before .before) ∙ rw (there-yes (c .before .before .number-in2 .ensures) (c .if5 .left))
+yes-5 c = passed (yes-4 (c .before .before .before)) (there-yes (c .before .before .number-in2 .ensures) (c .if5 .left))
 
 -- ---- a test that fails: another line
 returns : tie.Need-returns
-unfolding productEntry
-returns c = c .other-entry .ensures ∙ rw (said-no (c .before .before .is-product-form .ensures) (c .before .if1 .taken))
+returns c = c .other-entry .ensures ∙ failed (all-asked _) (said-no (c .before .before .is-product-form .ensures) (c .before .if1 .taken))
 
 returns-2 : tie.Need-returns-2
-returns-2 c = c .other-entry2 .ensures
-    ∙ sym (yes-1 (c .before .before .before .before) ∙ rw (there-no (c .before .before .before .number-in .ensures) (c .before .if2 .taken)))
+returns-2 c =
+    let none = there-no (c .before .before .before .number-in .ensures) (c .before .if2 .taken) in
+    c .other-entry2 .ensures ∙ failed (yes-1 (c .before .before .before .before)) none
 
 returns-3 : tie.Need-returns-3
-returns-3 c = c .other-entry3 .ensures
-    ∙ sym (yes-2 (c .before .before .before .before) ∙ rw (there-no (c .before .before .before .shares-in .ensures) (c .before .if3 .taken)))
+returns-3 c =
+    let none = there-no (c .before .before .before .shares-in .ensures) (c .before .if3 .taken) in
+    c .other-entry3 .ensures ∙ failed (yes-2 (c .before .before .before .before)) none
 
 returns-4 : tie.Need-returns-4
-returns-4 c = c .other-entry4 .ensures
-    ∙ sym (yes-3 (c .before .before .before .before) ∙ rw (there-no (c .before .before .before .part-in .ensures) (c .before .if4 .taken)))
+returns-4 c =
+    let none = there-no (c .before .before .before .part-in .ensures) (c .before .if4 .taken) in
+    c .other-entry4 .ensures ∙ failed (yes-3 (c .before .before .before .before)) none
 
 returns-5 : tie.Need-returns-5
-returns-5 c = c .other-entry5 .ensures
-    ∙ sym (yes-4 (c .before .before .before .before) ∙ rw (there-no (c .before .before .before .number-in2 .ensures) (c .before .if5 .taken)))
+returns-5 c =
+    let none = there-no (c .before .before .before .number-in2 .ensures) (c .before .if5 .taken) in
+    c .other-entry5 .ensures ∙ failed (yes-4 (c .before .before .before .before)) none
 
 -- ---- all pass: the steps of the four numbers, each of which fits its field
 abbrev at-tick : tie.Else5 → tie.After-number-in2
@@ -107,17 +89,12 @@ cast-line-record-3 c = omega (arith, part-most _ _ (at-part (c .before .before .
 cast-line-record-4 : tie.Need-cast-line-record-4
 cast-line-record-4 c = omega (arith, at-most _ _ _ (at-tick (c .before .before .before .before) .number-in2 .ensures))
 
--- the record with the numbers that were read is the line's
-record-is : (line : List ℕ) {kind shares part tick : NumberRead} → kind ≡ wordNumber (wordAt line 4) 255 → shares ≡ sharesRead (wordAt line 5)
-    → part ≡ partRead (wordAt line 5) → tick ≡ wordNumber (wordAt line 6) 65535
-    → lineRecord line (kind .value) (shares .value) (part .value) (tick .value) ≡ recordOf line
-record-is line e f g h = rw (e, f, g, h)
-
+-- the product
 returns-6 : tie.Need-returns-6
 returns-6 c =
     let at-if5 = c .before .before .before .before .before in
     ap productWith (c .line-record .ensures ∙ record-is _ (at-kind at-if5 .number-in .ensures) (at-shares at-if5 .shares-in .ensures)
-    (at-part at-if5 .part-in .ensures) (at-tick at-if5 .number-in2 .ensures)) ∙ sym (yes-5 at-if5)
+    (at-part at-if5 .part-in .ensures) (at-tick at-if5 .number-in2 .ensures)) ∙ sym (yes-5 at-if5 .is)
 
 pub product-entry-spec : {M : Type 1} → statement M
 product-entry-spec =
