@@ -1,8 +1,8 @@
 -- The forms of a line, test by test, as the code asks them; a line of any length.
 -- Assumes nothing.
 use mathlib.Core.Path.{_≡_, refl, sym, ap, _∙_, fun-ext}
-use mathlib.Core.Bool.{true, false, _&&_, _||_}
-use mathlib.Core.List.{List}
+use mathlib.Core.Bool.{Bool, true, false, _&&_, _||_, cond, and-true}
+use mathlib.Core.List.{List, [], _∷_}
 use mathlib.Core.Logic.{_⊎_, inl, inr}
 use Prim.Native.Nat.{ℕ, _≤_, _<_}
 use native.Mathlib.Omega.{arith}
@@ -14,6 +14,7 @@ use Rattle.session_lines.specs.declared.Line.{Line}
 use Rattle.session_lines.specs.declared.DateRead.{DateRead}
 use Rattle.session_lines.specs.CommandLines.{dateAt, emptyLine, fed}
 use Rattle.session_lines.proofs.LineFeeding.{Fed, fed-holds, held}
+use Rattle.file_text_lines.specs.declared.Entry.{Entry}
 use Rattle.file_text_lines.specs.declared.NumberRead.{NumberRead}
 use Rattle.file_text_lines.specs.declared.CoverRead.{CoverRead}
 use Rattle.file_records.specs.Records.{threeBytes, fourBytes}
@@ -88,42 +89,47 @@ module _ (f : ℕ → ℕ) (n : ℕ) where
       unfolding dayEntry dayForm
       day-is u = rw (eq-eqb n 12 e, t, ← q, u) refl
 
--- a product
-module _ (line : List ℕ) where
-  -- a line that has not the words of a product, each of its length, is no line of a product
-  pub product-formless : productForm line ≡ false → otherEntry ≡ productEntry line
-  unfolding productEntry
-  product-formless e = rw e refl
+-- a product: the tests of its line, in the order in which they are asked
+abbrev pub productTests : List ℕ → List Bool
+productTests line = productForm line ∷ wordNumber (wordAt line 4) 255 .there ∷ sharesRead (wordAt line 5) .there ∷ partRead (wordAt line 5) .there
+    ∷ wordNumber (wordAt line 6) 65535 .there ∷ []
 
-  module _ (e : productForm line ≡ true) (kind : NumberRead) (p : kind ≡ wordNumber (wordAt line 4) 255) where
-    -- a line whose kind is no number up to 255 is no line of a product
-    pub product-kindless : kind .there ≡ false → otherEntry ≡ productEntry line
-    unfolding productEntry
-    product-kindless t = rw (e, ← p, t) refl
+-- whether each of some tests passes
+abbrev pub each : List Bool → Bool
+each [] = true
+each (a ∷ rest) = a && each rest
 
-    module _ (t : kind .there ≡ true) (shares : NumberRead) (q : shares ≡ sharesRead (wordAt line 5)) where
-      -- a line whose size has no number of shares up to 65,535 is no line of a product
-      pub product-shareless : shares .there ≡ false → otherEntry ≡ productEntry line
-      unfolding productEntry
-      product-shareless u = rw (e, ← p, t, ← q, u) refl
+-- the entry of a product with a record, and the record that a line says
+abbrev pub productWith : List ℕ → Entry
+productWith r = record { letter = 80; cover = record { «first_year» = 0; years = 0 }; seed = 0; day = 0; «record» = r }
 
-      module _ (u : shares .there ≡ true) (part : NumberRead) (s : part ≡ partRead (wordAt line 5)) where
-        -- a line whose size has a point and no four digits after it is no line of a product
-        pub product-partless : part .there ≡ false → otherEntry ≡ productEntry line
-        unfolding productEntry
-        product-partless v = rw (e, ← p, t, ← q, u, ← s, v) refl
+abbrev pub recordOf : List ℕ → List ℕ
+recordOf line = lineRecord line (wordNumber (wordAt line 4) 255 .value) (sharesRead (wordAt line 5) .value) (partRead (wordAt line 5) .value)
+    (wordNumber (wordAt line 6) 65535 .value)
 
-        module _ (v : part .there ≡ true) (tick : NumberRead) (w : tick ≡ wordNumber (wordAt line 6) 65535) where
-          -- a line whose tick is no number up to 65,535 is no line of a product
-          pub product-tickless : tick .there ≡ false → otherEntry ≡ productEntry line
-          unfolding productEntry
-          product-tickless x = rw (e, ← p, t, ← q, u, ← s, v, ← w, x) refl
+-- a line with the tests that are left
+pub record Asked (line : List ℕ) (left : List Bool) : Type 0 where
+  -- the entry is a product's where the tests that are left pass
+  pub is : productEntry line ≡ cond (each left) (productWith (recordOf line)) otherEntry
 
-          -- a line with a product's words and numbers is the entry with its record
-          pub product-is : tick .there ≡ true → (r : List ℕ) → r ≡ lineRecord line (kind .value) (shares .value) (part .value) (tick .value)
-              → record { letter = 80; cover = record { «first_year» = 0; years = 0 }; seed = 0; day = 0; «record» = r } ≡ productEntry line
-          unfolding productEntry
-          product-is x r y = rw (e, ← p, t, ← q, u, ← s, v, ← w, x, y) refl
+-- at first all tests are left
+pub all-asked : (line : List ℕ) → Asked line (productTests line)
+unfolding productEntry
+all-asked line = record { is = rw (and-true (wordNumber (wordAt line 6) 65535 .there)) }
+
+-- a test that passes leaves the others
+pub passed : {line : List ℕ} {t : Bool} {left : List Bool} → Asked line (t ∷ left) → t ≡ true → Asked line left
+passed a e = record { is = a .is ∙ rw e }
+
+-- with a test that fails the line is another one
+pub failed : {line : List ℕ} {t : Bool} {left : List Bool} → Asked line (t ∷ left) → t ≡ false → otherEntry ≡ productEntry line
+failed a e = sym (a .is ∙ rw e)
+
+-- the record with the numbers that were read is the line's
+pub record-is : (line : List ℕ) {kind shares part tick : NumberRead} → kind ≡ wordNumber (wordAt line 4) 255 → shares ≡ sharesRead (wordAt line 5)
+    → part ≡ partRead (wordAt line 5) → tick ≡ wordNumber (wordAt line 6) 65535
+    → lineRecord line (kind .value) (shares .value) (part .value) (tick .value) ≡ recordOf line
+record-is line e f g h = rw (e, f, g, h)
 
 -- the record of a line, word by word
 pub record-words : (line : List ℕ) (kind shares part tick : ℕ) {a b d e id group market currency : List ℕ}

@@ -17,9 +17,6 @@ Inv-loop cover closed exchange day end d₀ d =
 abbrev μ-loop : tie.MeasureT-loop
 μ-loop cover closed exchange day end d₀ d = end - d
 
-cover-end-requires : tie.Need-cover-end-requires Inv-loop μ-loop
-cover-end-requires c κs = tt
-
 -- ---- before the loop: a day from the cover's end on has none after it
 returns : tie.Need-returns Inv-loop μ-loop
 returns c =
@@ -27,25 +24,13 @@ returns c =
     let day = c .before .before .before .before .args .day in
     sym (sym (next-start _ day _ q) ∙ search-none _ _ _ (day + 1) (omega arith))
 
-add-d : tie.Need-add-d Inv-loop μ-loop
-add-d c = omega arith
-
 loop-holds : tie.Need-loop-holds Inv-loop μ-loop
 loop-holds c = (omega arith, next-start _ _ _ (c .before .cover-end .ensures .0))
-
-is-exchange-day-in-requires : tie.Need-is-exchange-day-in-requires Inv-loop μ-loop
-is-exchange-day-in-requires c κs = tt
 
 -- ---- the loop: a day found, or the next one
 returns-2 : tie.Need-returns-2 Inv-loop μ-loop
 returns-2 c = sym (search-here _ _ _ _ (c .before .before .loop-test .taken) (sym (c .before .is-exchange-day-in .ensures) ∙ c .if2 .taken)) ∙
     c .before .before .before .loop .inv .1
-
-add-d-2 : tie.Need-add-d-2 Inv-loop μ-loop
-add-d-2 c = omega arith
-
-loop-less : tie.Need-loop-less Inv-loop μ-loop
-loop-less c = omega arith
 
 loop-again : tie.Need-loop-again Inv-loop μ-loop
 loop-again c = (
@@ -60,5 +45,5 @@ returns-3 c = sym (search-none _ _ _ _ (c .loop-test .left)) ∙ c .before .loop
 
 pub next-exchange-day-in-spec : {M : Type 1} → statement M
 next-exchange-day-in-spec =
-    tie.close (tie.spec Inv-loop μ-loop cover-end-requires returns add-d loop-holds is-exchange-day-in-requires returns-2 add-d-2 loop-less loop-again
-    returns-3)
+    tie.close (tie.spec Inv-loop μ-loop (λ c κs. tt) returns (λ c. omega arith) loop-holds (λ c κs. tt) returns-2 (λ c. omega arith) (λ c. omega arith)
+    loop-again returns-3)

@@ -18,15 +18,6 @@ loop-holds : tie.Need-loop-holds Inv-loop μ-loop
 unfolding nthExchangeDay nthDay
 loop-holds c = (omega arith, refl)
 
-next-exchange-day-in-requires : tie.Need-next-exchange-day-in-requires Inv-loop μ-loop
-next-exchange-day-in-requires c κs = tt
-
-add-i : tie.Need-add-i Inv-loop μ-loop
-add-i c = omega arith
-
-loop-less : tie.Need-loop-less Inv-loop μ-loop
-loop-less c = omega arith
-
 loop-again : tie.Need-loop-again Inv-loop μ-loop
 loop-again c = (omega arith, c .next-exchange-day-in .ensures ∙ nth-more _ _ _ _ (c .before .before .loop .inv .1))
 
@@ -38,4 +29,4 @@ returns c =
     nthExchangeDay (calendarOfMaps (start .args .cover) (start .args .closed .now) (start .args .exchange .now)) k (start .args .day)) e
 
 pub nth-exchange-day-in-spec : {M : Type 1} → statement M
-nth-exchange-day-in-spec = tie.close (tie.spec Inv-loop μ-loop loop-holds next-exchange-day-in-requires add-i loop-less loop-again returns)
+nth-exchange-day-in-spec = tie.close (tie.spec Inv-loop μ-loop loop-holds (λ c κs. tt) (λ c. omega arith) (λ c. omega arith) loop-again returns)

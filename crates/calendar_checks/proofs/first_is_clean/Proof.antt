@@ -17,9 +17,6 @@ Inv-loop cover closed used k₀ k = (k ≤ used) × (every (368 * k) (slotDay cl
 abbrev μ-loop : tie.MeasureT-loop
 μ-loop cover closed used k₀ k = used - k
 
-maps-used-requires : tie.Need-maps-used-requires Inv-loop μ-loop
-maps-used-requires c κs = tt
-
 -- ---- the loop begins with no years
 loop-holds : tie.Need-loop-holds Inv-loop μ-loop
 loop-holds c = (omega arith, every-none _)
@@ -47,12 +44,6 @@ returns c =
     said-no (c .before .year-is-clean .ensures) (c .if1 .taken)) (omega (arith, at-used .maps-used .ensures .most)))
 
 -- ---- a year that passes
-add-k : tie.Need-add-k Inv-loop μ-loop
-add-k c = omega arith
-
-loop-less : tie.Need-loop-less Inv-loop μ-loop
-loop-less c = omega arith
-
 loop-again : tie.Need-loop-again Inv-loop μ-loop
 loop-again c =
     let at-loop = c .before .before .before .before in
@@ -68,9 +59,6 @@ loop-again c =
           said-yes (c .before .year-is-clean .ensures) (c .if1 .left)),
     )
 
-is-empty-after-requires : tie.Need-is-empty-after-requires Inv-loop μ-loop
-is-empty-after-requires c κs = tt
-
 -- ---- the maps after those used
 returns-2 : tie.Need-returns-2 Inv-loop μ-loop
 returns-2 c =
@@ -83,5 +71,5 @@ returns-2 c =
 
 pub first-is-clean-spec : {M : Type 1} → statement M
 first-is-clean-spec =
-    tie.close (tie.spec Inv-loop μ-loop maps-used-requires loop-holds add-year-is-clean year-is-clean-requires returns add-k loop-less loop-again
-    is-empty-after-requires returns-2)
+    tie.close (tie.spec Inv-loop μ-loop (λ c κs. tt) loop-holds add-year-is-clean year-is-clean-requires returns (λ c. omega arith) (λ c. omega arith)
+    loop-again (λ c κs. tt) returns-2)

@@ -40,15 +40,6 @@ covered c =
     and-both (le-leb (coverStart v) d (omega (arith, start .pre, h .from, h .near)))
     (lt-ltb d (coverEnd v) (omega (arith, start .pre, h .within, c .loop-test .taken)))
 
-slot-of-requires : tie.Need-slot-of-requires Inv-loop μ-loop
-slot-of-requires c κs = tt
-
-byte-of-requires : tie.Need-byte-of-requires Inv-loop μ-loop
-byte-of-requires c κs = tt
-
-trades-on-requires : tie.Need-trades-on-requires Inv-loop μ-loop
-trades-on-requires c κs = tt
-
 -- the code's test is whether the day trades
 trading : (c : tie.After-trades-on Inv-loop μ-loop)
     → c .trades-on .result ≡ tradingDay (calendarWith (c .before .before .before .before .before .before .args .cover)
@@ -102,5 +93,5 @@ returns-2 c = sym (passed-ends _ _ _ _ _ (c .before .loop .inv) (omega arith))
 
 pub weeks-trade-spec : {M : Type 1} → statement M
 weeks-trade-spec =
-    tie.close (tie.spec Inv-loop μ-loop add-day loop-holds add-loop slot-of-requires byte-of-requires trades-on-requires returns next-first-requires
-    next-day-requires loop-less loop-again returns-2)
+    tie.close (tie.spec Inv-loop μ-loop add-day loop-holds add-loop (λ c κs. tt) (λ c κs. tt) (λ c κs. tt) returns next-first-requires next-day-requires
+    loop-less loop-again returns-2)

@@ -27,12 +27,6 @@ year-barred-requires c κs = c .pre .1
 loop-holds : tie.Need-loop-holds Inv-loop μ-loop
 loop-holds c = (omega arith, every-none _)
 
-weeks-of-requires : tie.Need-weeks-of-requires Inv-loop μ-loop
-weeks-of-requires c κs = tt
-
-is-apart-requires : tie.Need-is-apart-requires Inv-loop μ-loop
-is-apart-requires c κs = tt
-
 -- ---- what a turn finds out
 -- question 5 of the day n of the year
 abbrev day-clean : tie.After-is-apart Inv-loop μ-loop → ℕ → Bool
@@ -62,12 +56,6 @@ returns : tie.Need-returns Inv-loop μ-loop
 returns c = sym (every-fails (day-clean (c .before)) (56 * j-at (c .before)) 56 368 (said-no (weeks-clean (c .before)) (c .if1 .taken)) (omega arith))
 
 -- ---- eight weeks that pass
-add-j : tie.Need-add-j Inv-loop μ-loop
-add-j c = omega arith
-
-loop-less : tie.Need-loop-less Inv-loop μ-loop
-loop-less c = omega arith
-
 loop-again : tie.Need-loop-again Inv-loop μ-loop
 loop-again c =
     let at-loop = c .before .before .before .before in
@@ -78,14 +66,8 @@ loop-again c =
           every-add (day-clean (c .before)) (56 * j) 56 (at-loop .loop .inv .1) (said-yes (weeks-clean (c .before)) (c .if1 .left)),
     )
 
-rest-of-requires : tie.Need-rest-of-requires Inv-loop μ-loop
-rest-of-requires c κs = tt
-
 rest-barred-requires : tie.Need-rest-barred-requires Inv-loop μ-loop
 rest-barred-requires c κs = c .before .before .before .year-barred .ensures
-
-is-apart-requires-2 : tie.Need-is-apart-requires-2 Inv-loop μ-loop
-is-apart-requires-2 c κs = tt
 
 -- ---- the rest of the year
 returns-2 : tie.Need-returns-2 Inv-loop μ-loop
@@ -105,5 +87,5 @@ returns-2 c =
 
 pub year-is-clean-spec : {M : Type 1} → statement M
 year-is-clean-spec =
-    tie.close (tie.spec Inv-loop μ-loop year-barred-requires loop-holds weeks-of-requires is-apart-requires returns add-j loop-less loop-again rest-of-requires
-    rest-barred-requires is-apart-requires-2 returns-2)
+    tie.close (tie.spec Inv-loop μ-loop year-barred-requires loop-holds (λ c κs. tt) (λ c κs. tt) returns (λ c. omega arith) (λ c. omega arith) loop-again
+    (λ c κs. tt) rest-barred-requires (λ c κs. tt) returns-2)

@@ -22,14 +22,8 @@ abbrev μ-loop : tie.MeasureT-loop
 add-year-start : tie.Need-add-year-start Inv-loop μ-loop
 add-year-start c = omega (arith, year-in-cover (c .before .args .cover) (c .before .args .k) (c .before .pre .1) (c .before .pre .0))
 
-year-start-requires : tie.Need-year-start-requires Inv-loop μ-loop
-year-start-requires c κs = tt
-
 add-weekends-from : tie.Need-add-weekends-from Inv-loop μ-loop
 add-weekends-from c = omega (arith, c .year-start .ensures)
-
-weekends-from-requires : tie.Need-weekends-from-requires Inv-loop μ-loop
-weekends-from-requires c κs = tt
 
 days-before-requires : tie.Need-days-before-requires Inv-loop μ-loop
 days-before-requires c κs = c .before .before .before .pre
@@ -37,26 +31,11 @@ days-before-requires c κs = c .before .before .before .pre
 loop-holds : tie.Need-loop-holds Inv-loop μ-loop
 loop-holds c = (omega arith, next-first _ _ _ (c .days-before .ensures))
 
-weeks-of-requires : tie.Need-weeks-of-requires Inv-loop μ-loop
-weeks-of-requires c κs = tt
-
-moved-on-requires : tie.Need-moved-on-requires Inv-loop μ-loop
-moved-on-requires c κs = tt
-
-no-seven-requires : tie.Need-no-seven-requires Inv-loop μ-loop
-no-seven-requires c κs = tt
-
 -- ---- a no
 returns : tie.Need-returns Inv-loop μ-loop
 returns c = λ e. clash e refl
 
 -- ---- the next eight weeks
-add-j : tie.Need-add-j Inv-loop μ-loop
-add-j c = omega arith
-
-loop-less : tie.Need-loop-less Inv-loop μ-loop
-loop-less c = omega arith
-
 loop-again : tie.Need-loop-again Inv-loop μ-loop
 loop-again c =
     let at-moved = c .before .before in
@@ -93,5 +72,5 @@ returns-2 c = λ e u.
 
 pub year-trades-spec : {M : Type 1} → statement M
 year-trades-spec =
-    tie.close (tie.spec Inv-loop μ-loop add-year-start year-start-requires add-weekends-from weekends-from-requires days-before-requires loop-holds
-    weeks-of-requires moved-on-requires no-seven-requires returns add-j loop-less loop-again rest-trades-requires returns-2)
+    tie.close (tie.spec Inv-loop μ-loop add-year-start (λ c κs. tt) add-weekends-from (λ c κs. tt) days-before-requires loop-holds (λ c κs. tt) (λ c κs. tt)
+    (λ c κs. tt) returns (λ c. omega arith) (λ c. omega arith) loop-again rest-trades-requires returns-2)

@@ -28,12 +28,6 @@ returns : tie.Need-returns Inv-loop μ-loop
 returns c = λ e. clash e refl
 
 -- ---- the next year
-add-k : tie.Need-add-k Inv-loop μ-loop
-add-k c = omega arith
-
-loop-less : tie.Need-loop-less Inv-loop μ-loop
-loop-less c = omega arith
-
 loop-again : tie.Need-loop-again Inv-loop μ-loop
 loop-again c =
     let at-loop = c .before .before .before in
@@ -52,4 +46,4 @@ returns-2 c = λ e.
     all-trade cal (rw q at (at-loop .loop .inv .1))
 
 pub years-trade-spec : {M : Type 1} → statement M
-years-trade-spec = tie.close (tie.spec Inv-loop μ-loop loop-holds year-trades-requires returns add-k loop-less loop-again returns-2)
+years-trade-spec = tie.close (tie.spec Inv-loop μ-loop loop-holds year-trades-requires returns (λ c. omega arith) (λ c. omega arith) loop-again returns-2)

@@ -17,44 +17,17 @@ Inv-loop seed end cal₀ value₀ day₀ cal value day = (end ≤ 36525) × (mad
 abbrev μ-loop : tie.MeasureT-loop
 μ-loop seed end cal₀ value₀ day₀ cal value day = end - day
 
-is-valid-cover-requires : tie.Need-is-valid-cover-requires Inv-loop μ-loop
-is-valid-cover-requires c κs = tt
-
-zero-calendar-requires : tie.Need-zero-calendar-requires Inv-loop μ-loop
-zero-calendar-requires c κs = tt
-
 -- ---- the refusal 4
 returns : tie.Need-returns Inv-loop μ-loop
 unfolding madeCall
 returns c =
     rw (c .zero-calendar .ensures) (sym (refused _ _ _ 3 (first-no 4 [] (said-no (c .before .before .is-valid-cover .ensures) (c .before .if1 .taken)))))
 
-cover-end-requires : tie.Need-cover-end-requires Inv-loop μ-loop
-cover-end-requires c κs = tt
-
-open-calendar-requires : tie.Need-open-calendar-requires Inv-loop μ-loop
-open-calendar-requires c κs = tt
-
-cover-start-requires : tie.Need-cover-start-requires Inv-loop μ-loop
-cover-start-requires c κs = tt
-
 -- ---- the loop begins at the cover's first day
 loop-holds : tie.Need-loop-holds Inv-loop μ-loop
 loop-holds c = (c .before .before .cover-end .ensures .1, refl)
 
-value-at-requires : tie.Need-value-at-requires Inv-loop μ-loop
-value-at-requires c κs = tt
-
-calendar-at-requires : tie.Need-calendar-at-requires Inv-loop μ-loop
-calendar-at-requires c κs = tt
-
 -- ---- a day visited
-add-day : tie.Need-add-day Inv-loop μ-loop
-add-day c = omega arith
-
-loop-less : tie.Need-loop-less Inv-loop μ-loop
-loop-less c = omega arith
-
 loop-again : tie.Need-loop-again Inv-loop μ-loop
 loop-again c =
     let l = c .before .before .before .loop in
@@ -72,5 +45,5 @@ returns-2 c =
 
 pub make-spec : {M : Type 1} → statement M
 make-spec =
-    tie.close (tie.spec Inv-loop μ-loop is-valid-cover-requires zero-calendar-requires returns cover-end-requires open-calendar-requires cover-start-requires
-    loop-holds value-at-requires calendar-at-requires add-day loop-less loop-again returns-2)
+    tie.close (tie.spec Inv-loop μ-loop (λ c κs. tt) (λ c κs. tt) returns (λ c κs. tt) (λ c κs. tt) (λ c κs. tt) loop-holds (λ c κs. tt) (λ c κs. tt)
+    (λ c. omega arith) (λ c. omega arith) loop-again returns-2)

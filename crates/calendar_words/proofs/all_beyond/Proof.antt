@@ -19,21 +19,6 @@ abbrev μ-loop : tie.MeasureT-loop
 loop-holds : tie.Need-loop-holds Inv-loop μ-loop
 loop-holds c = (omega arith, sym (every-none _))
 
-element-copy-out-days-beyond : tie.Need-element-copy-out-days-beyond Inv-loop μ-loop
-element-copy-out-days-beyond c = omega arith
-
-element-copy-out-days-beyond-2 : tie.Need-element-copy-out-days-beyond-2 Inv-loop μ-loop
-element-copy-out-days-beyond-2 c = omega arith
-
-days-beyond-requires : tie.Need-days-beyond-requires Inv-loop μ-loop
-days-beyond-requires c κs = tt
-
-add-i : tie.Need-add-i Inv-loop μ-loop
-add-i c = omega arith
-
-loop-less : tie.Need-loop-less Inv-loop μ-loop
-loop-less c = omega arith
-
 loop-again : tie.Need-loop-again Inv-loop μ-loop
 loop-again c =
     let at-loop = c .before .before .before .before in
@@ -50,5 +35,4 @@ returns c =
 
 pub all-beyond-spec : {M : Type 1} → statement M
 all-beyond-spec =
-    tie.close (tie.spec Inv-loop μ-loop loop-holds element-copy-out-days-beyond element-copy-out-days-beyond-2 days-beyond-requires add-i loop-less loop-again
-    returns)
+    tie.close (tie.spec Inv-loop μ-loop loop-holds (λ c. omega arith) (λ c. omega arith) (λ c κs. tt) (λ c. omega arith) (λ c. omega arith) loop-again returns)

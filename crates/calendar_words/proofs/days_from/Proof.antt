@@ -26,18 +26,6 @@ loop-holds c =
     (omega arith, c .pre, sym (ap (λ (n : ℕ). every n (noneIn (c .args .map .now) (c .args .at))) e ∙ every-none _))
 
 -- ---- a turn: one byte more
-element-copy-out-days-of : tie.Need-element-copy-out-days-of Inv-loop μ-loop
-element-copy-out-days-of c = omega arith
-
-days-of-requires : tie.Need-days-of-requires Inv-loop μ-loop
-days-of-requires c κs = tt
-
-add-i : tie.Need-add-i Inv-loop μ-loop
-add-i c = omega arith
-
-loop-less : tie.Need-loop-less Inv-loop μ-loop
-loop-less c = omega arith
-
 loop-again : tie.Need-loop-again Inv-loop μ-loop
 loop-again c =
     let at-loop = c .before .before .before in
@@ -60,4 +48,4 @@ returns c =
     rw e at (c .before .loop .inv .2)
 
 pub days-from-spec : {M : Type 1} → statement M
-days-from-spec = tie.close (tie.spec Inv-loop μ-loop loop-holds element-copy-out-days-of days-of-requires add-i loop-less loop-again returns)
+days-from-spec = tie.close (tie.spec Inv-loop μ-loop loop-holds (λ c. omega arith) (λ c κs. tt) (λ c. omega arith) (λ c. omega arith) loop-again returns)

@@ -10,26 +10,5 @@ Inv-loop fd index₀ index = index ≤ 1000
 abbrev μ-loop : tie.MeasureT-loop
 μ-loop fd index₀ index = 1000 - index
 
-loop-holds : tie.Need-loop-holds Inv-loop μ-loop
-loop-holds c = omega arith
-
-draft-requires : tie.Need-draft-requires Inv-loop μ-loop
-draft-requires c κs = tt
-
-returns : tie.Need-returns Inv-loop μ-loop
-returns c = tt
-
-add-index : tie.Need-add-index Inv-loop μ-loop
-add-index c = omega arith
-
-loop-less : tie.Need-loop-less Inv-loop μ-loop
-loop-less c = omega arith
-
-loop-again : tie.Need-loop-again Inv-loop μ-loop
-loop-again c = omega arith
-
-returns-2 : tie.Need-returns-2 Inv-loop μ-loop
-returns-2 c = tt
-
 pub drafts-spec : {M : Type 1} → statement M
-drafts-spec = tie.close (tie.spec Inv-loop μ-loop loop-holds draft-requires returns add-index loop-less loop-again returns-2)
+drafts-spec = tie.close (tie.spec Inv-loop μ-loop (λ c. omega arith) (λ c κs. tt) (λ c. tt) (λ c. omega arith) (λ c. omega arith) (λ c. omega arith) (λ c. tt))

@@ -14,9 +14,6 @@ Inv-loop file text long list₀ s₀ from₀ count₀ number₀ list s from coun
 abbrev μ-loop : tie.MeasureT-loop
 μ-loop file text long list₀ s₀ from₀ count₀ number₀ list s from count number = length text - from
 
-nothing-read-requires : tie.Need-nothing-read-requires Inv-loop μ-loop
-nothing-read-requires c κs = tt
-
 loop-holds : tie.Need-loop-holds Inv-loop μ-loop
 loop-holds c = begins _ _ _ _ _ (c .nothing-read .ensures)
 
@@ -39,12 +36,6 @@ part-read-listing-line-start c = c .byte-from .ensures .0 (omega (arith, c .befo
 part-read-listing-line-end : tie.Need-part-read-listing-line-end Inv-loop μ-loop
 part-read-listing-line-end c = c .byte-from .ensures .0 (omega (arith, c .before .loop-test .taken)) .within
 
-read-listing-line-requires : tie.Need-read-listing-line-requires Inv-loop μ-loop
-read-listing-line-requires c κs = tt
-
-bad-input-line-requires : tie.Need-bad-input-line-requires Inv-loop μ-loop
-bad-input-line-requires c κs = tt
-
 same-length : tie.Need-same-length Inv-loop μ-loop
 same-length c = c .before .before .before .before .before .before .before .loop .inv .long-list
 
@@ -57,9 +48,6 @@ returns c =
     said (c .bad-input-line .ensures)
     (ends-bad _ _ _ _ _ _ _ _ _ (at-loop .loop .inv) (at-test .loop-test .taken) _ end _ refl _ (c .before .before .before .read-listing-line .ensures)
     (c .before .if1 .taken))
-
-refused-line-requires : tie.Need-refused-line-requires Inv-loop μ-loop
-refused-line-requires c κs = tt
 
 same-length-2 : tie.Need-same-length-2 Inv-loop μ-loop
 same-length-2 c = c .before .before .before .before .before .before .before .before .before .loop .inv .long-list
@@ -125,6 +113,6 @@ returns-3 c =
 
 pub read-lines-spec : {M : Type 1} → statement M
 read-lines-spec =
-    tie.close (tie.spec Inv-loop μ-loop nothing-read-requires loop-holds (λ c κs. tt) add-cut add-number sub-read-listing-line part-read-listing-line-start
-    part-read-listing-line-end read-listing-line-requires bad-input-line-requires same-length returns refused-line-requires same-length-2 returns-2
-    put-entry-requires add-from loop-less loop-again end-line-requires same-length-3 returns-3)
+    tie.close (tie.spec Inv-loop μ-loop (λ c κs. tt) loop-holds (λ c κs. tt) add-cut add-number sub-read-listing-line part-read-listing-line-start
+    part-read-listing-line-end (λ c κs. tt) (λ c κs. tt) same-length returns (λ c κs. tt) same-length-2 returns-2 put-entry-requires add-from loop-less
+    loop-again end-line-requires same-length-3 returns-3)

@@ -19,9 +19,6 @@ abbrev μ-loop : tie.MeasureT-loop
 loop-holds : tie.Need-loop-holds Inv-loop μ-loop
 loop-holds c = refl
 
-key-at-requires : tie.Need-key-at-requires Inv-loop μ-loop
-key-at-requires c κs = tt
-
 -- ---- the loop
 returns : tie.Need-returns Inv-loop μ-loop
 returns c =
@@ -31,12 +28,6 @@ returns c =
     index-here (start .args .key) ks (at-test .before .loop .j)
     (omega (arith, keys-long (start .args .keys .now) (start .args .places .now), at-test .loop-test .taken))
     (sym (c .before .key-at .ensures) ∙ c .if1 .taken) ∙ at-test .before .loop .inv
-
-add-j : tie.Need-add-j Inv-loop μ-loop
-add-j c = omega arith
-
-loop-less : tie.Need-loop-less Inv-loop μ-loop
-loop-less c = omega arith
 
 loop-again : tie.Need-loop-again Inv-loop μ-loop
 loop-again c =
@@ -56,4 +47,4 @@ returns-2 c =
     c .before .loop .inv
 
 pub index-from-spec : {M : Type 1} → statement M
-index-from-spec = tie.close (tie.spec Inv-loop μ-loop loop-holds key-at-requires returns add-j loop-less loop-again returns-2)
+index-from-spec = tie.close (tie.spec Inv-loop μ-loop loop-holds (λ c κs. tt) returns (λ c. omega arith) (λ c. omega arith) loop-again returns-2)

@@ -21,18 +21,6 @@ abbrev μ-loop : tie.MeasureT-loop
 loop-holds : tie.Need-loop-holds Inv-loop μ-loop
 loop-holds c = (omega arith, refl)
 
-key-at-requires : tie.Need-key-at-requires Inv-loop μ-loop
-key-at-requires c κs = tt
-
-lesser-unlisted-requires : tie.Need-lesser-unlisted-requires Inv-loop μ-loop
-lesser-unlisted-requires c κs = omega arith
-
-add-j : tie.Need-add-j Inv-loop μ-loop
-add-j c = omega arith
-
-loop-less : tie.Need-loop-less Inv-loop μ-loop
-loop-less c = omega arith
-
 loop-again : tie.Need-loop-again Inv-loop μ-loop
 loop-again c =
     let args = c .before .before .before .before .before .before .args in
@@ -54,4 +42,5 @@ returns c =
     (omega (arith, keys-long (args .keys .now) (args .places .now), c .loop-test .left))) ∙ v .1
 
 pub least-unlisted-spec : {M : Type 1} → statement M
-least-unlisted-spec = tie.close (tie.spec Inv-loop μ-loop loop-holds key-at-requires lesser-unlisted-requires add-j loop-less loop-again returns)
+least-unlisted-spec =
+    tie.close (tie.spec Inv-loop μ-loop loop-holds (λ c κs. tt) (λ c κs. omega arith) (λ c. omega arith) (λ c. omega arith) loop-again returns)

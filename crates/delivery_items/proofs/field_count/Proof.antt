@@ -16,23 +16,11 @@ Inv-loop line count₀ from₀ count from = (from ≤ length line) × (count ≤
 abbrev μ-loop : tie.MeasureT-loop
 μ-loop line count₀ from₀ count from = length line - from
 
-separator-from-requires : tie.Need-separator-from-requires Inv-loop μ-loop
-separator-from-requires c κs = omega arith
-
 -- ---- before the loop
 loop-holds : tie.Need-loop-holds Inv-loop μ-loop
 loop-holds c =
     let s = c .separator-from .ensures in
     (s .within, omega (arith, s .on), sym (fields-counted _ _ _ s))
-
-add-count : tie.Need-add-count Inv-loop μ-loop
-add-count c = omega arith
-
-add-separator-from : tie.Need-add-separator-from Inv-loop μ-loop
-add-separator-from c = omega arith
-
-separator-from-requires-2 : tie.Need-separator-from-requires-2 Inv-loop μ-loop
-separator-from-requires-2 c κs = omega arith
 
 -- ---- a turn and the end
 loop-less : tie.Need-loop-less Inv-loop μ-loop
@@ -60,4 +48,5 @@ returns c =
 
 pub field-count-spec : {M : Type 1} → statement M
 field-count-spec =
-    tie.close (tie.spec Inv-loop μ-loop separator-from-requires loop-holds add-count add-separator-from separator-from-requires-2 loop-less loop-again returns)
+    tie.close (tie.spec Inv-loop μ-loop (λ c κs. omega arith) loop-holds (λ c. omega arith) (λ c. omega arith) (λ c κs. omega arith) loop-less loop-again
+    returns)

@@ -32,17 +32,8 @@ loop-holds c = (c .if1 .left, omega arith, every-none _)
 shared-slice-read-if2 : tie.Need-shared-slice-read-if2 Inv-loop μ-loop
 shared-slice-read-if2 c = omega (arith, c .before .before .loop .inv .0)
 
-array-read-if2 : tie.Need-array-read-if2 Inv-loop μ-loop
-array-read-if2 c = omega arith
-
 returns-2 : tie.Need-returns-2 Inv-loop μ-loop
 returns-2 c = same-word _ (c .before .before .before .loop .inv .0) _ (every-not _ _ _ (ne-eqb _ _ (c .if2 .taken)) (c .before .before .loop-test .taken))
-
-add-i : tie.Need-add-i Inv-loop μ-loop
-add-i c = omega arith
-
-loop-less : tie.Need-loop-less Inv-loop μ-loop
-loop-less c = omega arith
 
 loop-again : tie.Need-loop-again Inv-loop μ-loop
 loop-again c = (c .before .before .before .loop .inv .0, omega arith, every-more _ _ (c .before .before .before .loop .inv .2) (eq-eqb _ _ (c .if2 .left)))
@@ -55,4 +46,5 @@ returns-3 c =
 
 pub is-product-word-spec : {M : Type 1} → statement M
 is-product-word-spec =
-    tie.close (tie.spec Inv-loop μ-loop returns loop-holds shared-slice-read-if2 array-read-if2 returns-2 add-i loop-less loop-again returns-3)
+    tie.close (tie.spec Inv-loop μ-loop returns loop-holds shared-slice-read-if2 (λ c. omega arith) returns-2 (λ c. omega arith) (λ c. omega arith) loop-again
+    returns-3)

@@ -21,32 +21,14 @@ abbrev μ-loop : tie.MeasureT-loop
 loop-holds : tie.Need-loop-holds Inv-loop μ-loop
 loop-holds c = (omega arith, omega arith, refl)
 
-separator-from-requires : tie.Need-separator-from-requires Inv-loop μ-loop
-separator-from-requires c κs = omega arith
-
-sub-result : tie.Need-sub-result Inv-loop μ-loop
-sub-result c = omega arith
-
 -- ---- a turn: the line ends, or the next field begins
 part-result-start : tie.Need-part-result-start Inv-loop μ-loop
 part-result-start c = omega (arith, c .before .separator-from .ensures .on)
-
-part-result-end : tie.Need-part-result-end Inv-loop μ-loop
-part-result-end c = omega arith
 
 returns : tie.Need-returns Inv-loop μ-loop
 returns c =
     let v = c .before .before .before .before .loop .inv in
     field-beyond _ _ _ _ (v .2) (c .before .before .separator-from .ensures) (c .before .if1 .taken) _ (c .before .before .before .loop-test .taken)
-
-add-from : tie.Need-add-from Inv-loop μ-loop
-add-from c = omega arith
-
-add-i : tie.Need-add-i Inv-loop μ-loop
-add-i c = omega arith
-
-loop-less : tie.Need-loop-less Inv-loop μ-loop
-loop-less c = omega arith
 
 loop-again : tie.Need-loop-again Inv-loop μ-loop
 loop-again c =
@@ -56,9 +38,6 @@ loop-again c =
       fields-next (c .before .before .before .before .before .args .line .now) (c .before .before .before .loop .i) _ _ (v .2)
           (c .before .separator-from .ensures) (c .if1 .left),
     )
-
-separator-from-requires-2 : tie.Need-separator-from-requires-2 Inv-loop μ-loop
-separator-from-requires-2 c κs = omega arith
 
 -- ---- the end: field k
 sub-result-2 : tie.Need-sub-result-2 Inv-loop μ-loop
@@ -79,5 +58,5 @@ returns-2 c =
 
 pub raw-field-spec : {M : Type 1} → statement M
 raw-field-spec =
-    tie.close (tie.spec Inv-loop μ-loop loop-holds separator-from-requires sub-result part-result-start part-result-end returns add-from add-i loop-less
-    loop-again separator-from-requires-2 sub-result-2 part-result-start-2 part-result-end-2 returns-2)
+    tie.close (tie.spec Inv-loop μ-loop loop-holds (λ c κs. omega arith) (λ c. omega arith) part-result-start (λ c. omega arith) returns (λ c. omega arith)
+    (λ c. omega arith) (λ c. omega arith) loop-again (λ c κs. omega arith) sub-result-2 part-result-start-2 part-result-end-2 returns-2)

@@ -38,20 +38,8 @@ returns-2 c =
 loop-holds : tie.Need-loop-holds Inv-loop μ-loop
 loop-holds c = (omega arith, every-none _)
 
-shared-slice-read-is-id-character : tie.Need-shared-slice-read-is-id-character Inv-loop μ-loop
-shared-slice-read-is-id-character c = omega arith
-
-is-id-character-requires : tie.Need-is-id-character-requires Inv-loop μ-loop
-is-id-character-requires c κs = tt
-
 returns-3 : tie.Need-returns-3 Inv-loop μ-loop
 returns-3 c = id-not _ (every-not _ _ _ (said-no (c .before .is-id-character .ensures) (c .if3 .taken)) (c .before .before .before .loop-test .taken))
-
-add-i : tie.Need-add-i Inv-loop μ-loop
-add-i c = omega arith
-
-loop-less : tie.Need-loop-less Inv-loop μ-loop
-loop-less c = omega arith
 
 loop-again : tie.Need-loop-again Inv-loop μ-loop
 loop-again c = (omega arith, every-more _ _ (c .before .before .before .before .loop .inv .1) (said-yes (c .before .is-id-character .ensures) (c .if3 .left)))
@@ -64,5 +52,5 @@ returns-4 c =
 
 pub is-id-spec : {M : Type 1} → statement M
 is-id-spec =
-    tie.close (tie.spec Inv-loop μ-loop returns returns-2 loop-holds shared-slice-read-is-id-character is-id-character-requires returns-3 add-i loop-less
-    loop-again returns-4)
+    tie.close (tie.spec Inv-loop μ-loop returns returns-2 loop-holds (λ c. omega arith) (λ c κs. tt) returns-3 (λ c. omega arith) (λ c. omega arith) loop-again
+    returns-4)

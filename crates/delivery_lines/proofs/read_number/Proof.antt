@@ -26,32 +26,14 @@ returns c = number-none _ (c .if1 .taken)
 loop-holds : tie.Need-loop-holds Inv-loop μ-loop
 loop-holds c = (omega arith, omega arith, refl, from-start _)
 
-shared-slice-read-is-digit : tie.Need-shared-slice-read-is-digit Inv-loop μ-loop
-shared-slice-read-is-digit c = omega arith
-
-is-digit-requires : tie.Need-is-digit-requires Inv-loop μ-loop
-is-digit-requires c κs = tt
-
 -- ---- a turn: a byte that is no digit, or a digit more
 returns-2 : tie.Need-returns-2 Inv-loop μ-loop
 returns-2 c =
     number-not _ (sym (c .before .before .before .before .loop .inv .2) ∙
     no-digit _ _ (c .before .before .before .loop-test .taken) (said-no (c .before .is-digit .ensures) (c .if2 .taken)))
 
-shared-slice-read-digit-value : tie.Need-shared-slice-read-digit-value Inv-loop μ-loop
-shared-slice-read-digit-value c = omega arith
-
-digit-value-requires : tie.Need-digit-value-requires Inv-loop μ-loop
-digit-value-requires c κs = tt
-
 digit-more-requires : tie.Need-digit-more-requires Inv-loop μ-loop
 digit-more-requires c κs = (c .before .before .before .before .before .before .loop .inv .0, c .digit-value .ensures .1)
-
-add-i : tie.Need-add-i Inv-loop μ-loop
-add-i c = omega arith
-
-loop-less : tie.Need-loop-less Inv-loop μ-loop
-loop-less c = omega arith
 
 loop-again : tie.Need-loop-again Inv-loop μ-loop
 loop-again c =
@@ -76,5 +58,5 @@ returns-3 c =
 
 pub read-number-spec : {M : Type 1} → statement M
 read-number-spec =
-    tie.close (tie.spec Inv-loop μ-loop returns loop-holds shared-slice-read-is-digit is-digit-requires returns-2 shared-slice-read-digit-value
-    digit-value-requires digit-more-requires add-i loop-less loop-again returns-3)
+    tie.close (tie.spec Inv-loop μ-loop returns loop-holds (λ c. omega arith) (λ c κs. tt) returns-2 (λ c. omega arith) (λ c κs. tt) digit-more-requires
+    (λ c. omega arith) (λ c. omega arith) loop-again returns-3)

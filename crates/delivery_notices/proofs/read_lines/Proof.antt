@@ -16,9 +16,6 @@ Inv-loop text long calls₀ ids₀ t₀ from₀ calls ids t from =
 abbrev μ-loop : tie.MeasureT-loop
 μ-loop text long calls₀ ids₀ t₀ from₀ calls ids t from = length text - from
 
-no-notices-taken-requires : tie.Need-no-notices-taken-requires Inv-loop μ-loop
-no-notices-taken-requires c κs = tt
-
 -- ---- before the loop
 loop-holds : tie.Need-loop-holds Inv-loop μ-loop
 loop-holds c =
@@ -92,5 +89,5 @@ returns c = all-lines _ _ _ _ _ _ _ _ (c .before .loop .inv .3) (c .loop-test .l
 
 pub read-lines-spec : {M : Type 1} → statement M
 read-lines-spec =
-    tie.close (tie.spec Inv-loop μ-loop no-notices-taken-requires loop-holds (λ c κs. tt) add-cut sub-take-line part-take-line-start part-take-line-end
-    take-line-requires add-from loop-less loop-again same-length same-length-2 returns)
+    tie.close (tie.spec Inv-loop μ-loop (λ c κs. tt) loop-holds (λ c κs. tt) add-cut sub-take-line part-take-line-start part-take-line-end take-line-requires
+    add-from loop-less loop-again same-length same-length-2 returns)

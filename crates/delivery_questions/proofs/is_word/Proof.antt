@@ -28,18 +28,9 @@ loop-holds c = (c .if1 .left, omega arith, every-none _)
 shared-slice-read-if2 : tie.Need-shared-slice-read-if2 Inv-loop μ-loop
 shared-slice-read-if2 c = omega (arith, c .before .before .loop .inv .0)
 
-shared-slice-read-if2-2 : tie.Need-shared-slice-read-if2-2 Inv-loop μ-loop
-shared-slice-read-if2-2 c = omega arith
-
 returns-2 : tie.Need-returns-2 Inv-loop μ-loop
 returns-2 c = same-word _ _ (c .before .before .before .before .loop .inv .0) _
     (every-not _ _ _ (ne-eqb _ _ (c .if2 .taken)) (c .before .before .before .loop-test .taken))
-
-add-i : tie.Need-add-i Inv-loop μ-loop
-add-i c = omega arith
-
-loop-less : tie.Need-loop-less Inv-loop μ-loop
-loop-less c = omega arith
 
 loop-again : tie.Need-loop-again Inv-loop μ-loop
 loop-again c =
@@ -52,4 +43,5 @@ returns-3 c = let e : c .before .loop .i ≡ length (c .before .before .before .
 
 pub is-word-spec : {M : Type 1} → statement M
 is-word-spec =
-    tie.close (tie.spec Inv-loop μ-loop returns loop-holds shared-slice-read-if2 shared-slice-read-if2-2 returns-2 add-i loop-less loop-again returns-3)
+    tie.close (tie.spec Inv-loop μ-loop returns loop-holds shared-slice-read-if2 (λ c. omega arith) returns-2 (λ c. omega arith) (λ c. omega arith) loop-again
+    returns-3)

@@ -15,20 +15,11 @@ abbrev μ-loop : tie.MeasureT-loop
 loop-holds : tie.Need-loop-holds Inv-loop μ-loop
 loop-holds c = begins _ _ _ _ _
 
-goes-on-requires : tie.Need-goes-on-requires Inv-loop μ-loop
-goes-on-requires c κs = tt
-
-id-row-line-requires : tie.Need-id-row-line-requires Inv-loop μ-loop
-id-row-line-requires c κs = tt
-
 append-requires : tie.Need-append-requires Inv-loop μ-loop
 append-requires c κs = (
   line-fits _ (row-short _ _ _) _ (c .before .id-row-line .ensures),
   has-more _ _ _ _ (c .before .before .before .goes-on .ensures) (c .before .before .if1 .taken) .1,
 )
-
-line-count-requires : tie.Need-line-count-requires Inv-loop μ-loop
-line-count-requires c κs = tt
 
 add-lines : tie.Need-add-lines Inv-loop μ-loop
 add-lines c =
@@ -64,5 +55,5 @@ returns c = ends _ _ _ _ _ _ _ _ _ (c .before .before .before .loop .inv) (c .be
 
 pub print-strangers-spec : {M : Type 1} → statement M
 print-strangers-spec =
-    tie.close (tie.spec Inv-loop μ-loop loop-holds goes-on-requires id-row-line-requires append-requires line-count-requires add-lines add-next loop-less
-    loop-again same-length returns)
+    tie.close (tie.spec Inv-loop μ-loop loop-holds (λ c κs. tt) (λ c κs. tt) append-requires (λ c κs. tt) add-lines add-next loop-less loop-again same-length
+    returns)

@@ -21,27 +21,12 @@ abbrev μ-loop : tie.MeasureT-loop
 loop-holds : tie.Need-loop-holds Inv-loop μ-loop
 loop-holds c = (c .before .pre .0, c .before .pre .1, c .before .good .1 .1 .0 .1 .0 .1, omega arith, begins _ _ _ _ _)
 
-mul-m : tie.Need-mul-m Inv-loop μ-loop
-mul-m c = omega arith
-
-array-copy-out-m : tie.Need-array-copy-out-m Inv-loop μ-loop
-array-copy-out-m c = omega arith
-
-row-line-requires : tie.Need-row-line-requires Inv-loop μ-loop
-row-line-requires c κs = tt
-
 -- ---- a turn
 append-requires : tie.Need-append-requires Inv-loop μ-loop
 append-requires c κs =
     let at-loop-test = c .before .before .before in
     let v = at-loop-test .before .loop .inv in
     fits _ _ _ _ _ _ _ _ (v .4) (omega (arith, v .0, at-loop-test .loop-test .taken)) (v .1) (v .2) _ (c .row-line .ensures)
-
-add-i : tie.Need-add-i Inv-loop μ-loop
-add-i c = omega arith
-
-loop-less : tie.Need-loop-less Inv-loop μ-loop
-loop-less c = omega arith
 
 loop-again : tie.Need-loop-again Inv-loop μ-loop
 loop-again c =
@@ -67,4 +52,5 @@ returns c =
 
 pub put-rows-spec : {M : Type 1} → statement M
 put-rows-spec =
-    tie.close (tie.spec Inv-loop μ-loop loop-holds mul-m array-copy-out-m row-line-requires append-requires add-i loop-less loop-again same-length returns)
+    tie.close (tie.spec Inv-loop μ-loop loop-holds (λ c. omega arith) (λ c. omega arith) (λ c κs. tt) append-requires (λ c. omega arith) (λ c. omega arith)
+    loop-again same-length returns)

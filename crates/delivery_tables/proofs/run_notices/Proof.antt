@@ -23,20 +23,11 @@ abbrev μ-loop : tie.MeasureT-loop
 loop-holds : tie.Need-loop-holds Inv-loop μ-loop
 loop-holds c = let p = c .before .before .before .before .pre in (p .0, omega arith, p .1, begins _ _ _ _ _)
 
-cast-refusals : tie.Need-cast-refusals Inv-loop μ-loop
-cast-refusals c = search needs
-
 slice-write-refusals : tie.Need-slice-write-refusals Inv-loop μ-loop
 slice-write-refusals c =
     let at-test = c .before .before .before in
     let v = at-test .before .loop .inv in
     omega (arith, v .0, v .3 .long, at-test .loop-test .taken)
-
-add-i : tie.Need-add-i Inv-loop μ-loop
-add-i c = search needs
-
-loop-less : tie.Need-loop-less Inv-loop μ-loop
-loop-less c = omega arith
 
 loop-again : tie.Need-loop-again Inv-loop μ-loop
 loop-again c =
@@ -63,4 +54,5 @@ returns c =
 
 pub run-notices-spec : {M : Type 1} → statement M
 run-notices-spec =
-    tie.close (tie.spec Inv-loop μ-loop loop-holds (λ c κs. tt) cast-refusals slice-write-refusals add-i loop-less loop-again same-length returns)
+    tie.close (tie.spec Inv-loop μ-loop loop-holds (λ c κs. tt) (λ c. search needs) slice-write-refusals (λ c. search needs) (λ c. omega arith) loop-again
+    same-length returns)

@@ -22,9 +22,6 @@ sub-day c = c .loop-test .taken
 add-back : tie.Need-add-back Inv-loop μ-loop
 add-back c = omega (arith, c .before .loop .inv .made)
 
-is-trading-day-in-requires : tie.Need-is-trading-day-in-requires Inv-loop μ-loop
-is-trading-day-in-requires c κs = tt
-
 returns : tie.Need-returns Inv-loop μ-loop
 returns c = found _ _ _ _ (c .before .before .before .loop .inv) (c .before .before .loop-test .taken)
     (sym (c .before .is-trading-day-in .ensures) ∙ c .if1 .taken)
@@ -40,4 +37,4 @@ returns-2 : tie.Need-returns-2 Inv-loop μ-loop
 returns-2 c = none _ _ _ _ (c .before .loop .inv) (c .loop-test .left)
 
 pub trading-day-before-in-spec : {M : Type 1} → statement M
-trading-day-before-in-spec = tie.close (tie.spec Inv-loop μ-loop loop-holds sub-day add-back is-trading-day-in-requires returns loop-less loop-again returns-2)
+trading-day-before-in-spec = tie.close (tie.spec Inv-loop μ-loop loop-holds sub-day add-back (λ c κs. tt) returns loop-less loop-again returns-2)

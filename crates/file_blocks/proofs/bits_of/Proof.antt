@@ -24,12 +24,6 @@ add-bits c = omega (arith, c .before .before .pre)
 shared-slice-read-bits : tie.Need-shared-slice-read-bits Inv-loop μ-loop
 shared-slice-read-bits c = omega (arith, c .before .before .before .pre)
 
-add-i : tie.Need-add-i Inv-loop μ-loop
-add-i c = omega arith
-
-loop-less : tie.Need-loop-less Inv-loop μ-loop
-loop-less c = omega arith
-
 loop-again : tie.Need-loop-again Inv-loop μ-loop
 loop-again c =
     let at-loop = c .before .before in
@@ -42,4 +36,4 @@ returns c =
     rw e at (c .before .loop .inv .1)
 
 pub bits-of-spec : {M : Type 1} → statement M
-bits-of-spec = tie.close (tie.spec Inv-loop μ-loop loop-holds add-bits shared-slice-read-bits add-i loop-less loop-again returns)
+bits-of-spec = tie.close (tie.spec Inv-loop μ-loop loop-holds add-bits shared-slice-read-bits (λ c. omega arith) (λ c. omega arith) loop-again returns)

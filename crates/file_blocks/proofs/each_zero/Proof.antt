@@ -23,24 +23,12 @@ abbrev μ-loop : tie.MeasureT-loop
 loop-holds : tie.Need-loop-holds Inv-loop μ-loop
 loop-holds c = (omega arith, every-none _)
 
-add-byte-at : tie.Need-add-byte-at Inv-loop μ-loop
-add-byte-at c = omega arith
-
-byte-at-requires : tie.Need-byte-at-requires Inv-loop μ-loop
-byte-at-requires c κs = tt
-
 -- ---- a byte that is not zero
 returns : tie.Need-returns Inv-loop μ-loop
 unfolding zeros
 returns c = sym (every-not _ _ _ (ne-eqb _ _ (λ h. c .if1 .taken (c .before .byte-at .ensures ∙ h))) (omega arith))
 
 -- ---- a zero byte
-add-i : tie.Need-add-i Inv-loop μ-loop
-add-i c = omega arith
-
-loop-less : tie.Need-loop-less Inv-loop μ-loop
-loop-less c = omega arith
-
 loop-again : tie.Need-loop-again Inv-loop μ-loop
 loop-again c = (omega arith, every-more _ _ (c .before .before .before .loop .inv .1) (eq-eqb _ _ (sym (c .before .byte-at .ensures) ∙ c .if1 .left)))
 
@@ -52,4 +40,5 @@ returns-2 c =
     sym (rw e at (c .before .loop .inv .1))
 
 pub each-zero-spec : {M : Type 1} → statement M
-each-zero-spec = tie.close (tie.spec Inv-loop μ-loop loop-holds add-byte-at byte-at-requires returns add-i loop-less loop-again returns-2)
+each-zero-spec =
+    tie.close (tie.spec Inv-loop μ-loop loop-holds (λ c. omega arith) (λ c κs. tt) returns (λ c. omega arith) (λ c. omega arith) loop-again returns-2)

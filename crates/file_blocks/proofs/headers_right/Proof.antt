@@ -21,18 +21,9 @@ abbrev μ-loop : tie.MeasureT-loop
 loop-holds : tie.Need-loop-holds Inv-loop μ-loop
 loop-holds c = (omega arith, every-none _)
 
-header-right-requires : tie.Need-header-right-requires Inv-loop μ-loop
-header-right-requires c κs = tt
-
 returns : tie.Need-returns Inv-loop μ-loop
 unfolding headersRight
 returns c = sym (every-not _ _ _ (said-no (c .before .header-right .ensures) (c .if1 .taken)) (omega arith))
-
-add-k : tie.Need-add-k Inv-loop μ-loop
-add-k c = omega arith
-
-loop-less : tie.Need-loop-less Inv-loop μ-loop
-loop-less c = omega arith
 
 loop-again : tie.Need-loop-again Inv-loop μ-loop
 loop-again c = (omega arith, every-more _ _ (c .before .before .before .loop .inv .1) (said-yes (c .before .header-right .ensures) (c .if1 .left)))
@@ -44,4 +35,4 @@ returns-2 c =
     sym (rw e at (c .before .loop .inv .1))
 
 pub headers-right-spec : {M : Type 1} → statement M
-headers-right-spec = tie.close (tie.spec Inv-loop μ-loop loop-holds header-right-requires returns add-k loop-less loop-again returns-2)
+headers-right-spec = tie.close (tie.spec Inv-loop μ-loop loop-holds (λ c κs. tt) returns (λ c. omega arith) (λ c. omega arith) loop-again returns-2)

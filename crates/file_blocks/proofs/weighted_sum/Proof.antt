@@ -20,40 +20,16 @@ unfolding weightedSum
 loop-holds c = (omega arith, omega arith, refl)
 
 -- ---- a turn: two bytes read and their terms added
-cast-weight : tie.Need-cast-weight Inv-loop μ-loop
-cast-weight c = omega arith
-
 shared-slice-read-weight : tie.Need-shared-slice-read-weight Inv-loop μ-loop
 shared-slice-read-weight c = omega (arith, c .before .before .before .before .pre)
-
-weight-requires : tie.Need-weight-requires Inv-loop μ-loop
-weight-requires c κs = tt
-
-cast-weight-2 : tie.Need-cast-weight-2 Inv-loop μ-loop
-cast-weight-2 c = omega arith
-
-add-weight : tie.Need-add-weight Inv-loop μ-loop
-add-weight c = omega arith
 
 shared-slice-read-weight-2 : tie.Need-shared-slice-read-weight-2 Inv-loop μ-loop
 shared-slice-read-weight-2 c = omega (arith, c .before .before .before .before .before .before .pre)
 
-weight-requires-2 : tie.Need-weight-requires-2 Inv-loop μ-loop
-weight-requires-2 c κs = tt
-
 two-terms-requires : tie.Need-two-terms-requires Inv-loop μ-loop
 two-terms-requires c κs = (omega arith, omega arith, omega arith)
 
-add-sum : tie.Need-add-sum Inv-loop μ-loop
-add-sum c = omega arith
-
-add-i : tie.Need-add-i Inv-loop μ-loop
-add-i c = omega arith
-
 -- ---- the next turn
-loop-less : tie.Need-loop-less Inv-loop μ-loop
-loop-less c = omega arith
-
 loop-again : tie.Need-loop-again Inv-loop μ-loop
 loop-again c =
     let l = c .before .before .before .before .before .before .loop in (
@@ -72,5 +48,5 @@ returns c =
 
 pub weighted-sum-spec : {M : Type 1} → statement M
 weighted-sum-spec =
-    tie.close (tie.spec Inv-loop μ-loop loop-holds cast-weight shared-slice-read-weight weight-requires cast-weight-2 add-weight shared-slice-read-weight-2
-    weight-requires-2 two-terms-requires add-sum add-i loop-less loop-again returns)
+    tie.close (tie.spec Inv-loop μ-loop loop-holds (λ c. omega arith) shared-slice-read-weight (λ c κs. tt) (λ c. omega arith) (λ c. omega arith)
+    shared-slice-read-weight-2 (λ c κs. tt) two-terms-requires (λ c. omega arith) (λ c. omega arith) (λ c. omega arith) loop-again returns)

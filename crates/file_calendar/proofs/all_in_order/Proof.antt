@@ -21,12 +21,6 @@ Inv-loop file years blocks first k₀ k = (k ≤ blocks) × (every k (inOrder fi
 abbrev μ-loop : tie.MeasureT-loop
 μ-loop file years blocks first k₀ k = blocks - k
 
-block-at-requires : tie.Need-block-at-requires Inv-loop μ-loop
-block-at-requires c κs = tt
-
-number-at-requires : tie.Need-number-at-requires Inv-loop μ-loop
-number-at-requires c κs = tt
-
 loop-holds : tie.Need-loop-holds Inv-loop μ-loop
 loop-holds c = (omega arith, every-none _)
 
@@ -44,12 +38,6 @@ returns : tie.Need-returns Inv-loop μ-loop
 returns c = sym (every-not _ _ _ (said-no (c .before .in-order .ensures) (c .if1 .taken)) (omega arith))
 
 -- ---- the turn that goes on
-add-k : tie.Need-add-k Inv-loop μ-loop
-add-k c = omega arith
-
-loop-less : tie.Need-loop-less Inv-loop μ-loop
-loop-less c = omega arith
-
 loop-again : tie.Need-loop-again Inv-loop μ-loop
 loop-again c = (omega arith, every-more _ _ (c .before .before .before .loop .inv .1) (said-yes (c .before .in-order .ensures) (c .if1 .left)))
 
@@ -62,4 +50,5 @@ returns-2 c =
 
 pub all-in-order-spec : {M : Type 1} → statement M
 all-in-order-spec =
-    tie.close (tie.spec Inv-loop μ-loop block-at-requires number-at-requires loop-holds in-order-requires returns add-k loop-less loop-again returns-2)
+    tie.close (tie.spec Inv-loop μ-loop (λ c κs. tt) (λ c κs. tt) loop-holds in-order-requires returns (λ c. omega arith) (λ c. omega arith) loop-again
+    returns-2)

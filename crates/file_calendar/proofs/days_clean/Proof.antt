@@ -18,17 +18,11 @@ Inv-loop b year n₀ n = (n ≤ 368) × (every n (dayClean b) ≡ true)
 abbrev μ-loop : tie.MeasureT-loop
 μ-loop b year n₀ n = 368 - n
 
-number-at-requires : tie.Need-number-at-requires Inv-loop μ-loop
-number-at-requires c κs = tt
-
 cast-year : tie.Need-cast-year Inv-loop μ-loop
 cast-year c = omega (arith, c .number-at .ensures .1)
 
 loop-holds : tie.Need-loop-holds Inv-loop μ-loop
 loop-holds c = (omega arith, every-none _)
-
-day-clean-requires : tie.Need-day-clean-requires Inv-loop μ-loop
-day-clean-requires c κs = tt
 
 -- ---- a day that is not clean: no
 returns : tie.Need-returns Inv-loop μ-loop
@@ -36,12 +30,6 @@ returns c = sym (every-not (dayClean _) 368 _
     (said-no (rw (c .before .before .before .before .number-at .ensures .0) at (c .before .day-clean .ensures)) (c .if1 .taken)) (omega arith))
 
 -- ---- the turn that goes on
-add-n : tie.Need-add-n Inv-loop μ-loop
-add-n c = omega arith
-
-loop-less : tie.Need-loop-less Inv-loop μ-loop
-loop-less c = omega arith
-
 loop-again : tie.Need-loop-again Inv-loop μ-loop
 loop-again c = (
   omega arith,
@@ -56,4 +44,5 @@ returns-2 c =
     sym (rw e at (c .before .loop .inv .1))
 
 pub days-clean-spec : {M : Type 1} → statement M
-days-clean-spec = tie.close (tie.spec Inv-loop μ-loop number-at-requires cast-year loop-holds day-clean-requires returns add-n loop-less loop-again returns-2)
+days-clean-spec =
+    tie.close (tie.spec Inv-loop μ-loop (λ c κs. tt) cast-year loop-holds (λ c κs. tt) returns (λ c. omega arith) (λ c. omega arith) loop-again returns-2)

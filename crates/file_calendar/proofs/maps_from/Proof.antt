@@ -18,33 +18,8 @@ Inv-loop file years at maps₀ n i₀ maps i = (i ≤ n) × Filled (mapByte at f
 abbrev μ-loop : tie.MeasureT-loop
 μ-loop file years at maps₀ n i₀ maps i = n - i
 
-mul-n : tie.Need-mul-n Inv-loop μ-loop
-mul-n c = omega arith
-
 loop-holds : tie.Need-loop-holds Inv-loop μ-loop
 loop-holds c = (omega arith, filled-none (mapByte _ _) 736)
-
--- ---- the reads and writes are within bounds
-mul-maps : tie.Need-mul-maps Inv-loop μ-loop
-mul-maps c = omega arith
-
-add-maps : tie.Need-add-maps Inv-loop μ-loop
-add-maps c = omega arith
-
-add-maps-2 : tie.Need-add-maps-2 Inv-loop μ-loop
-add-maps-2 c = omega arith
-
-shared-slice-read-maps : tie.Need-shared-slice-read-maps Inv-loop μ-loop
-shared-slice-read-maps c = omega arith
-
-array-write-maps : tie.Need-array-write-maps Inv-loop μ-loop
-array-write-maps c = omega arith
-
-add-i : tie.Need-add-i Inv-loop μ-loop
-add-i c = omega arith
-
-loop-less : tie.Need-loop-less Inv-loop μ-loop
-loop-less c = omega arith
 
 -- ---- the next turn fills one more byte
 loop-again : tie.Need-loop-again Inv-loop μ-loop
@@ -61,5 +36,5 @@ returns c =
 
 pub maps-from-spec : {M : Type 1} → statement M
 maps-from-spec =
-    tie.close (tie.spec Inv-loop μ-loop mul-n loop-holds mul-maps add-maps add-maps-2 shared-slice-read-maps array-write-maps add-i loop-less loop-again
-    returns)
+    tie.close (tie.spec Inv-loop μ-loop (λ c. omega arith) loop-holds (λ c. omega arith) (λ c. omega arith) (λ c. omega arith) (λ c. omega arith)
+    (λ c. omega arith) (λ c. omega arith) (λ c. omega arith) loop-again returns)

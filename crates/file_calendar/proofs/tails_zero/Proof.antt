@@ -21,21 +21,9 @@ abbrev μ-loop : tie.MeasureT-loop
 loop-holds : tie.Need-loop-holds Inv-loop μ-loop
 loop-holds c = (omega arith, every-none _)
 
-block-at-requires : tie.Need-block-at-requires Inv-loop μ-loop
-block-at-requires c κs = tt
-
-are-zero-requires : tie.Need-are-zero-requires Inv-loop μ-loop
-are-zero-requires c κs = tt
-
 returns : tie.Need-returns Inv-loop μ-loop
 returns c = sym (every-not _ _ _ (said-no (c .before .are-zero .ensures ∙ ap (λ (b : List ℕ). zeros b 108 402) (c .before .before .block-at .ensures .0))
     (c .if1 .taken)) (omega arith))
-
-add-k : tie.Need-add-k Inv-loop μ-loop
-add-k c = omega arith
-
-loop-less : tie.Need-loop-less Inv-loop μ-loop
-loop-less c = omega arith
 
 loop-again : tie.Need-loop-again Inv-loop μ-loop
 loop-again c = (
@@ -50,4 +38,4 @@ returns-2 c =
     sym (rw e at (c .before .loop .inv .1))
 
 pub tails-zero-spec : {M : Type 1} → statement M
-tails-zero-spec = tie.close (tie.spec Inv-loop μ-loop loop-holds block-at-requires are-zero-requires returns add-k loop-less loop-again returns-2)
+tails-zero-spec = tie.close (tie.spec Inv-loop μ-loop loop-holds (λ c κs. tt) (λ c κs. tt) returns (λ c. omega arith) (λ c. omega arith) loop-again returns-2)

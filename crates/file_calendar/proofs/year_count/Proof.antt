@@ -25,22 +25,7 @@ abbrev μ-loop : tie.MeasureT-loop
 loop-holds : tie.Need-loop-holds Inv-loop μ-loop
 loop-holds c = (omega arith, sym (count-none _), omega arith)
 
-block-at-requires : tie.Need-block-at-requires Inv-loop μ-loop
-block-at-requires c κs = tt
-
-byte-at-requires : tie.Need-byte-at-requires Inv-loop μ-loop
-byte-at-requires c κs = tt
-
 -- ---- the next turn, by the kind of the block
-add-years : tie.Need-add-years Inv-loop μ-loop
-add-years c = omega arith
-
-add-k : tie.Need-add-k Inv-loop μ-loop
-add-k c = omega arith
-
-loop-less : tie.Need-loop-less Inv-loop μ-loop
-loop-less c = omega arith
-
 loop-again : tie.Need-loop-again Inv-loop μ-loop
 loop-again c =
     let at-loop = c .before .before .before .before in
@@ -64,4 +49,5 @@ returns c =
     (rw e at (l .inv .1), omega arith)
 
 pub year-count-spec : {M : Type 1} → statement M
-year-count-spec = tie.close (tie.spec Inv-loop μ-loop loop-holds block-at-requires byte-at-requires add-years add-k loop-less loop-again returns)
+year-count-spec =
+    tie.close (tie.spec Inv-loop μ-loop loop-holds (λ c κs. tt) (λ c κs. tt) (λ c. omega arith) (λ c. omega arith) (λ c. omega arith) loop-again returns)

@@ -24,12 +24,6 @@ abbrev μ-loop : tie.MeasureT-loop
 loop-holds : tie.Need-loop-holds Inv-loop μ-loop
 loop-holds c = (omega arith, every-none _)
 
-list-record-requires : tie.Need-list-record-requires Inv-loop μ-loop
-list-record-requires c κs = omega arith
-
-record-right-requires : tie.Need-record-right-requires Inv-loop μ-loop
-record-right-requires c κs = tt
-
 -- ---- a record that is not right: no
 returns : tie.Need-returns Inv-loop μ-loop
 unfolding listRight
@@ -38,12 +32,6 @@ returns c =
     sym (every-not _ _ _ (said-no e (c .if1 .taken)) (omega arith))
 
 -- ---- the turn that goes on
-add-i : tie.Need-add-i Inv-loop μ-loop
-add-i c = omega arith
-
-loop-less : tie.Need-loop-less Inv-loop μ-loop
-loop-less c = omega arith
-
 loop-again : tie.Need-loop-again Inv-loop μ-loop
 loop-again c =
     let e = rw (c .before .before .list-record .ensures) at (c .before .record-right .ensures) in
@@ -57,4 +45,5 @@ returns-2 c =
     sym (rw e at (c .before .loop .inv .1))
 
 pub list-right-spec : {M : Type 1} → statement M
-list-right-spec = tie.close (tie.spec Inv-loop μ-loop loop-holds list-record-requires record-right-requires returns add-i loop-less loop-again returns-2)
+list-right-spec =
+    tie.close (tie.spec Inv-loop μ-loop loop-holds (λ c κs. omega arith) (λ c κs. tt) returns (λ c. omega arith) (λ c. omega arith) loop-again returns-2)

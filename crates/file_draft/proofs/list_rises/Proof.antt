@@ -24,21 +24,6 @@ abbrev μ-loop : tie.MeasureT-loop
 loop-holds : tie.Need-loop-holds Inv-loop μ-loop
 loop-holds c = (omega arith, every-none _)
 
-add-loop : tie.Need-add-loop Inv-loop μ-loop
-add-loop c = omega arith
-
-list-id-requires : tie.Need-list-id-requires Inv-loop μ-loop
-list-id-requires c κs = omega arith
-
-add-list-id : tie.Need-add-list-id Inv-loop μ-loop
-add-list-id c = omega arith
-
-list-id-requires-2 : tie.Need-list-id-requires-2 Inv-loop μ-loop
-list-id-requires-2 c κs = omega arith
-
-id-rises-requires : tie.Need-id-rises-requires Inv-loop μ-loop
-id-rises-requires c κs = tt
-
 -- ---- two ids that do not rise: no
 returns : tie.Need-returns Inv-loop μ-loop
 unfolding listRises
@@ -47,12 +32,6 @@ returns c =
     sym (every-not _ _ _ (said-no e (c .if1 .taken)) (omega arith))
 
 -- ---- the turn that goes on
-add-i : tie.Need-add-i Inv-loop μ-loop
-add-i c = omega arith
-
-loop-less : tie.Need-loop-less Inv-loop μ-loop
-loop-less c = omega arith
-
 loop-again : tie.Need-loop-again Inv-loop μ-loop
 loop-again c =
     let e = rw (c .before .before .list-id2 .ensures, c .before .before .before .list-id .ensures) at (c .before .id-rises .ensures) in
@@ -67,5 +46,5 @@ returns-2 c =
 
 pub list-rises-spec : {M : Type 1} → statement M
 list-rises-spec =
-    tie.close (tie.spec Inv-loop μ-loop loop-holds add-loop list-id-requires add-list-id list-id-requires-2 id-rises-requires returns add-i loop-less loop-again
-    returns-2)
+    tie.close (tie.spec Inv-loop μ-loop loop-holds (λ c. omega arith) (λ c κs. omega arith) (λ c. omega arith) (λ c κs. omega arith) (λ c κs. tt) returns
+    (λ c. omega arith) (λ c. omega arith) loop-again returns-2)

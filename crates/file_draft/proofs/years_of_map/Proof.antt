@@ -15,23 +15,8 @@ Inv-loop years map kept₀ n i₀ kept i = (i ≤ n) × Filled (λ j. getD map j
 abbrev μ-loop : tie.MeasureT-loop
 μ-loop years map kept₀ n i₀ kept i = n - i
 
-mul-n : tie.Need-mul-n Inv-loop μ-loop
-mul-n c = omega arith
-
 loop-holds : tie.Need-loop-holds Inv-loop μ-loop
 loop-holds c = (omega arith, filled-none _ 736)
-
-array-read-kept : tie.Need-array-read-kept Inv-loop μ-loop
-array-read-kept c = omega arith
-
-array-write-kept : tie.Need-array-write-kept Inv-loop μ-loop
-array-write-kept c = omega arith
-
-add-i : tie.Need-add-i Inv-loop μ-loop
-add-i c = omega arith
-
-loop-less : tie.Need-loop-less Inv-loop μ-loop
-loop-less c = omega arith
 
 loop-again : tie.Need-loop-again Inv-loop μ-loop
 loop-again c = (omega arith, filled-more _ 736 _ _ _ (omega arith) refl (c .before .loop .inv .1))
@@ -40,4 +25,6 @@ returns : tie.Need-returns Inv-loop μ-loop
 returns c = years-kept _ _ _ _ (omega arith) (c .before .loop .inv .1)
 
 pub years-of-map-spec : {M : Type 1} → statement M
-years-of-map-spec = tie.close (tie.spec Inv-loop μ-loop mul-n loop-holds array-read-kept array-write-kept add-i loop-less loop-again returns)
+years-of-map-spec =
+    tie.close (tie.spec Inv-loop μ-loop (λ c. omega arith) loop-holds (λ c. omega arith) (λ c. omega arith) (λ c. omega arith) (λ c. omega arith) loop-again
+    returns)

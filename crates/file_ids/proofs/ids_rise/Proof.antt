@@ -17,17 +17,8 @@ Inv-loop file places last₀ p₀ last p = Walked file places p last
 abbrev μ-loop : tie.MeasureT-loop
 μ-loop file places last₀ p₀ last p = places - p
 
-mul-places : tie.Need-mul-places Inv-loop μ-loop
-mul-places c = omega arith
-
 loop-holds : tie.Need-loop-holds Inv-loop μ-loop
 loop-holds c = walk-start _ _
-
-is-record-requires : tie.Need-is-record-requires Inv-loop μ-loop
-is-record-requires c κs = tt
-
-follows-requires : tie.Need-follows-requires Inv-loop μ-loop
-follows-requires c κs = tt
 
 -- ---- a place that does not follow: no
 returns : tie.Need-returns Inv-loop μ-loop
@@ -37,16 +28,7 @@ returns c =
     sym (walk-fails _ _ _ _ (at-is-record .before .before .loop .inv) (omega arith)
     (rw (at-is-record .is-record .ensures) at (said-no (c .before .follows .ensures) (c .if1 .taken))))
 
-last-record-requires : tie.Need-last-record-requires Inv-loop μ-loop
-last-record-requires c κs = tt
-
 -- ---- the turn that goes on
-add-p : tie.Need-add-p Inv-loop μ-loop
-add-p c = omega arith
-
-loop-less : tie.Need-loop-less Inv-loop μ-loop
-loop-less c = omega arith
-
 loop-again : tie.Need-loop-again Inv-loop μ-loop
 loop-again c =
     let at-is-record = c .before .before .before in
@@ -61,5 +43,5 @@ returns-2 c = sym (walk-ends _ _ _ _ (c .before .loop .inv) (omega arith))
 
 pub ids-rise-spec : {M : Type 1} → statement M
 ids-rise-spec =
-    tie.close (tie.spec Inv-loop μ-loop mul-places loop-holds is-record-requires follows-requires returns last-record-requires add-p loop-less loop-again
-    returns-2)
+    tie.close (tie.spec Inv-loop μ-loop (λ c. omega arith) loop-holds (λ c κs. tt) (λ c κs. tt) returns (λ c κs. tt) (λ c. omega arith) (λ c. omega arith)
+    loop-again returns-2)

@@ -18,25 +18,10 @@ Inv-loop file places records₀ p₀ records p = (p ≤ places) × (records ≡ 
 abbrev μ-loop : tie.MeasureT-loop
 μ-loop file places records₀ p₀ records p = places - p
 
-mul-places : tie.Need-mul-places Inv-loop μ-loop
-mul-places c = omega arith
-
 loop-holds : tie.Need-loop-holds Inv-loop μ-loop
 loop-holds c = (omega arith, sym (count-none _), omega arith)
 
-is-record-requires : tie.Need-is-record-requires Inv-loop μ-loop
-is-record-requires c κs = tt
-
 -- ---- the next turn, by whether the place holds a record
-add-records : tie.Need-add-records Inv-loop μ-loop
-add-records c = omega arith
-
-add-p : tie.Need-add-p Inv-loop μ-loop
-add-p c = omega arith
-
-loop-less : tie.Need-loop-less Inv-loop μ-loop
-loop-less c = omega arith
-
 loop-again : tie.Need-loop-again Inv-loop μ-loop
 loop-again c =
     let at-loop = c .before .before .before in
@@ -58,4 +43,5 @@ returns c =
     (rw e at (l .inv .1), omega arith)
 
 pub record-count-spec : {M : Type 1} → statement M
-record-count-spec = tie.close (tie.spec Inv-loop μ-loop mul-places loop-holds is-record-requires add-records add-p loop-less loop-again returns)
+record-count-spec =
+    tie.close (tie.spec Inv-loop μ-loop (λ c. omega arith) loop-holds (λ c κs. tt) (λ c. omega arith) (λ c. omega arith) (λ c. omega arith) loop-again returns)

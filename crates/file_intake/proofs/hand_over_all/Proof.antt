@@ -20,20 +20,8 @@ abbrev μ-loop : tie.MeasureT-loop
 cast-announce : tie.Need-cast-announce Inv-loop μ-loop
 cast-announce c = omega (arith, length-most _ (c .before .pre))
 
-announce-requires : tie.Need-announce-requires Inv-loop μ-loop
-announce-requires c κs = tt
-
 loop-holds : tie.Need-loop-holds Inv-loop μ-loop
 loop-holds c = (omega arith, starts _ (c .before .before .before .pre) _ (c .before .announce .ensures))
-
-hand-over-requires : tie.Need-hand-over-requires Inv-loop μ-loop
-hand-over-requires c κs = tt
-
-add-k : tie.Need-add-k Inv-loop μ-loop
-add-k c = omega arith
-
-loop-less : tie.Need-loop-less Inv-loop μ-loop
-loop-less c = omega arith
 
 loop-again : tie.Need-loop-again Inv-loop μ-loop
 loop-again c =
@@ -47,4 +35,5 @@ returns c =
     rw e at (at-loop .loop .inv .1)
 
 pub hand-over-all-spec : {M : Type 1} → statement M
-hand-over-all-spec = tie.close (tie.spec Inv-loop μ-loop cast-announce announce-requires loop-holds hand-over-requires add-k loop-less loop-again returns)
+hand-over-all-spec =
+    tie.close (tie.spec Inv-loop μ-loop cast-announce (λ c κs. tt) loop-holds (λ c κs. tt) (λ c. omega arith) (λ c. omega arith) loop-again returns)

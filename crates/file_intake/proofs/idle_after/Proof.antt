@@ -17,18 +17,9 @@ Inv-loop b idle days run₀ n₀ run n = (n ≤ days) × (run ≡ idleThrough b 
 abbrev μ-loop : tie.MeasureT-loop
 μ-loop b idle days run₀ n₀ run n = days - n
 
-byte-at-requires : tie.Need-byte-at-requires Inv-loop μ-loop
-byte-at-requires c κs = tt
-
 -- ---- a block that is no calendar block
 returns : tie.Need-returns Inv-loop μ-loop
 returns c = simp (ne-eqb _ _ (λ h. c .if1 .taken (c .before .byte-at .ensures ∙ h)))
-
-field-at-requires : tie.Need-field-at-requires Inv-loop μ-loop
-field-at-requires c κs = tt
-
-days-in-requires : tie.Need-days-in-requires Inv-loop μ-loop
-days-in-requires c κs = tt
 
 -- ---- the loop over the days of the year
 loop-holds : tie.Need-loop-holds Inv-loop μ-loop
@@ -39,12 +30,6 @@ day-trades-requires c κs = omega (arith, rw (c .before .before .before .field-a
 
 idle-next-requires : tie.Need-idle-next-requires Inv-loop μ-loop
 idle-next-requires c κs = c .before .before .loop .inv .2
-
-add-n : tie.Need-add-n Inv-loop μ-loop
-add-n c = omega arith
-
-loop-less : tie.Need-loop-less Inv-loop μ-loop
-loop-less c = omega arith
 
 loop-again : tie.Need-loop-again Inv-loop μ-loop
 loop-again c = (
@@ -65,5 +50,5 @@ returns-2 c =
 
 pub idle-after-spec : {M : Type 1} → statement M
 idle-after-spec =
-    tie.close (tie.spec Inv-loop μ-loop byte-at-requires returns field-at-requires days-in-requires loop-holds day-trades-requires idle-next-requires add-n
-    loop-less loop-again returns-2)
+    tie.close (tie.spec Inv-loop μ-loop (λ c κs. tt) returns (λ c κs. tt) (λ c κs. tt) loop-holds day-trades-requires idle-next-requires (λ c. omega arith)
+    (λ c. omega arith) loop-again returns-2)

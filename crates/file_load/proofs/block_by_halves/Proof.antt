@@ -23,12 +23,6 @@ loop-holds c = (refl, omega arith, omega arith)
 step-requires : tie.Need-step-requires Inv-loop μ-loop
 step-requires c κs = let inv = c .before .loop .inv in (inv .1, inv .2)
 
-sub-steps : tie.Need-sub-steps Inv-loop μ-loop
-sub-steps c = omega arith
-
-loop-less : tie.Need-loop-less Inv-loop μ-loop
-loop-less c = omega arith
-
 loop-again : tie.Need-loop-again Inv-loop μ-loop
 loop-again c =
     let inv = c .before .before .loop .inv in
@@ -38,4 +32,4 @@ returns : tie.Need-returns Inv-loop μ-loop
 returns c = let inv = c .before .loop .inv in (sym (halved-end _ _ _ _ (omega arith)) ∙ inv .0, inv .1)
 
 pub block-by-halves-spec : {M : Type 1} → statement M
-block-by-halves-spec = tie.close (tie.spec Inv-loop μ-loop loop-holds step-requires sub-steps loop-less loop-again returns)
+block-by-halves-spec = tie.close (tie.spec Inv-loop μ-loop loop-holds step-requires (λ c. omega arith) (λ c. omega arith) loop-again returns)

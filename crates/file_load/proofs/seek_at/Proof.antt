@@ -17,32 +17,14 @@ Inv-loop file block «record» id places p₀ p = placeFrom file id p ≡ placeF
 abbrev μ-loop : tie.MeasureT-loop
 μ-loop file block «record» id places p₀ p = places - p
 
-mul-places : tie.Need-mul-places Inv-loop μ-loop
-mul-places c = omega arith
-
-mul-p : tie.Need-mul-p Inv-loop μ-loop
-mul-p c = omega arith
-
-add-p : tie.Need-add-p Inv-loop μ-loop
-add-p c = omega arith
-
 loop-holds : tie.Need-loop-holds Inv-loop μ-loop
 loop-holds c = refl
-
-has-id-requires : tie.Need-has-id-requires Inv-loop μ-loop
-has-id-requires c κs = tt
 
 -- ---- a record with the id
 returns : tie.Need-returns Inv-loop μ-loop
 returns c = ap placeOf (sym (seek-here _ _ _ (omega arith) (sym (c .before .has-id .ensures) ∙ c .if1 .taken)) ∙ c .before .before .before .loop .inv)
 
 -- ---- the turn that goes on
-add-p-2 : tie.Need-add-p-2 Inv-loop μ-loop
-add-p-2 c = omega arith
-
-loop-less : tie.Need-loop-less Inv-loop μ-loop
-loop-less c = omega arith
-
 loop-again : tie.Need-loop-again Inv-loop μ-loop
 loop-again c = seek-next _ _ _ (omega arith) (sym (c .before .has-id .ensures) ∙ c .if1 .left) ∙ c .before .before .before .loop .inv
 
@@ -51,4 +33,6 @@ returns-2 : tie.Need-returns-2 Inv-loop μ-loop
 returns-2 c = place-past (now (c .before .before .before .args .file)) _ (sym (c .before .loop .inv) ∙ seek-none _ _ _ (omega arith))
 
 pub seek-at-spec : {M : Type 1} → statement M
-seek-at-spec = tie.close (tie.spec Inv-loop μ-loop mul-places mul-p add-p loop-holds has-id-requires returns add-p-2 loop-less loop-again returns-2)
+seek-at-spec =
+    tie.close (tie.spec Inv-loop μ-loop (λ c. omega arith) (λ c. omega arith) (λ c. omega arith) loop-holds (λ c κs. tt) returns (λ c. omega arith)
+    (λ c. omega arith) loop-again returns-2)

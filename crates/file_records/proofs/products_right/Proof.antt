@@ -29,12 +29,6 @@ returns : tie.Need-returns Inv-loop μ-loop
 unfolding productsRight
 returns c = sym (every-not _ _ _ (said-no (c .before .block-right .ensures) (c .if1 .taken)) (omega arith))
 
-add-k : tie.Need-add-k Inv-loop μ-loop
-add-k c = omega arith
-
-loop-less : tie.Need-loop-less Inv-loop μ-loop
-loop-less c = omega arith
-
 loop-again : tie.Need-loop-again Inv-loop μ-loop
 loop-again c = (omega arith, every-more _ _ (c .before .before .before .loop .inv .1) (said-yes (c .before .block-right .ensures) (c .if1 .left)))
 
@@ -45,4 +39,4 @@ returns-2 c =
     sym (rw e at (c .before .loop .inv .1))
 
 pub products-right-spec : {M : Type 1} → statement M
-products-right-spec = tie.close (tie.spec Inv-loop μ-loop loop-holds block-right-requires returns add-k loop-less loop-again returns-2)
+products-right-spec = tie.close (tie.spec Inv-loop μ-loop loop-holds block-right-requires returns (λ c. omega arith) (λ c. omega arith) loop-again returns-2)

@@ -26,12 +26,6 @@ record-place-right-requires c κs = c .before .before .before .pre
 returns : tie.Need-returns Inv-loop μ-loop
 returns c = sym (every-not _ _ _ (said-no (c .before .record-place-right .ensures) (c .if1 .taken)) (omega arith))
 
-add-k : tie.Need-add-k Inv-loop μ-loop
-add-k c = omega arith
-
-loop-less : tie.Need-loop-less Inv-loop μ-loop
-loop-less c = omega arith
-
 loop-again : tie.Need-loop-again Inv-loop μ-loop
 loop-again c = (omega arith, every-more _ _ (c .before .before .before .loop .inv .1) (said-yes (c .before .record-place-right .ensures) (c .if1 .left)))
 
@@ -41,4 +35,5 @@ returns-2 c =
     sym (rw e at (c .before .loop .inv .1))
 
 pub record-places-right-spec : {M : Type 1} → statement M
-record-places-right-spec = tie.close (tie.spec Inv-loop μ-loop loop-holds record-place-right-requires returns add-k loop-less loop-again returns-2)
+record-places-right-spec =
+    tie.close (tie.spec Inv-loop μ-loop loop-holds record-place-right-requires returns (λ c. omega arith) (λ c. omega arith) loop-again returns-2)

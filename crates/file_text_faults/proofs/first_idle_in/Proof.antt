@@ -18,14 +18,8 @@ Inv-loop cover closed end last day₀ day =
 abbrev μ-loop : tie.MeasureT-loop
 μ-loop cover closed end last day₀ day = last - day
 
-cover-end-requires : tie.Need-cover-end-requires Inv-loop μ-loop
-cover-end-requires c κs = tt
-
 returns : tie.Need-returns Inv-loop μ-loop
 returns c = no-run _ _ (c .before .cover-end .ensures .0) (c .if1 .taken)
-
-cover-start-requires : tie.Need-cover-start-requires Inv-loop μ-loop
-cover-start-requires c κs = tt
 
 loop-holds : tie.Need-loop-holds Inv-loop μ-loop
 loop-holds c = search-start _ _ _ (c .cover-start .ensures .0) (c .before .before .cover-end .ensures .0)
@@ -41,9 +35,6 @@ returns-2 c =
 add-day : tie.Need-add-day Inv-loop μ-loop
 add-day c = omega (arith, c .before .before .before .before .before .before .cover-end .ensures .1)
 
-loop-less : tie.Need-loop-less Inv-loop μ-loop
-loop-less c = omega arith
-
 loop-again : tie.Need-loop-again Inv-loop μ-loop
 loop-again c =
     search-next _ _ _ _ (c .before .before .loop-test .taken) (ap not (sym (c .before .some-trades .ensures)) ∙ c .if2 .left)
@@ -54,5 +45,5 @@ returns-3 c = sym (search-none _ _ _ _ (c .loop-test .left)) ∙ c .before .loop
 
 pub first-idle-in-spec : {M : Type 1} → statement M
 first-idle-in-spec =
-    tie.close (tie.spec Inv-loop μ-loop cover-end-requires returns cover-start-requires loop-holds some-trades-requires returns-2 add-day loop-less loop-again
+    tie.close (tie.spec Inv-loop μ-loop (λ c κs. tt) returns (λ c κs. tt) loop-holds some-trades-requires returns-2 add-day (λ c. omega arith) loop-again
     returns-3)

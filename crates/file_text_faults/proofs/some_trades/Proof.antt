@@ -18,20 +18,8 @@ abbrev μ-loop : tie.MeasureT-loop
 loop-holds : tie.Need-loop-holds Inv-loop μ-loop
 loop-holds c = (omega arith, none-yet _)
 
-add-is-trading-day-in : tie.Need-add-is-trading-day-in Inv-loop μ-loop
-add-is-trading-day-in c = omega arith
-
-is-trading-day-in-requires : tie.Need-is-trading-day-in-requires Inv-loop μ-loop
-is-trading-day-in-requires c κs = tt
-
 returns : tie.Need-returns Inv-loop μ-loop
 returns c = sym (some-at _ 7 _ (sym (c .before .is-trading-day-in .ensures) ∙ c .if1 .taken) (c .before .before .loop-test .taken))
-
-add-i : tie.Need-add-i Inv-loop μ-loop
-add-i c = omega arith
-
-loop-less : tie.Need-loop-less Inv-loop μ-loop
-loop-less c = omega arith
 
 loop-again : tie.Need-loop-again Inv-loop μ-loop
 loop-again c = (omega arith, none-more _ _ (c .before .before .before .loop .inv .1) (sym (c .before .is-trading-day-in .ensures) ∙ c .if1 .left))
@@ -40,4 +28,5 @@ returns-2 : tie.Need-returns-2 Inv-loop μ-loop
 returns-2 c = none-all _ _ (c .before .loop .inv .0) (c .loop-test .left) (c .before .loop .inv .1)
 
 pub some-trades-spec : {M : Type 1} → statement M
-some-trades-spec = tie.close (tie.spec Inv-loop μ-loop loop-holds add-is-trading-day-in is-trading-day-in-requires returns add-i loop-less loop-again returns-2)
+some-trades-spec =
+    tie.close (tie.spec Inv-loop μ-loop loop-holds (λ c. omega arith) (λ c κs. tt) returns (λ c. omega arith) (λ c. omega arith) loop-again returns-2)

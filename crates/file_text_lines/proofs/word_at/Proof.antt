@@ -21,15 +21,6 @@ loop-holds : tie.Need-loop-holds Inv-loop μ-loop
 loop-holds c = (omega arith, omega arith, refl)
 
 -- ---- the line ends before word k
-sub-result : tie.Need-sub-result Inv-loop μ-loop
-sub-result c = omega arith
-
-part-result-start : tie.Need-part-result-start Inv-loop μ-loop
-part-result-start c = omega arith
-
-part-result-end : tie.Need-part-result-end Inv-loop μ-loop
-part-result-end c = omega arith
-
 returns : tie.Need-returns Inv-loop μ-loop
 returns c =
     let at-if1 = c .before in
@@ -39,15 +30,6 @@ returns c =
     word-beyond _ _ _ _ (v .2) (at-end .byte-from .ensures .0 (v .0)) (at-if1 .if1 .taken) _ (at-test .loop-test .taken)
 
 -- ---- one word on
-add-from : tie.Need-add-from Inv-loop μ-loop
-add-from c = omega arith
-
-add-i : tie.Need-add-i Inv-loop μ-loop
-add-i c = omega arith
-
-loop-less : tie.Need-loop-less Inv-loop μ-loop
-loop-less c = omega arith
-
 loop-again : tie.Need-loop-again Inv-loop μ-loop
 loop-again c =
     let at-test = c .before .before in
@@ -78,5 +60,5 @@ returns-2 c =
 
 pub word-at-spec : {M : Type 1} → statement M
 word-at-spec =
-    tie.close (tie.spec Inv-loop μ-loop loop-holds (λ c κs. tt) sub-result part-result-start part-result-end returns add-from add-i loop-less loop-again
-    (λ c κs. tt) sub-result-2 part-result-start-2 part-result-end-2 returns-2)
+    tie.close (tie.spec Inv-loop μ-loop loop-holds (λ c κs. tt) (λ c. omega arith) (λ c. omega arith) (λ c. omega arith) returns (λ c. omega arith)
+    (λ c. omega arith) (λ c. omega arith) loop-again (λ c κs. tt) sub-result-2 part-result-start-2 part-result-end-2 returns-2)

@@ -22,12 +22,6 @@ loop-holds c =
     (s .within, omega (arith, s .on), sym (words-counted _ _ _ s))
 
 -- ---- one word more
-add-count : tie.Need-add-count Inv-loop μ-loop
-add-count c = omega arith
-
-add-byte-from : tie.Need-add-byte-from Inv-loop μ-loop
-add-byte-from c = omega arith
-
 loop-less : tie.Need-loop-less Inv-loop μ-loop
 loop-less c =
     let s = c .byte-from2 .ensures .0 (omega (arith, c .before .loop-test .taken)) in
@@ -57,4 +51,4 @@ returns c =
     omega (arith, v .2, none-left line (c .before .loop .from) (c .loop-test .left))
 
 pub word-count-spec : {M : Type 1} → statement M
-word-count-spec = tie.close (tie.spec Inv-loop μ-loop (λ c κs. tt) loop-holds add-count add-byte-from (λ c κs. tt) loop-less loop-again returns)
+word-count-spec = tie.close (tie.spec Inv-loop μ-loop (λ c κs. tt) loop-holds (λ c. omega arith) (λ c. omega arith) (λ c κs. tt) loop-less loop-again returns)

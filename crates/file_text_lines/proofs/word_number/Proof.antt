@@ -27,33 +27,12 @@ returns c = number-none _ _ (c .if1 .taken)
 loop-holds : tie.Need-loop-holds Inv-loop μ-loop
 loop-holds c = (omega arith, omega arith, refl)
 
-shared-slice-read-is-digit : tie.Need-shared-slice-read-is-digit Inv-loop μ-loop
-shared-slice-read-is-digit c = omega arith
-
-is-digit-requires : tie.Need-is-digit-requires Inv-loop μ-loop
-is-digit-requires c κs = tt
-
 returns-2 : tie.Need-returns-2 Inv-loop μ-loop
 returns-2 c =
     let at-test = c .before .before .before in
     let v = at-test .before .loop .inv in
     sym (no-digit _ _ _ _ (at-test .loop-test .taken) (said-no (c .before .is-digit .ensures) (c .if2 .taken))) ∙ v .2 ∙
     number-some _ _ (at-test .before .before .if1 .left)
-
-mul-next : tie.Need-mul-next Inv-loop μ-loop
-mul-next c = search needs
-
-shared-slice-read-digit-value : tie.Need-shared-slice-read-digit-value Inv-loop μ-loop
-shared-slice-read-digit-value c = omega arith
-
-digit-value-requires : tie.Need-digit-value-requires Inv-loop μ-loop
-digit-value-requires c κs = tt
-
-cast-next : tie.Need-cast-next Inv-loop μ-loop
-cast-next c = search needs
-
-add-next : tie.Need-add-next Inv-loop μ-loop
-add-next c = search needs
 
 returns-3 : tie.Need-returns-3 Inv-loop μ-loop
 returns-3 c =
@@ -63,12 +42,6 @@ returns-3 c =
     number-some _ _ (at-test .before .before .if1 .left)
 
 -- ---- one digit more
-add-i : tie.Need-add-i Inv-loop μ-loop
-add-i c = omega arith
-
-loop-less : tie.Need-loop-less Inv-loop μ-loop
-loop-less c = omega arith
-
 loop-again : tie.Need-loop-again Inv-loop μ-loop
 loop-again c =
     let at-if2 = c .before .before .before in
@@ -82,9 +55,6 @@ loop-again c =
     )
 
 -- ---- the word's end
-cast-t18 : tie.Need-cast-t18 Inv-loop μ-loop
-cast-t18 c = search needs
-
 returns-4 : tie.Need-returns-4 Inv-loop μ-loop
 returns-4 c =
     let v = c .before .loop .inv in
@@ -92,5 +62,5 @@ returns-4 c =
 
 pub word-number-spec : {M : Type 1} → statement M
 word-number-spec =
-    tie.close (tie.spec Inv-loop μ-loop returns loop-holds shared-slice-read-is-digit is-digit-requires returns-2 mul-next shared-slice-read-digit-value
-    digit-value-requires cast-next add-next returns-3 add-i loop-less loop-again cast-t18 returns-4)
+    tie.close (tie.spec Inv-loop μ-loop returns loop-holds (λ c. omega arith) (λ c κs. tt) returns-2 (λ c. search needs) (λ c. omega arith) (λ c κs. tt)
+    (λ c. search needs) (λ c. search needs) returns-3 (λ c. omega arith) (λ c. omega arith) loop-again (λ c. search needs) returns-4)

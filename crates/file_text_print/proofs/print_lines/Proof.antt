@@ -15,17 +15,8 @@ Inv-loop cal file from out₀ count next₀ length₀ out next length = Printing
 abbrev μ-loop : tie.MeasureT-loop
 μ-loop cal file from out₀ count next₀ length₀ out next length = count - next
 
-line-count-requires : tie.Need-line-count-requires Inv-loop μ-loop
-line-count-requires c κs = tt
-
 loop-holds : tie.Need-loop-holds Inv-loop μ-loop
 loop-holds c = begins _ _ _ _
-
-goes-on-requires : tie.Need-goes-on-requires Inv-loop μ-loop
-goes-on-requires c κs = tt
-
-line-at-requires : tie.Need-line-at-requires Inv-loop μ-loop
-line-at-requires c κs = tt
 
 -- ---- there is room for the line
 append-requires : tie.Need-append-requires Inv-loop μ-loop
@@ -66,5 +57,4 @@ returns c = ends _ _ _ _ _ _ _ (c .before .before .before .loop .inv) _ (c .befo
 
 pub print-lines-spec : {M : Type 1} → statement M
 print-lines-spec =
-    tie.close (tie.spec Inv-loop μ-loop line-count-requires loop-holds goes-on-requires line-at-requires append-requires add-next loop-less loop-again
-    same-length returns)
+    tie.close (tie.spec Inv-loop μ-loop (λ c κs. tt) loop-holds (λ c κs. tt) (λ c κs. tt) append-requires add-next loop-less loop-again same-length returns)

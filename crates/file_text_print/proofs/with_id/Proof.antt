@@ -21,9 +21,6 @@ abbrev μ-loop : tie.MeasureT-loop
 loop-holds : tie.Need-loop-holds Inv-loop μ-loop
 loop-holds c = (c .good .1 .0 .1 .0 .1, omega arith, refl)
 
-array-read-if1 : tie.Need-array-read-if1 Inv-loop μ-loop
-array-read-if1 c = omega arith
-
 -- ---- a space
 returns : tie.Need-returns Inv-loop μ-loop
 returns c =
@@ -34,18 +31,6 @@ returns c =
     }
 
 -- ---- one character more
-array-read-extend : tie.Need-array-read-extend Inv-loop μ-loop
-array-read-extend c = omega arith
-
-extend-requires : tie.Need-extend-requires Inv-loop μ-loop
-extend-requires c κs = tt
-
-add-i : tie.Need-add-i Inv-loop μ-loop
-add-i c = omega arith
-
-loop-less : tie.Need-loop-less Inv-loop μ-loop
-loop-less c = omega arith
-
 loop-again : tie.Need-loop-again Inv-loop μ-loop
 loop-again c =
     let v = c .before .before .before .loop .inv in (
@@ -63,4 +48,6 @@ returns-2 c =
     record { is = id-whole (c .before .loop .whole) (c .before .before .args .t2) (c .before .loop .i) (omega (arith, v .0, v .1)) ∙ v .2 }
 
 pub with-id-spec : {M : Type 1} → statement M
-with-id-spec = tie.close (tie.spec Inv-loop μ-loop loop-holds array-read-if1 returns array-read-extend extend-requires add-i loop-less loop-again returns-2)
+with-id-spec =
+    tie.close (tie.spec Inv-loop μ-loop loop-holds (λ c. omega arith) returns (λ c. omega arith) (λ c κs. tt) (λ c. omega arith) (λ c. omega arith) loop-again
+    returns-2)

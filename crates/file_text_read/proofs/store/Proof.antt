@@ -23,9 +23,6 @@ abbrev μ-loop : tie.MeasureT-loop
 returns : tie.Need-returns Inv-loop μ-loop
 returns c = too-short _ _ _ (c .if1 .taken)
 
-sub-if2 : tie.Need-sub-if2 Inv-loop μ-loop
-sub-if2 c = omega arith
-
 returns-2 : tie.Need-returns-2 Inv-loop μ-loop
 returns-2 c = no-room _ _ _ (c .if2 .taken)
 
@@ -35,22 +32,10 @@ loop-holds c =
     let start = c .before .before in
     (omega arith, paste-zero (start .args .records .now) (start .args .size) (start .args .t3), omega arith, start .good .1 .1 .0 .1 .0 .1, refl)
 
-array-read-records : tie.Need-array-read-records Inv-loop μ-loop
-array-read-records c = omega arith
-
-add-records : tie.Need-add-records Inv-loop μ-loop
-add-records c = search needs
-
 slice-write-records : tie.Need-slice-write-records Inv-loop μ-loop
 slice-write-records c =
     let v = c .before .loop .inv in
     omega (arith, v .2, v .4)
-
-add-i : tie.Need-add-i Inv-loop μ-loop
-add-i c = omega arith
-
-loop-less : tie.Need-loop-less Inv-loop μ-loop
-loop-less c = omega arith
 
 loop-again : tie.Need-loop-again Inv-loop μ-loop
 loop-again c =
@@ -58,9 +43,6 @@ loop-again c =
     (omega arith, rw (v .1) (byte-stored _ _ _ _ (v .2) (v .3) (c .loop-test .taken)), v .2, v .3, simp length-set (v .4))
 
 -- ---- after the last byte
-add-result : tie.Need-add-result Inv-loop μ-loop
-add-result c = search needs
-
 same-length : tie.Need-same-length Inv-loop μ-loop
 same-length c = c .before .loop .inv .4
 
@@ -72,5 +54,5 @@ returns-3 c =
 
 pub store-spec : {M : Type 1} → statement M
 store-spec =
-    tie.close (tie.spec Inv-loop μ-loop returns sub-if2 returns-2 loop-holds array-read-records add-records slice-write-records add-i loop-less loop-again
-    add-result same-length returns-3)
+    tie.close (tie.spec Inv-loop μ-loop returns (λ c. omega arith) returns-2 loop-holds (λ c. omega arith) (λ c. search needs) slice-write-records
+    (λ c. omega arith) (λ c. omega arith) loop-again (λ c. search needs) same-length returns-3)

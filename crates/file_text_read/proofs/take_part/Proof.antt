@@ -18,34 +18,13 @@ abbrev μ-loop : tie.MeasureT-loop
 loop-holds : tie.Need-loop-holds Inv-loop μ-loop
 loop-holds c = begins _ _ _ _
 
-shared-slice-read-byte : tie.Need-shared-slice-read-byte Inv-loop μ-loop
-shared-slice-read-byte c = omega arith
-
-add-i : tie.Need-add-i Inv-loop μ-loop
-add-i c = omega arith
-
-extend-long-requires : tie.Need-extend-long-requires Inv-loop μ-loop
-extend-long-requires c κs = tt
-
 -- ---- a byte of a line
-loop-less : tie.Need-loop-less Inv-loop μ-loop
-loop-less c = omega arith
-
 loop-again : tie.Need-loop-again Inv-loop μ-loop
 loop-again c =
     let at-test = c .before .before .before in
     goes-byte _ _ _ _ _ _ _ _ (at-test .before .loop .inv) (at-test .loop-test .taken) (c .before .if1 .taken) _ (c .extend-long .ensures)
 
-take-line-requires : tie.Need-take-line-requires Inv-loop μ-loop
-take-line-requires c κs = tt
-
-empty-long-line-requires : tie.Need-empty-long-line-requires Inv-loop μ-loop
-empty-long-line-requires c κs = tt
-
 -- ---- a line feed
-loop-less-2 : tie.Need-loop-less-2 Inv-loop μ-loop
-loop-less-2 c = omega arith
-
 loop-again-2 : tie.Need-loop-again-2 Inv-loop μ-loop
 loop-again-2 c =
     let at-take-line = c .before .before .before in
@@ -63,5 +42,5 @@ returns c = ends _ _ _ _ _ _ _ _ (c .before .loop .inv) (c .loop-test .left)
 
 pub take-part-spec : {M : Type 1} → statement M
 take-part-spec =
-    tie.close (tie.spec Inv-loop μ-loop loop-holds shared-slice-read-byte add-i extend-long-requires loop-less loop-again take-line-requires
-    empty-long-line-requires loop-less-2 loop-again-2 same-length returns)
+    tie.close (tie.spec Inv-loop μ-loop loop-holds (λ c. omega arith) (λ c. omega arith) (λ c κs. tt) (λ c. omega arith) loop-again (λ c κs. tt) (λ c κs. tt)
+    (λ c. omega arith) loop-again-2 same-length returns)

@@ -23,23 +23,12 @@ loop-holds c = (omega arith, filled-none _ 512)
 block-byte-requires : tie.Need-block-byte-requires Inv-loop μ-loop
 block-byte-requires c κs = (omega arith, omega arith, omega arith, omega arith)
 
-array-write-body : tie.Need-array-write-body Inv-loop μ-loop
-array-write-body c = omega arith
-
-add-j : tie.Need-add-j Inv-loop μ-loop
-add-j c = omega arith
-
-loop-less : tie.Need-loop-less Inv-loop μ-loop
-loop-less c = omega arith
-
 loop-again : tie.Need-loop-again Inv-loop μ-loop
 loop-again c = (omega arith, filled-more _ 512 _ _ _ (omega arith) (c .block-byte .ensures) (c .before .before .loop .inv .1))
-
-checked-requires : tie.Need-checked-requires Inv-loop μ-loop
-checked-requires c κs = tt
 
 returns : tie.Need-returns Inv-loop μ-loop
 returns c = c .checked .ensures ∙ block-made _ _ _ (omega arith) (c .before .before .loop .inv .1)
 
 pub block-for-spec : {M : Type 1} → statement M
-block-for-spec = tie.close (tie.spec Inv-loop μ-loop loop-holds block-byte-requires array-write-body add-j loop-less loop-again checked-requires returns)
+block-for-spec =
+    tie.close (tie.spec Inv-loop μ-loop loop-holds block-byte-requires (λ c. omega arith) (λ c. omega arith) (λ c. omega arith) loop-again (λ c κs. tt) returns)

@@ -21,17 +21,8 @@ loop-holds c = (omega arith, put-none _ _ _)
 block-for-requires : tie.Need-block-for-requires Inv-loop μ-loop
 block-for-requires c κs = (omega arith, omega arith, omega arith)
 
-mul-put-block : tie.Need-mul-put-block Inv-loop μ-loop
-mul-put-block c = omega arith
-
 put-block-requires : tie.Need-put-block-requires Inv-loop μ-loop
 put-block-requires c κs = omega (arith, put-long _ _ _ _ _ (omega arith) (c .before .before .before .before .before .before .before .before .loop .inv .1))
-
-add-k : tie.Need-add-k Inv-loop μ-loop
-add-k c = omega arith
-
-loop-less : tie.Need-loop-less Inv-loop μ-loop
-loop-less c = omega arith
 
 loop-again : tie.Need-loop-again Inv-loop μ-loop
 loop-again c =
@@ -51,4 +42,5 @@ returns c =
 
 pub put-blocks-spec : {M : Type 1} → statement M
 put-blocks-spec =
-    tie.close (tie.spec Inv-loop μ-loop loop-holds block-for-requires mul-put-block put-block-requires add-k loop-less loop-again same-length returns)
+    tie.close (tie.spec Inv-loop μ-loop loop-holds block-for-requires (λ c. omega arith) put-block-requires (λ c. omega arith) (λ c. omega arith) loop-again
+    same-length returns)

@@ -38,9 +38,6 @@ add-i c =
     let start = at-loop-test .before .before .before .before in
     omega (arith, start .good .1 .0 .0, at-loop-test .loop-test .taken)
 
-loop-less : tie.Need-loop-less Inv-loop μ-loop
-loop-less c = omega arith
-
 loop-again : tie.Need-loop-again Inv-loop μ-loop
 loop-again c =
     let at-write-reply = c .before .before .before in
@@ -66,4 +63,4 @@ returns c =
     ends _ _ _ (v .0) (v .1) _ _ _ (v .2) (c .loop-test .left) (v .3)
 
 pub run-calls-spec : {M : Type 1} → statement M
-run-calls-spec = tie.close (tie.spec Inv-loop μ-loop loop-holds call-at-requires write-reply-requires add-i loop-less loop-again same-length returns)
+run-calls-spec = tie.close (tie.spec Inv-loop μ-loop loop-holds call-at-requires write-reply-requires add-i (λ c. omega arith) loop-again same-length returns)

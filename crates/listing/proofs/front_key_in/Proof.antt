@@ -16,18 +16,9 @@ Inv-loop cover closed kind group date end key₀ key =
 abbrev μ-loop : tie.MeasureT-loop
 μ-loop cover closed kind group date end key₀ key = end - key
 
-end-key-requires : tie.Need-end-key-requires Inv-loop μ-loop
-end-key-requires c κs = tt
-
-key-of-requires : tie.Need-key-of-requires Inv-loop μ-loop
-key-of-requires c κs = tt
-
 -- ---- the loop begins at the date's key
 loop-holds : tie.Need-loop-holds Inv-loop μ-loop
 loop-holds c = refl
-
-may-be-front-requires : tie.Need-may-be-front-requires Inv-loop μ-loop
-may-be-front-requires c κs = tt
 
 -- ---- a key that may be the front
 returns : tie.Need-returns Inv-loop μ-loop
@@ -37,12 +28,6 @@ returns c =
     (c .before .before .loop-test .taken) (rw (c .before .may-be-front .ensures) at (c .if1 .taken))
 
 -- ---- the next key
-add-key : tie.Need-add-key Inv-loop μ-loop
-add-key c = omega arith
-
-loop-less : tie.Need-loop-less Inv-loop μ-loop
-loop-less c = omega arith
-
 loop-again : tie.Need-loop-again Inv-loop μ-loop
 loop-again c = search-next _ _ _ _ (c .before .before .loop-test .taken) (rw (c .before .may-be-front .ensures) at (c .if1 .left)) ∙
     c .before .before .before .loop .inv
@@ -56,4 +41,4 @@ returns-2 c =
 
 pub front-key-in-spec : {M : Type 1} → statement M
 front-key-in-spec =
-    tie.close (tie.spec Inv-loop μ-loop end-key-requires key-of-requires loop-holds may-be-front-requires returns add-key loop-less loop-again returns-2)
+    tie.close (tie.spec Inv-loop μ-loop (λ c κs. tt) (λ c κs. tt) loop-holds (λ c κs. tt) returns (λ c. omega arith) (λ c. omega arith) loop-again returns-2)

@@ -31,21 +31,9 @@ Inv-steps cover closed kind group date row end maturities₀ listed₀ from₀ c
 abbrev μ-steps : tie.MeasureT-steps
 μ-steps cover closed kind group date row end maturities₀ listed₀ from₀ complete₀ step₀ maturities listed from complete step = 4 - step
 
-kind-number-requires : tie.Need-kind-number-requires Inv-loop μ-loop Inv-steps μ-steps
-kind-number-requires c κs = tt
-
 -- ---- before the loops
 cast-row : tie.Need-cast-row Inv-loop μ-loop Inv-steps μ-steps
 cast-row c = omega (arith, c .kind-number .ensures, kind-below (c .before .before .args .kind))
-
-end-key-requires : tie.Need-end-key-requires Inv-loop μ-loop Inv-steps μ-steps
-end-key-requires c κs = tt
-
-unused-places-requires : tie.Need-unused-places-requires Inv-loop μ-loop Inv-steps μ-steps
-unused-places-requires c κs = tt
-
-front-key-in-requires : tie.Need-front-key-in-requires Inv-loop μ-loop Inv-steps μ-steps
-front-key-in-requires c κs = tt
 
 steps-holds : tie.Need-steps-holds Inv-loop μ-loop Inv-steps μ-steps
 steps-holds c =
@@ -55,24 +43,12 @@ steps-holds c =
     (starts _ _ (start .args .kind) _ _ (at-end-key .before .kind-number .ensures) (at-end-key .end-key .ensures .1))
 
 -- ---- a step begins
-mul-count : tie.Need-mul-count Inv-loop μ-loop Inv-steps μ-steps
-mul-count c = omega arith
-
-index-1-count : tie.Need-index-1-count Inv-loop μ-loop Inv-steps μ-steps
-index-1-count c = omega arith
-
-index-2-count : tie.Need-index-2-count Inv-loop μ-loop Inv-steps μ-steps
-index-2-count c = omega arith
-
 loop-holds : tie.Need-loop-holds Inv-loop μ-loop Inv-steps μ-steps
 loop-holds c = enters (c .before .before .steps .step) (c .before .steps-test .taken) (c .before .before .steps .inv)
 
 -- ---- a place is filled
 next-in-set-requires : tie.Need-next-in-set-requires Inv-loop μ-loop Inv-steps μ-steps
 next-in-set-requires c κs = (c .before .loop .inv .0 .row, c .before .before .before .steps-test .taken)
-
-last-trading-day-in-requires : tie.Need-last-trading-day-in-requires Inv-loop μ-loop Inv-steps μ-steps
-last-trading-day-in-requires c κs = tt
 
 mul-maturities : tie.Need-mul-maturities Inv-loop μ-loop Inv-steps μ-steps
 mul-maturities c = let w = c .before .before .before in omega (arith, has-room _ _ _ _ (w .before .loop .inv .0) (w .loop-test .taken))
@@ -83,15 +59,6 @@ array-set-from-maturities c = let w = c .before .before .before in has-room _ _ 
 add-listed : tie.Need-add-listed Inv-loop μ-loop Inv-steps μ-steps
 add-listed c = let w = c .before .before .before in omega (arith, has-room _ _ _ _ (w .before .loop .inv .0) (w .loop-test .taken))
 
-add-from : tie.Need-add-from Inv-loop μ-loop Inv-steps μ-steps
-add-from c = omega arith
-
-add-j : tie.Need-add-j Inv-loop μ-loop Inv-steps μ-steps
-add-j c = omega arith
-
-loop-less : tie.Need-loop-less Inv-loop μ-loop Inv-steps μ-steps
-loop-less c = omega arith
-
 loop-again : tie.Need-loop-again Inv-loop μ-loop Inv-steps μ-steps
 loop-again c =
     let w = c .before .before .before in (
@@ -101,12 +68,6 @@ loop-again c =
     )
 
 -- ---- a step ends
-add-step : tie.Need-add-step Inv-loop μ-loop Inv-steps μ-steps
-add-step c = omega arith
-
-steps-less : tie.Need-steps-less Inv-loop μ-loop Inv-steps μ-steps
-steps-less c = omega arith
-
 steps-again : tie.Need-steps-again Inv-loop μ-loop Inv-steps μ-steps
 steps-again c = leaves _ _ _ _ (c .before .loop .inv .0) (c .loop-test .left)
 
@@ -131,6 +92,6 @@ returns-2 c =
 
 pub list-in-spec : {M : Type 1} → statement M
 list-in-spec =
-    tie.close (tie.spec Inv-loop μ-loop Inv-steps μ-steps kind-number-requires cast-row end-key-requires unused-places-requires front-key-in-requires
-    steps-holds mul-count index-1-count index-2-count loop-holds next-in-set-requires last-trading-day-in-requires mul-maturities array-set-from-maturities
-    add-listed add-from add-j loop-less loop-again add-step steps-less steps-again returns returns-2)
+    tie.close (tie.spec Inv-loop μ-loop Inv-steps μ-steps (λ c κs. tt) cast-row (λ c κs. tt) (λ c κs. tt) (λ c κs. tt) steps-holds (λ c. omega arith)
+    (λ c. omega arith) (λ c. omega arith) loop-holds next-in-set-requires (λ c κs. tt) mul-maturities array-set-from-maturities add-listed (λ c. omega arith)
+    (λ c. omega arith) (λ c. omega arith) loop-again (λ c. omega arith) (λ c. omega arith) steps-again returns returns-2)

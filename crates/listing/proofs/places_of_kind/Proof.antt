@@ -15,9 +15,6 @@ Inv-loop row sum₀ step₀ sum step = (step ≤ 4) × (row < 6) × (length (res
 abbrev μ-loop : tie.MeasureT-loop
 μ-loop row sum₀ step₀ sum step = 4 - step
 
-kind-number-requires : tie.Need-kind-number-requires Inv-loop μ-loop
-kind-number-requires c κs = tt
-
 -- ---- the loop begins with no steps
 cast-row : tie.Need-cast-row Inv-loop μ-loop
 cast-row c = omega (arith, c .kind-number .ensures, kind-below (c .before .args .kind))
@@ -28,28 +25,13 @@ loop-holds c =
     rw (c .kind-number .ensures) (omega arith, kind-below k, rest-room k, omega arith)
 
 -- ---- a turn: one step's count
-mul-count : tie.Need-mul-count Inv-loop μ-loop
-mul-count c = omega arith
-
-index-1-count : tie.Need-index-1-count Inv-loop μ-loop
-index-1-count c = omega arith
-
-index-2-count : tie.Need-index-2-count Inv-loop μ-loop
-index-2-count c = omega arith
-
 cast-sum : tie.Need-cast-sum Inv-loop μ-loop
 cast-sum c = omega (arith, rest-count _ (c .before .before .loop .step) (c .before .before .loop .inv .1) (c .before .loop-test .taken))
 
 add-sum : tie.Need-add-sum Inv-loop μ-loop
 add-sum c = omega (arith, rest-count _ (c .before .before .loop .step) (c .before .before .loop .inv .1) (c .before .loop-test .taken))
 
-add-step : tie.Need-add-step Inv-loop μ-loop
-add-step c = omega arith
-
 -- ---- the next turn
-loop-less : tie.Need-loop-less Inv-loop μ-loop
-loop-less c = omega arith
-
 loop-again : tie.Need-loop-again Inv-loop μ-loop
 loop-again c = (
   omega arith,
@@ -70,5 +52,5 @@ returns c =
 
 pub places-of-kind-spec : {M : Type 1} → statement M
 places-of-kind-spec =
-    tie.close (tie.spec Inv-loop μ-loop kind-number-requires cast-row loop-holds mul-count index-1-count index-2-count cast-sum add-sum add-step loop-less
-    loop-again returns)
+    tie.close (tie.spec Inv-loop μ-loop (λ c κs. tt) cast-row loop-holds (λ c. omega arith) (λ c. omega arith) (λ c. omega arith) cast-sum add-sum
+    (λ c. omega arith) (λ c. omega arith) loop-again returns)

@@ -21,12 +21,6 @@ Inv-loop i tables number j₀ j = (j ≤ i) × (getD tables i 0 ≤ 199) × (eve
 abbrev μ-loop : tie.MeasureT-loop
 μ-loop i tables number j₀ j = i - j
 
-mul-number : tie.Need-mul-number Inv-loop μ-loop
-mul-number c = omega arith
-
-array-read-number : tie.Need-array-read-number Inv-loop μ-loop
-array-read-number c = omega arith
-
 -- ---- a number above 199
 returns : tie.Need-returns Inv-loop μ-loop
 returns c = rw (lt-leb _ _ (c .if1 .taken))
@@ -35,21 +29,9 @@ returns c = rw (lt-leb _ _ (c .if1 .taken))
 loop-holds : tie.Need-loop-holds Inv-loop μ-loop
 loop-holds c = (omega arith, omega arith, every-none _)
 
-mul-if2 : tie.Need-mul-if2 Inv-loop μ-loop
-mul-if2 c = omega arith
-
-array-read-if2 : tie.Need-array-read-if2 Inv-loop μ-loop
-array-read-if2 c = omega arith
-
 returns-2 : tie.Need-returns-2 Inv-loop μ-loop
 returns-2 c =
     rw (le-leb _ _ (c .before .before .loop .inv .1)) (sym (every-not _ _ _ (ap not (eq-eqb _ _ (c .if2 .taken))) (c .before .loop-test .taken)))
-
-add-j : tie.Need-add-j Inv-loop μ-loop
-add-j c = omega arith
-
-loop-less : tie.Need-loop-less Inv-loop μ-loop
-loop-less c = omega arith
 
 loop-again : tie.Need-loop-again Inv-loop μ-loop
 loop-again c =
@@ -65,4 +47,5 @@ returns-3 c =
 
 pub is-place-right-spec : {M : Type 1} → statement M
 is-place-right-spec =
-    tie.close (tie.spec Inv-loop μ-loop mul-number array-read-number returns loop-holds mul-if2 array-read-if2 returns-2 add-j loop-less loop-again returns-3)
+    tie.close (tie.spec Inv-loop μ-loop (λ c. omega arith) (λ c. omega arith) returns loop-holds (λ c. omega arith) (λ c. omega arith) returns-2
+    (λ c. omega arith) (λ c. omega arith) loop-again returns-3)

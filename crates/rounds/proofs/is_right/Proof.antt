@@ -21,9 +21,6 @@ Inv-loop n tables i₀ i = (n ≤ 200) × (i ≤ n) × (every i (queuePlaceRight
 abbrev μ-loop : tie.MeasureT-loop
 μ-loop n tables i₀ i = n - i
 
-cast-n : tie.Need-cast-n Inv-loop μ-loop
-cast-n c = search needs
-
 -- ---- a count above 200
 returns : tie.Need-returns Inv-loop μ-loop
 unfolding queueRight
@@ -33,20 +30,11 @@ returns c = rw (lt-leb _ _ (c .if1 .taken))
 loop-holds : tie.Need-loop-holds Inv-loop μ-loop
 loop-holds c = (omega arith, omega arith, every-none _)
 
-is-place-right-requires : tie.Need-is-place-right-requires Inv-loop μ-loop
-is-place-right-requires c κs = omega arith
-
 returns-2 : tie.Need-returns-2 Inv-loop μ-loop
 unfolding queueRight
 returns-2 c =
     rw (le-leb _ _ (c .before .before .before .loop .inv .0))
     (sym (every-not _ _ _ (said-no (c .before .is-place-right .ensures) (c .if2 .taken)) (c .before .before .loop-test .taken)))
-
-add-i : tie.Need-add-i Inv-loop μ-loop
-add-i c = omega arith
-
-loop-less : tie.Need-loop-less Inv-loop μ-loop
-loop-less c = omega arith
 
 loop-again : tie.Need-loop-again Inv-loop μ-loop
 loop-again c =
@@ -62,4 +50,6 @@ returns-3 c =
     sym (and-both (le-leb _ _ (v .0)) (rw e at (v .2)))
 
 pub is-right-spec : {M : Type 1} → statement M
-is-right-spec = tie.close (tie.spec Inv-loop μ-loop cast-n returns loop-holds is-place-right-requires returns-2 add-i loop-less loop-again returns-3)
+is-right-spec =
+    tie.close (tie.spec Inv-loop μ-loop (λ c. search needs) returns loop-holds (λ c κs. omega arith) returns-2 (λ c. omega arith) (λ c. omega arith) loop-again
+    returns-3)

@@ -22,12 +22,6 @@ loop-holds c =
     let p = c .pre in
     puts _ _ _ _ _ (omega (arith, c .good .0 .1 .0 .1, p .2)) (omega (arith, c .good .1 .1 .0 .1 .0 .1)) (p .0) (p .2) (p .3)
 
-mul-out : tie.Need-mul-out Inv-loop μ-loop
-mul-out c = omega arith
-
-array-read-out : tie.Need-array-read-out Inv-loop μ-loop
-array-read-out c = omega arith
-
 mul-out-2 : tie.Need-mul-out-2 Inv-loop μ-loop
 mul-out-2 c = omega (arith, c .before .loop .inv .room)
 
@@ -37,12 +31,6 @@ array-write-out c = omega (arith, c .before .loop .inv .room)
 add-at : tie.Need-add-at Inv-loop μ-loop
 add-at c = omega (arith, c .before .loop .inv .room)
 
-add-i : tie.Need-add-i Inv-loop μ-loop
-add-i c = omega arith
-
-loop-less : tie.Need-loop-less Inv-loop μ-loop
-loop-less c = omega arith
-
 loop-again : tie.Need-loop-again Inv-loop μ-loop
 loop-again c = puts-more _ _ _ _ _ _ (c .before .loop .inv) (c .loop-test .taken)
 
@@ -51,4 +39,6 @@ returns : tie.Need-returns Inv-loop μ-loop
 returns c = puts-all _ _ _ _ _ _ (c .before .loop .inv) (c .loop-test .left)
 
 pub put-after-spec : {M : Type 1} → statement M
-put-after-spec = tie.close (tie.spec Inv-loop μ-loop loop-holds mul-out array-read-out mul-out-2 array-write-out add-at add-i loop-less loop-again returns)
+put-after-spec =
+    tie.close (tie.spec Inv-loop μ-loop loop-holds (λ c. omega arith) (λ c. omega arith) mul-out-2 array-write-out add-at (λ c. omega arith) (λ c. omega arith)
+    loop-again returns)

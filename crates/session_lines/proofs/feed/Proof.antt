@@ -22,21 +22,6 @@ loop-holds c = refl
 returns : tie.Need-returns Inv-loop μ-loop
 returns c = sym (fed-full _ _ (c .if1 .taken)) ∙ c .before .before .loop .inv
 
-shared-slice-read-held : tie.Need-shared-slice-read-held Inv-loop μ-loop
-shared-slice-read-held c = omega arith
-
-array-write-held : tie.Need-array-write-held Inv-loop μ-loop
-array-write-held c = omega arith
-
-add-n : tie.Need-add-n Inv-loop μ-loop
-add-n c = omega arith
-
-add-i : tie.Need-add-i Inv-loop μ-loop
-add-i c = omega arith
-
-loop-less : tie.Need-loop-less Inv-loop μ-loop
-loop-less c = omega arith
-
 loop-again : tie.Need-loop-again Inv-loop μ-loop
 loop-again c = fed-step _ _ _ _ (c .before .before .loop-test .taken) (c .before .if1 .left) ∙ c .before .before .before .loop .inv
 
@@ -44,4 +29,6 @@ returns-2 : tie.Need-returns-2 Inv-loop μ-loop
 returns-2 c = sym (fed-done _ _ _ (c .loop-test .left)) ∙ c .before .loop .inv
 
 pub feed-spec : {M : Type 1} → statement M
-feed-spec = tie.close (tie.spec Inv-loop μ-loop loop-holds returns shared-slice-read-held array-write-held add-n add-i loop-less loop-again returns-2)
+feed-spec =
+    tie.close (tie.spec Inv-loop μ-loop loop-holds returns (λ c. omega arith) (λ c. omega arith) (λ c. omega arith) (λ c. omega arith) (λ c. omega arith)
+    loop-again returns-2)

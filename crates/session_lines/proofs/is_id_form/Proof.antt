@@ -25,24 +25,9 @@ abbrev μ-loop : tie.MeasureT-loop
 loop-holds : tie.Need-loop-holds Inv-loop μ-loop
 loop-holds c = (omega arith, omega arith, every-none _)
 
-add-is-id-character : tie.Need-add-is-id-character Inv-loop μ-loop
-add-is-id-character c = omega arith
-
-array-read-is-id-character : tie.Need-array-read-is-id-character Inv-loop μ-loop
-array-read-is-id-character c = omega arith
-
-is-id-character-requires : tie.Need-is-id-character-requires Inv-loop μ-loop
-is-id-character-requires c κs = tt
-
 returns : tie.Need-returns Inv-loop μ-loop
 unfolding idForm
 returns c = sym (every-not _ _ _ (said-no (c .before .is-id-character .ensures) (c .if1 .taken)) (c .before .before .loop-test .taken))
-
-add-i : tie.Need-add-i Inv-loop μ-loop
-add-i c = omega arith
-
-loop-less : tie.Need-loop-less Inv-loop μ-loop
-loop-less c = omega arith
 
 loop-again : tie.Need-loop-again Inv-loop μ-loop
 loop-again c =
@@ -59,5 +44,5 @@ returns-2 c =
 
 pub is-id-form-spec : {M : Type 1} → statement M
 is-id-form-spec =
-    tie.close (tie.spec Inv-loop μ-loop loop-holds add-is-id-character array-read-is-id-character is-id-character-requires returns add-i loop-less loop-again
+    tie.close (tie.spec Inv-loop μ-loop loop-holds (λ c. omega arith) (λ c. omega arith) (λ c κs. tt) returns (λ c. omega arith) (λ c. omega arith) loop-again
     returns-2)

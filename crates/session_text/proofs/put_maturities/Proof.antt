@@ -24,12 +24,6 @@ abbrev μ-loop : tie.MeasureT-loop
 loop-holds : tie.Need-loop-holds Inv-loop μ-loop
 loop-holds c = (c .before .pre .0, c .before .pre .1, c .before .pre .2, omega arith, omega (arith, no-width (c .before .args .kind)), no-lines _ _ _ _)
 
-mul-m : tie.Need-mul-m Inv-loop μ-loop
-mul-m c = omega arith
-
-array-copy-out-m : tie.Need-array-copy-out-m Inv-loop μ-loop
-array-copy-out-m c = omega arith
-
 put-maturity-requires : tie.Need-put-maturity-requires Inv-loop μ-loop
 put-maturity-requires c κs =
     let v = c .before .before .before .loop .inv in
@@ -37,12 +31,6 @@ put-maturity-requires c κs =
     let start = c .before .before .before .before .before in
     let k = start .args .kind in
     omega (arith, v .1, v .2, v .4, v .5 .long, lines-wider k i, lines-rise k (i + 1) (start .args .n) (omega (arith, c .before .before .loop-test .taken)))
-
-add-i : tie.Need-add-i Inv-loop μ-loop
-add-i c = omega arith
-
-loop-less : tie.Need-loop-less Inv-loop μ-loop
-loop-less c = omega arith
 
 loop-again : tie.Need-loop-again Inv-loop μ-loop
 loop-again c =
@@ -74,4 +62,5 @@ returns c =
 
 pub put-maturities-spec : {M : Type 1} → statement M
 put-maturities-spec =
-    tie.close (tie.spec Inv-loop μ-loop loop-holds mul-m array-copy-out-m put-maturity-requires add-i loop-less loop-again same-length returns)
+    tie.close (tie.spec Inv-loop μ-loop loop-holds (λ c. omega arith) (λ c. omega arith) put-maturity-requires (λ c. omega arith) (λ c. omega arith) loop-again
+    same-length returns)

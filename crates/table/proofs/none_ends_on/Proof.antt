@@ -18,20 +18,8 @@ abbrev μ-loop : tie.MeasureT-loop
 loop-holds : tie.Need-loop-holds Inv-loop μ-loop
 loop-holds c = (c .good .0 .1 .0 .1, omega arith, none-begins _ _)
 
-mul-m : tie.Need-mul-m Inv-loop μ-loop
-mul-m c = omega arith
-
-array-copy-out-m : tie.Need-array-copy-out-m Inv-loop μ-loop
-array-copy-out-m c = omega arith
-
 returns : tie.Need-returns Inv-loop μ-loop
 returns c = none-found _ _ _ (omega arith) (c .if1 .taken)
-
-add-i : tie.Need-add-i Inv-loop μ-loop
-add-i c = omega arith
-
-loop-less : tie.Need-loop-less Inv-loop μ-loop
-loop-less c = omega arith
 
 loop-again : tie.Need-loop-again Inv-loop μ-loop
 loop-again c =
@@ -44,4 +32,5 @@ returns-2 c =
     none-all _ _ _ (omega arith) (v .2)
 
 pub none-ends-on-spec : {M : Type 1} → statement M
-none-ends-on-spec = tie.close (tie.spec Inv-loop μ-loop loop-holds mul-m array-copy-out-m returns add-i loop-less loop-again returns-2)
+none-ends-on-spec =
+    tie.close (tie.spec Inv-loop μ-loop loop-holds (λ c. omega arith) (λ c. omega arith) returns (λ c. omega arith) (λ c. omega arith) loop-again returns-2)

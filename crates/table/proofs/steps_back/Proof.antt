@@ -25,21 +25,12 @@ loop-holds c = (omega arith, omega arith, back-starts _ _)
 returns : tie.Need-returns Inv-loop μ-loop
 returns c = back-none _ _ _ _ (c .if1 .taken) (c .before .before .loop .inv .2)
 
-is-trading-day-in-requires : tie.Need-is-trading-day-in-requires Inv-loop μ-loop
-is-trading-day-in-requires c κs = tt
-
 returns-2 : tie.Need-returns-2 Inv-loop μ-loop
 returns-2 c =
     let at-if1 = c .before .before in
     let at-loop-test = at-if1 .before in
     search-at _ _ _ (at-loop-test .loop-test .taken) (at-loop-test .before .loop .inv .2)
     (rw (le-leb _ _ (at-if1 .if1 .left)) (sym (c .before .is-trading-day-in .ensures) ∙ c .if2 .taken))
-
-add-n : tie.Need-add-n Inv-loop μ-loop
-add-n c = omega arith
-
-loop-less : tie.Need-loop-less Inv-loop μ-loop
-loop-less c = omega arith
 
 loop-again : tie.Need-loop-again Inv-loop μ-loop
 loop-again c =
@@ -56,4 +47,4 @@ returns-3 : tie.Need-returns-3 Inv-loop μ-loop
 returns-3 c = search-end _ _ _ (c .loop-test .left) (c .before .loop .inv .2)
 
 pub steps-back-spec : {M : Type 1} → statement M
-steps-back-spec = tie.close (tie.spec Inv-loop μ-loop loop-holds returns is-trading-day-in-requires returns-2 add-n loop-less loop-again returns-3)
+steps-back-spec = tie.close (tie.spec Inv-loop μ-loop loop-holds returns (λ c κs. tt) returns-2 (λ c. omega arith) (λ c. omega arith) loop-again returns-3)

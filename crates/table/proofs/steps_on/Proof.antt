@@ -25,22 +25,10 @@ returns c = on-late _ _ (c .if1 .taken)
 loop-holds : tie.Need-loop-holds Inv-loop μ-loop
 loop-holds c = (omega arith, omega arith, omega arith, on-starts _ _ (c .if1 .left))
 
-add-is-trading-day-in : tie.Need-add-is-trading-day-in Inv-loop μ-loop
-add-is-trading-day-in c = omega arith
-
-is-trading-day-in-requires : tie.Need-is-trading-day-in-requires Inv-loop μ-loop
-is-trading-day-in-requires c κs = tt
-
 returns-2 : tie.Need-returns-2 Inv-loop μ-loop
 returns-2 c =
     let at-loop-test = c .before .before in
     search-at _ _ _ (at-loop-test .loop-test .taken) (at-loop-test .before .loop .inv .3) (sym (c .before .is-trading-day-in .ensures) ∙ c .if2 .taken)
-
-add-n : tie.Need-add-n Inv-loop μ-loop
-add-n c = omega arith
-
-loop-less : tie.Need-loop-less Inv-loop μ-loop
-loop-less c = omega arith
 
 loop-again : tie.Need-loop-again Inv-loop μ-loop
 loop-again c =
@@ -57,4 +45,4 @@ returns-3 c = search-end _ _ _ (c .loop-test .left) (c .before .loop .inv .3)
 
 pub steps-on-spec : {M : Type 1} → statement M
 steps-on-spec =
-    tie.close (tie.spec Inv-loop μ-loop returns loop-holds add-is-trading-day-in is-trading-day-in-requires returns-2 add-n loop-less loop-again returns-3)
+    tie.close (tie.spec Inv-loop μ-loop returns loop-holds (λ c. omega arith) (λ c κs. tt) returns-2 (λ c. omega arith) (λ c. omega arith) loop-again returns-3)

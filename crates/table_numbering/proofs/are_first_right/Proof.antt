@@ -21,18 +21,9 @@ abbrev μ-loop : tie.MeasureT-loop
 loop-holds : tie.Need-loop-holds Inv-loop μ-loop
 loop-holds c = (omega arith, every-none _)
 
-is-number-right-requires : tie.Need-is-number-right-requires Inv-loop μ-loop
-is-number-right-requires c κs = omega arith
-
 returns : tie.Need-returns Inv-loop μ-loop
 unfolding numbersRight
 returns c = sym (every-not _ _ _ (said-no (c .before .is-number-right .ensures) (c .if1 .taken)) (c .before .before .loop-test .taken))
-
-add-i : tie.Need-add-i Inv-loop μ-loop
-add-i c = omega arith
-
-loop-less : tie.Need-loop-less Inv-loop μ-loop
-loop-less c = omega arith
 
 loop-again : tie.Need-loop-again Inv-loop μ-loop
 loop-again c = (omega arith, every-more _ _ (c .before .before .before .loop .inv .1) (said-yes (c .before .is-number-right .ensures) (c .if1 .left)))
@@ -44,4 +35,4 @@ returns-2 c =
     sym (rw e at (c .before .loop .inv .1))
 
 pub are-first-right-spec : {M : Type 1} → statement M
-are-first-right-spec = tie.close (tie.spec Inv-loop μ-loop loop-holds is-number-right-requires returns add-i loop-less loop-again returns-2)
+are-first-right-spec = tie.close (tie.spec Inv-loop μ-loop loop-holds (λ c κs. omega arith) returns (λ c. omega arith) (λ c. omega arith) loop-again returns-2)

@@ -19,9 +19,6 @@ Inv-loop maturities fresh n i₀ i = (i ≤ 15) × (every i (placeRight maturiti
 abbrev μ-loop : tie.MeasureT-loop
 μ-loop maturities fresh n i₀ i = 15 - i
 
-places-of-kind-requires : tie.Need-places-of-kind-requires Inv-loop μ-loop
-places-of-kind-requires c κs = tt
-
 cast-n : tie.Need-cast-n Inv-loop μ-loop
 cast-n c = omega (arith, c .places-of-kind .ensures .1)
 
@@ -29,19 +26,10 @@ cast-n c = omega (arith, c .places-of-kind .ensures .1)
 loop-holds : tie.Need-loop-holds Inv-loop μ-loop
 loop-holds c = (omega arith, every-none _)
 
-is-place-right-requires : tie.Need-is-place-right-requires Inv-loop μ-loop
-is-place-right-requires c κs = omega arith
-
 returns : tie.Need-returns Inv-loop μ-loop
 returns c =
     rw (← c .before .before .before .before .places-of-kind .ensures .0)
     (sym (every-not _ _ _ (said-no (c .before .is-place-right .ensures) (c .if1 .taken)) (c .before .before .loop-test .taken)))
-
-add-i : tie.Need-add-i Inv-loop μ-loop
-add-i c = omega arith
-
-loop-less : tie.Need-loop-less Inv-loop μ-loop
-loop-less c = omega arith
 
 loop-again : tie.Need-loop-again Inv-loop μ-loop
 loop-again c = (omega arith, every-more _ _ (c .before .before .before .loop .inv .1) (said-yes (c .before .is-place-right .ensures) (c .if1 .left)))
@@ -54,4 +42,4 @@ returns-2 c =
 
 pub are-places-right-spec : {M : Type 1} → statement M
 are-places-right-spec =
-    tie.close (tie.spec Inv-loop μ-loop places-of-kind-requires cast-n loop-holds is-place-right-requires returns add-i loop-less loop-again returns-2)
+    tie.close (tie.spec Inv-loop μ-loop (λ c κs. tt) cast-n loop-holds (λ c κs. omega arith) returns (λ c. omega arith) (λ c. omega arith) loop-again returns-2)

@@ -21,48 +21,28 @@ Inv-loop others n maturities count₀ i₀ count i =
 abbrev μ-loop : tie.MeasureT-loop
 μ-loop others n maturities count₀ i₀ count i = n - i
 
--- ---- the loop
 loop-holds : tie.Need-loop-holds Inv-loop μ-loop
 loop-holds c = (omega (arith, c .good .0 .1 .0 .1), omega arith, omega arith, omega arith, zero-add _)
 
-mul-m : tie.Need-mul-m Inv-loop μ-loop
-mul-m c = omega arith
-
-array-copy-out-m : tie.Need-array-copy-out-m Inv-loop μ-loop
-array-copy-out-m c = omega arith
-
-absent-requires : tie.Need-absent-requires Inv-loop μ-loop
-absent-requires c κs = omega arith
+-- ---- a turn: place i adds 0 or 1
+at-most-one : (c : tie.After-absent Inv-loop μ-loop) → c .absent .result ≤ 1
+at-most-one c =
+    let at-loop = c .before .before .before in
+    let args = at-loop .before .args in
+    rw (c .absent .ensures) (cond-most (isListed (take (args .n) (args .others)) (getD (args .t1) (at-loop .loop .i) unused .key)))
 
 add-count : tie.Need-add-count Inv-loop μ-loop
-add-count c =
-    let args = c .before .before .before .before .args in
-    omega (arith, c .absent .ensures, cond-most (isListed (take (args .n) (args .others)) (getD (args .t1) (c .before .before .before .loop .i) unused .key)))
-
-add-i : tie.Need-add-i Inv-loop μ-loop
-add-i c = omega arith
-
-loop-less : tie.Need-loop-less Inv-loop μ-loop
-loop-less c = omega arith
+add-count c = omega (arith, at-most-one c)
 
 loop-again : tie.Need-loop-again Inv-loop μ-loop
 loop-again c =
-    let args = c .before .before .before .before .args in
-    let v = c .before .before .before .loop .inv in
-    let e = missing-next (args .t1) (args .n) (c .before .before .before .loop .i) (c .before .before .before .loop .inv .0) (take (args .n) (args .others))
-    (c .before .before .loop-test .taken) in (
-      v .0,
-      v .1,
-      omega (
-        arith,
-        c .absent .ensures,
-        cond-most (isListed (take (args .n) (args .others)) (getD (args .t1) (c .before .before .before .loop .i) unused .key)),
-      ),
-      omega arith,
-      omega (arith, c .absent .ensures, e, v .4),
-    )
+    let at-loop = c .before .before .before in
+    let args = at-loop .before .args in
+    let v = at-loop .loop .inv in
+    let e = missing-next (args .t1) (args .n) (at-loop .loop .i) (v .0) (take (args .n) (args .others)) (c .before .before .loop-test .taken) in
+    (v .0, v .1, omega (arith, at-most-one c), omega arith, omega (arith, c .absent .ensures, e, v .4))
 
--- ---- after the loop
+-- ---- after the loop: no place is left
 returns : tie.Need-returns Inv-loop μ-loop
 returns c =
     let args = c .before .before .args in
@@ -70,4 +50,6 @@ returns c =
     (omega (arith, v .4, missing-none (args .t1) (args .n) (c .before .loop .i) (v .0) (take (args .n) (args .others)) (c .loop-test .left)), omega arith)
 
 pub count-absent-spec : {M : Type 1} → statement M
-count-absent-spec = tie.close (tie.spec Inv-loop μ-loop loop-holds mul-m array-copy-out-m absent-requires add-count add-i loop-less loop-again returns)
+count-absent-spec =
+    tie.close (tie.spec Inv-loop μ-loop loop-holds (λ c. omega arith) (λ c. omega arith) (λ c κs. omega arith) add-count (λ c. omega arith) (λ c. omega arith)
+    loop-again returns)

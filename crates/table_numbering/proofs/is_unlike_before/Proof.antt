@@ -22,30 +22,12 @@ Inv-loop i maturities last j₀ j = (j ≤ i) × (every j (λ k. not (eqb (getD 
 abbrev μ-loop : tie.MeasureT-loop
 μ-loop i maturities last j₀ j = i - j
 
-mul-last : tie.Need-mul-last Inv-loop μ-loop
-mul-last c = omega arith
-
-array-copy-out-last : tie.Need-array-copy-out-last Inv-loop μ-loop
-array-copy-out-last c = search needs
-
 -- ---- the loop
 loop-holds : tie.Need-loop-holds Inv-loop μ-loop
 loop-holds c = (omega arith, every-none _)
 
-mul-m : tie.Need-mul-m Inv-loop μ-loop
-mul-m c = omega arith
-
-array-copy-out-m : tie.Need-array-copy-out-m Inv-loop μ-loop
-array-copy-out-m c = omega arith
-
 returns : tie.Need-returns Inv-loop μ-loop
 returns c = sym (every-not _ _ _ (ap not (eq-eqb _ _ (c .if1 .taken))) (c .before .before .before .before .loop-test .taken))
-
-add-j : tie.Need-add-j Inv-loop μ-loop
-add-j c = omega arith
-
-loop-less : tie.Need-loop-less Inv-loop μ-loop
-loop-less c = omega arith
 
 loop-again : tie.Need-loop-again Inv-loop μ-loop
 loop-again c =
@@ -60,4 +42,5 @@ returns-2 c =
 
 pub is-unlike-before-spec : {M : Type 1} → statement M
 is-unlike-before-spec =
-    tie.close (tie.spec Inv-loop μ-loop mul-last array-copy-out-last loop-holds mul-m array-copy-out-m returns add-j loop-less loop-again returns-2)
+    tie.close (tie.spec Inv-loop μ-loop (λ c. omega arith) (λ c. search needs) loop-holds (λ c. omega arith) (λ c. omega arith) returns (λ c. omega arith)
+    (λ c. omega arith) loop-again returns-2)

@@ -16,9 +16,6 @@ Inv-loop old k n given fresh maturities₀ given-so-far₀ i₀ maturities given
 abbrev μ-loop : tie.MeasureT-loop
 μ-loop old k n given fresh maturities₀ given-so-far₀ i₀ maturities given-so-far i = n - i
 
-unused-places-requires : tie.Need-unused-places-requires Inv-loop μ-loop
-unused-places-requires c κs = tt
-
 -- ---- the loop
 loop-holds : tie.Need-loop-holds Inv-loop μ-loop
 loop-holds c =
@@ -26,26 +23,8 @@ loop-holds c =
     let fits : start .args .n ≤ length (start .args .t3) = omega (arith, start .good .1 .1 .0 .1 .0 .1) in
     (fits, omega arith, omega arith, rw (c .unused-places .ensures) (starts _ _ _ _ fits (omega arith)))
 
-mul-m : tie.Need-mul-m Inv-loop μ-loop
-mul-m c = omega arith
-
-array-copy-out-m : tie.Need-array-copy-out-m Inv-loop μ-loop
-array-copy-out-m c = omega arith
-
 numbered-requires : tie.Need-numbered-requires Inv-loop μ-loop
 numbered-requires c κs = (omega arith, omega (arith, c .before .before .loop .inv .3 .few))
-
-mul-maturities : tie.Need-mul-maturities Inv-loop μ-loop
-mul-maturities c = omega arith
-
-array-set-from-maturities : tie.Need-array-set-from-maturities Inv-loop μ-loop
-array-set-from-maturities c = omega arith
-
-add-i : tie.Need-add-i Inv-loop μ-loop
-add-i c = omega arith
-
-loop-less : tie.Need-loop-less Inv-loop μ-loop
-loop-less c = omega arith
 
 loop-again : tie.Need-loop-again Inv-loop μ-loop
 loop-again c =
@@ -61,5 +40,5 @@ returns c =
 
 pub number-fresh-spec : {M : Type 1} → statement M
 number-fresh-spec =
-    tie.close (tie.spec Inv-loop μ-loop unused-places-requires loop-holds mul-m array-copy-out-m numbered-requires mul-maturities array-set-from-maturities
-    add-i loop-less loop-again returns)
+    tie.close (tie.spec Inv-loop μ-loop (λ c κs. tt) loop-holds (λ c. omega arith) (λ c. omega arith) numbered-requires (λ c. omega arith) (λ c. omega arith)
+    (λ c. omega arith) (λ c. omega arith) loop-again returns)

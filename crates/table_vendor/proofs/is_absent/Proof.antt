@@ -19,18 +19,12 @@ Inv-loop list from key n j₀ j = (n ≡ entryCount list) × (2 * n ≤ 18446744
 abbrev μ-loop : tie.MeasureT-loop
 μ-loop list from key n j₀ j = n - j
 
-entry-count-requires : tie.Need-entry-count-requires Inv-loop μ-loop
-entry-count-requires c κs = tt
-
 -- ---- the loop
 loop-holds : tie.Need-loop-holds Inv-loop μ-loop
 loop-holds c = (c .entry-count .ensures .0, c .entry-count .ensures .1, refl)
 
 mul-list-number : tie.Need-mul-list-number Inv-loop μ-loop
 mul-list-number c = omega (arith, c .before .loop .inv .1)
-
-list-number-requires : tie.Need-list-number-requires Inv-loop μ-loop
-list-number-requires c κs = tt
 
 returns : tie.Need-returns Inv-loop μ-loop
 returns c =
@@ -39,12 +33,6 @@ returns c =
     let v = at-loop .loop .inv in
     let e = sym (c .before .list-number .ensures) ∙ c .if1 .taken in
     not-gone (start .args .list .now) (at-loop .loop .j) (start .args .key) _ (v .2) (omega (arith, v .0, c .before .before .loop-test .taken)) e
-
-add-j : tie.Need-add-j Inv-loop μ-loop
-add-j c = omega arith
-
-loop-less : tie.Need-loop-less Inv-loop μ-loop
-loop-less c = omega arith
 
 loop-again : tie.Need-loop-again Inv-loop μ-loop
 loop-again c =
@@ -66,4 +54,4 @@ returns-2 c =
 
 pub is-absent-spec : {M : Type 1} → statement M
 is-absent-spec =
-    tie.close (tie.spec Inv-loop μ-loop entry-count-requires loop-holds mul-list-number list-number-requires returns add-j loop-less loop-again returns-2)
+    tie.close (tie.spec Inv-loop μ-loop (λ c κs. tt) loop-holds mul-list-number (λ c κs. tt) returns (λ c. omega arith) (λ c. omega arith) loop-again returns-2)

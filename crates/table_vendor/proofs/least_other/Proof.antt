@@ -22,30 +22,12 @@ Inv-loop maturities kind list found n least₀ j₀ least j =
 abbrev μ-loop : tie.MeasureT-loop
 μ-loop maturities kind list found n least₀ j₀ least j = n - j
 
-entry-count-requires : tie.Need-entry-count-requires Inv-loop μ-loop
-entry-count-requires c κs = tt
-
 -- ---- the loop
 loop-holds : tie.Need-loop-holds Inv-loop μ-loop
 loop-holds c = (c .entry-count .ensures .0, c .entry-count .ensures .1, refl)
 
 mul-list-number : tie.Need-mul-list-number Inv-loop μ-loop
 mul-list-number c = omega (arith, c .before .loop .inv .1)
-
-list-number-requires : tie.Need-list-number-requires Inv-loop μ-loop
-list-number-requires c κs = tt
-
-is-listed-requires : tie.Need-is-listed-requires Inv-loop μ-loop
-is-listed-requires c κs = tt
-
-lesser-of-requires : tie.Need-lesser-of-requires Inv-loop μ-loop
-lesser-of-requires c κs = tt
-
-add-j : tie.Need-add-j Inv-loop μ-loop
-add-j c = omega arith
-
-loop-less : tie.Need-loop-less Inv-loop μ-loop
-loop-less c = omega arith
 
 loop-again : tie.Need-loop-again Inv-loop μ-loop
 loop-again c =
@@ -70,5 +52,5 @@ returns c =
 
 pub least-other-spec : {M : Type 1} → statement M
 least-other-spec =
-    tie.close (tie.spec Inv-loop μ-loop entry-count-requires loop-holds mul-list-number list-number-requires is-listed-requires lesser-of-requires add-j
-    loop-less loop-again returns)
+    tie.close (tie.spec Inv-loop μ-loop (λ c κs. tt) loop-holds mul-list-number (λ c κs. tt) (λ c κs. tt) (λ c κs. tt) (λ c. omega arith) (λ c. omega arith)
+    loop-again returns)

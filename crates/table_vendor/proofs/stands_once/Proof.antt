@@ -19,9 +19,6 @@ Inv-loop list key day n j₀ j = (n ≡ entryCount list) × (2 * n ≤ 184467440
 abbrev μ-loop : tie.MeasureT-loop
 μ-loop list key day n j₀ j = n - j
 
-entry-count-requires : tie.Need-entry-count-requires Inv-loop μ-loop
-entry-count-requires c κs = tt
-
 -- ---- the loop
 loop-holds : tie.Need-loop-holds Inv-loop μ-loop
 loop-holds c = (c .entry-count .ensures .0, c .entry-count .ensures .1, refl, refl)
@@ -29,17 +26,11 @@ loop-holds c = (c .entry-count .ensures .0, c .entry-count .ensures .1, refl, re
 mul-list-number : tie.Need-mul-list-number Inv-loop μ-loop
 mul-list-number c = omega (arith, c .before .loop .inv .1)
 
-list-number-requires : tie.Need-list-number-requires Inv-loop μ-loop
-list-number-requires c κs = tt
-
 mul-list-number-2 : tie.Need-mul-list-number-2 Inv-loop μ-loop
 mul-list-number-2 c = omega (arith, c .before .before .before .loop .inv .1)
 
 add-list-number : tie.Need-add-list-number Inv-loop μ-loop
 add-list-number c = omega (arith, c .before .before .before .loop .inv .1)
-
-list-number-requires-2 : tie.Need-list-number-requires-2 Inv-loop μ-loop
-list-number-requires-2 c κs = tt
 
 -- ---- an entry with the key
 returns : tie.Need-returns Inv-loop μ-loop
@@ -50,12 +41,6 @@ returns c =
     let e = sym (c .before .before .before .list-number .ensures) ∙ c .before .before .if1 .taken in
     once-not (start .args .list .now) (at-loop .loop .j) (start .args .key) (v .2) (v .3) (start .args .day)
     (omega (arith, v .0, c .before .before .before .before .loop-test .taken)) e (λ q. c .if2 .taken (c .before .list-number2 .ensures ∙ q))
-
-add-is-absent : tie.Need-add-is-absent Inv-loop μ-loop
-add-is-absent c = omega arith
-
-is-absent-requires : tie.Need-is-absent-requires Inv-loop μ-loop
-is-absent-requires c κs = tt
 
 returns-2 : tie.Need-returns-2 Inv-loop μ-loop
 returns-2 c =
@@ -68,12 +53,6 @@ returns-2 c =
     (sym (c .before .before .list-number2 .ensures) ∙ c .before .if2 .left) _ (c .is-absent .ensures)
 
 -- ---- an entry without it
-add-j : tie.Need-add-j Inv-loop μ-loop
-add-j c = omega arith
-
-loop-less : tie.Need-loop-less Inv-loop μ-loop
-loop-less c = omega arith
-
 loop-again : tie.Need-loop-again Inv-loop μ-loop
 loop-again c =
     let at-loop = c .before .before .before in
@@ -97,5 +76,5 @@ returns-3 c =
 
 pub stands-once-spec : {M : Type 1} → statement M
 stands-once-spec =
-    tie.close (tie.spec Inv-loop μ-loop entry-count-requires loop-holds mul-list-number list-number-requires mul-list-number-2 add-list-number
-    list-number-requires-2 returns add-is-absent is-absent-requires returns-2 add-j loop-less loop-again returns-3)
+    tie.close (tie.spec Inv-loop μ-loop (λ c κs. tt) loop-holds mul-list-number (λ c κs. tt) mul-list-number-2 add-list-number (λ c κs. tt) returns
+    (λ c. omega arith) (λ c κs. tt) returns-2 (λ c. omega arith) (λ c. omega arith) loop-again returns-3)
