@@ -107,7 +107,7 @@ pub fn receive(
     if text.len() <= from {
         return receipt_from(state, text.len());
     }
-    let end = delivery_receipts::line_from(delivery_items::empty_long_line(), text, from);
+    let end = delivery_items::line_from(delivery_items::empty_long_line(), text, from);
     let line = end.line;
     let next = place_after(end.ended, end.next, text.len());
     if !end.ended & (line.length == 0) {

@@ -21,11 +21,13 @@ use Rattle.delivery_lines.specs.NoticeLines.{markLength, unmarked}
 use Rattle.delivery_lines.proofs.Marks.{unmarked-more}
 use Rattle.delivery_items.specs.declared.LongLine.{LongLine}
 use Rattle.delivery_items.specs.declared.LineRead.{LineRead}
+use Rattle.delivery_items.specs.declared.LineEnd.{LineEnd}
 use Rattle.delivery_items.specs.Items.{emptyLong, heldRead}
-use Rattle.delivery_receipts.specs.declared.LineEnd.{LineEnd}
+use Rattle.delivery_items.specs.LineEnds.{lineEnd}
+use Rattle.delivery_items.proofs.LineEnds.{end-used}
 use Rattle.delivery_receipts.specs.Receipts.{Receipt, noReceipt, sortOf, lineBrought, lineReceived, receiptOf, restReceived}
-use Rattle.delivery_receipts.specs.Receiving.{Lists, receivedTo, roomIn, toldOf, receiptIn, SameLengths, LineFed}
-use Rattle.delivery_receipts.proofs.RowLinesFed.{whole-input}
+use Rattle.delivery_receipts.specs.Receiving.{Lists, receivedTo, roomIn, toldOf, receiptIn, SameLengths}
+use Rattle.delivery_receipts.proofs.RowLinesFed.{received-ended, received-begun, whole-input}
 use Rattle.delivery_inputs.specs.declared.RowTaken.{RowTaken}
 use Rattle.delivery_inputs.specs.ReconcileInputs.{badRowsText, badsCounted, RowIn}
 use Rattle.delivery_inputs.proofs.ShortLines.{line-room, line-fits, line-long}
@@ -128,12 +130,12 @@ module _ (f : List ℕ) (k : LinesRead) (a : Lists) (part : List ℕ) where
     pub part-all : length part ≤ at → PartTold f k a part s b []
     part-all h = rw (drop-of-length-le part h) at d
 
-    module _ (e : LineEnd) (fed : LineFed (s .line) part at e) (c : Lists) (r : LinesRead) (t : EndTold f (s .kept) e b c r) where
+    module _ (e : LineEnd) (fed : e ≡ lineEnd (s .line) (drop at part) at) (c : Lists) (r : LinesRead) (t : EndTold f (s .kept) e b c r) where
       one-more : (y : e .ended ≡ true) (told rest : List ℕ)
           → restReceived (roomIn a) f (receiptIn (s .kept .state) b (told ++ d .bads)) (s .line) (drop at part ++ rest)
           ≡ restReceived (roomIn a) f (receiptIn (r .kept .state) c (told ++ (d .bads ++ toldOf (r .kept .state .bad)))) (r .line) (drop (e .next) part ++ rest)
       one-more y told rest =
-          fed .ended y (roomIn a) f (receiptIn (s .kept .state) b (told ++ d .bads)) rest
+          received-ended (s .line) part at e fed (roomIn a) f (receiptIn (s .kept .state) b (told ++ d .bads)) rest y
           ∙ ap (λ (n : ℕ). restReceived (roomIn a) f (lineReceived n f (receiptIn (s .kept .state) b (told ++ d .bads)) (heldRead (e .line))) emptyLong
           (drop (e .next) part ++ rest))
           (sym (room-same a b (d .lengths)))
@@ -155,10 +157,10 @@ module _ (f : List ℕ) (k : LinesRead) (a : Lists) (part : List ℕ) where
 
       more-begun : e .ended ≡ false → PartTold f k a part r c (drop (e .next) part)
       more-begun n =
-          rw (drop-of-length-le part (fed .used n), t .begun n .0, t .begun n .1 .0, t .begun n .1 .1)
+          rw (drop-of-length-le part (end-used (s .line) part at e fed n), t .begun n .0, t .begun n .1 .0, t .begun n .1 .1)
           (record {
             bads = d .bads;
-            is = λ told rest. d .is told rest ∙ fed .begun n (roomIn a) f (receiptIn (s .kept .state) b (told ++ d .bads)) rest;
+            is = λ told rest. d .is told rest ∙ received-begun (s .line) part at e fed (roomIn a) f (receiptIn (s .kept .state) b (told ++ d .bads)) rest n;
             tells = d .tells;
             lengths = d .lengths;
           })

@@ -8,8 +8,8 @@ use mathlib.Core.List.{List, [], _++_}
 use lib.ListN.{length}
 use Rattle.streams.specs.Transfers.{Grew}
 use Rattle.delivery_items.specs.declared.LongLine.{LongLine}
+use Rattle.delivery_items.specs.declared.LineEnd.{LineEnd}
 use Rattle.delivery_items.specs.Items.{emptyLong, heldRead}
-use Rattle.delivery_receipts.specs.declared.LineEnd.{LineEnd}
 use Rattle.delivery_receipts.specs.Receipts.{lineReceived, receiptOf, restReceived}
 use Rattle.delivery_receipts.specs.Receiving.{Lists, roomIn, toldOf, receiptIn, SameLengths}
 use Rattle.delivery_inputs.specs.ReconcileInputs.{badRowsText, badsCounted}

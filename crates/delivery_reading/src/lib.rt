@@ -1,6 +1,6 @@
 // Standard input of `reconcile`: its good rows into lent lists, its bad lines told.
+use delivery_items::LineEnd;
 use delivery_items::LongLine;
-use delivery_receipts::LineEnd;
 use delivery_receipts::Receiving;
 use session_lines::Line;
 use streams::Input;
@@ -143,7 +143,7 @@ pub fn take_part(
     let mut s = k;
     let mut at: usize = 0;
     while at < part.len() {
-        let e = delivery_receipts::line_from(s.line, part, at);
+        let e = delivery_items::line_from(s.line, part, at);
         s = take_end(s.kept, e, file, ids, keys, days, fulls, numbers, backs);
         at = e.next;
     }

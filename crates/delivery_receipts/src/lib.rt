@@ -24,13 +24,6 @@ pub struct Receiving {
     pub bad: u32,
 }
 
-// A line, the place in the input after it, and whether a line feed ended it.
-pub struct LineEnd {
-    pub line: LongLine,
-    pub next: usize,
-    pub ended: bool,
-}
-
 // Before the first line.
 pub fn nothing_received() -> Receiving
     ensures { λ r. ⌜ (r .rows ≡ 0) × (r .begun ≡ false) × (r .lines ≡ 0) × (r .over ≡ false) × (r .bad ≡ 0) ⌝ }
@@ -41,31 +34,6 @@ pub fn nothing_received() -> Receiving
         lines: 0,
         over: false,
         bad: 0,
-    }
-}
-
-// A line begun with its bytes from a place of the input on, up to its line feed or to the end of the part.
-pub fn line_from(line: LongLine, part: &[u8], from: usize) -> LineEnd
-    ensures { λ r. ⌜ LineFed line (now (part .entry)) from r ⌝ }
-{
-    let mut l = line;
-    let mut i = from;
-    while i < part.len() {
-        let byte = part[i];
-        i += 1;
-        if byte == b'\n' {
-            return LineEnd {
-                line: l,
-                next: i,
-                ended: true,
-            };
-        }
-        l = delivery_items::extend_long(l, byte);
-    }
-    LineEnd {
-        line: l,
-        next: i,
-        ended: false,
     }
 }
 
