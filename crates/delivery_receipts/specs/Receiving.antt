@@ -10,6 +10,7 @@ use Rattle.questions.specs.Search.{every}
 use Rattle.file_load.specs.Products.{sameId}
 use Rattle.file_load.specs.Load.{found}
 use Rattle.file_text_read.specs.Lists.{nextLine}
+use Rattle.delivery_products.specs.IdList.{idIn}
 use Rattle.delivery_items.specs.declared.ItemRead.{ItemRead}
 use Rattle.delivery_items.specs.declared.LineRead.{LineRead}
 use Rattle.delivery_items.specs.declared.LongLine.{LongLine}
@@ -17,12 +18,7 @@ use Rattle.delivery_items.specs.Items.{heldRead}
 use Rattle.delivery_differences.specs.declared.DeliveredRow.{DeliveredRow}
 use Rattle.delivery_differences.specs.Differences.{rowAt}
 use Rattle.delivery_receipts.specs.declared.Receiving.{Receiving}
-use Rattle.delivery_receipts.specs.declared.LineEnd.{LineEnd}
-use Rattle.delivery_receipts.specs.Receipts.{Received, Receipt, Sort, ended, empty, heading, bad, tooMany, good, sortOf, lineReceived, restReceived}
-
--- the four bytes of id i of a list
-abbrev pub idIn : List ℕ → ℕ → List ℕ
-idIn ids i = getD ids (4 * i) 0 ∷ getD ids (4 * i + 1) 0 ∷ getD ids (4 * i + 2) 0 ∷ getD ids (4 * i + 3) 0 ∷ []
+use Rattle.delivery_receipts.specs.Receipts.{Received, Receipt, Sort, ended, empty, heading, bad, tooMany, good, sortOf, lineReceived}
 
 -- six lent lists: ids, keys, days, whether a row has five fields, listing numbers and days back
 pub record Lists : Type 0 where

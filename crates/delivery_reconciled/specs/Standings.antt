@@ -15,7 +15,8 @@ use Rattle.delivery_notices.specs.NoticeLists.{noticesTo, noticeHeld}
 use Rattle.delivery_parts.specs.PlaceParts.{partsText}
 use Rattle.delivery_reports.specs.declared.ReportProgress.{ReportProgress}
 use Rattle.delivery_reports.specs.Reports.{unknownText}
-use Rattle.delivery_receipts.specs.Receiving.{idIn, firstUnknown}
+use Rattle.delivery_products.specs.IdList.{idIn}
+use Rattle.delivery_receipts.specs.Receiving.{firstUnknown}
 use Rattle.delivery_reconciled.specs.declared.PlaceListed.{PlaceListed}
 use Rattle.delivery_reconciled.specs.Reconciled.{kindAt, listedAt, sumTo}
 
