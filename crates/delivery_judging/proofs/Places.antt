@@ -11,7 +11,7 @@ use borrow.Author.Tests.{le-leb}
 use Rattle.streams.specs.declared.output.Sent.{Sent}
 use Rattle.file_ids.specs.Ids.{isRecord, idAt}
 use Rattle.table.specs.declared.Outcome.{Outcome}
-use Rattle.delivery_notices.specs.Notices.{Told}
+use Rattle.delivery_notices.specs.Notices.{NoticesTold}
 use Rattle.delivery_parts.specs.PlaceParts.{partsText}
 use Rattle.delivery_differences.specs.Differences.{differing, rowsAt}
 use Rattle.delivery_reports.specs.Reports.{keysText, differingFrom, reportFrom}
@@ -40,7 +40,7 @@ listed-is opening f p date count calls ids refusals refusals′ r n x =
     fits : count ≤ 6554 → r .fits ≡ true
     fits h = x .fits ∙ le-leb count (length refusals) (omega arith)
 
-module _ (opening : List ℕ → ℕ → Outcome) (f : List ℕ) (t : Told) (rows : List Received) (p : ℕ) where
+module _ (opening : List ℕ → ℕ → Outcome) (f : List ℕ) (t : NoticesTold) (rows : List Received) (p : ℕ) where
   no-keys : isRecord f p ≡ false → keysAt opening f t rows p ≡ []
   unfolding keysAt
   no-keys e = rw e refl
@@ -73,7 +73,7 @@ module _ (opening : List ℕ → ℕ → Outcome) (f : List ℕ) (date count : �
       (r : Printed)
       (k : KeysOut (l .kind) (l .id) (take (l .listed) (l .maturities))
       (rowsAt (a .keys) (a .days) (a .fulls) (a .numbers) (a .backs) (take size after)) s r) where
-    module _ (t : Told) (h : Held date count calls ids rows places t) where
+    module _ (t : NoticesTold) (h : Held date count calls ids rows places t) where
       own : rowsAt (a .keys) (a .days) (a .fulls) (a .numbers) (a .backs) (take size after) ≡ rowsFor (idAt f p) (receivedTo a rows)
       own =
           ap (rowsAt (a .keys) (a .days) (a .fulls) (a .numbers) (a .backs)) (q .is (h .most) (omega (arith, h .room)))

@@ -123,8 +123,8 @@ module _ (f notices : List ℕ) (verdict : Answer Calendar) (t : NoticesTaken) (
           few = omega (arith, count-few notices calls ids t (g .held));
           most = most;
           room = room;
-          dated = ap (λ (x : notice.Told). x .date) (g .held);
-          notices = ap (λ (x : notice.Told). x .notices) (g .held);
+          dated = ap (λ (x : notice.NoticesTold). x .date) (g .held);
+          notices = ap (λ (x : notice.NoticesTold). x .notices) (g .held);
         }
 
     -- the lines of all products after the heading
@@ -185,11 +185,11 @@ module _ (f notices : List ℕ) (a : Lists) (rows : ℕ) where
 grew-then : (n m k a b : ℕ) → Grew n a m → Grew m b k → Grew n (a + b) k
 grew-then n m k a b x y = omega (arith, x, y)
 
-last-none : (opening : List ℕ → ℕ → Outcome) (f : List ℕ) (t : notice.Told) (r : Receipt) → r .over ≡ true → lastText opening f t r ≡ []
+last-none : (opening : List ℕ → ℕ → Outcome) (f : List ℕ) (t : notice.NoticesTold) (r : Receipt) → r .over ≡ true → lastText opening f t r ≡ []
 unfolding lastText
 last-none opening f t r e = rw e refl
 
-last-some : (opening : List ℕ → ℕ → Outcome) (f : List ℕ) (t : notice.Told) (r : Receipt) → r .over ≡ false
+last-some : (opening : List ℕ → ℕ → Outcome) (f : List ℕ) (t : notice.NoticesTold) (r : Receipt) → r .over ≡ false
     → lastText opening f t r ≡ summaryText (recordCount f) (length (r .rows)) (differCount opening f t (r .rows)) (badsCounted (length (r .bads)))
 unfolding lastText
 last-some opening f t r e = rw e refl
@@ -203,7 +203,7 @@ module _ (f notices : List ℕ) (verdict : Answer Calendar) (t : NoticesTaken) (
   accepted = eq-eqb (firstNo (loadAsks f)) 0 (sym (first-is f verdict (g .own)) ∙ g .accepted)
 
   none-bad : eqb (textTold notices .bad) 0 ≡ true
-  none-bad = eq-eqb (textTold notices .bad) 0 (sym (ap (λ (x : notice.Told). x .bad) (g .held)) ∙ g .good)
+  none-bad = eq-eqb (textTold notices .bad) 0 (sym (ap (λ (x : notice.NoticesTold). x .bad) (g .held)) ∙ g .good)
 
   text-of : (input : List ℕ) → reconcileText f notices input
       ≡ cond (not (receiptOf f input .over)) (differencesText (openCall f) f (textTold notices) (receiptOf f input .rows)) []
@@ -217,7 +217,11 @@ module _ (f notices : List ℕ) (verdict : Answer Calendar) (t : NoticesTaken) (
   openings-own : partsText (openingText (openIn verdict f) f (t .opened) (t .date)) (placeCount f)
       ≡ partsText (openingText (openCall f) f (textTold notices .opened) (textTold notices .date)) (placeCount f)
   openings-own =
-      rw (own-opening f notices verdict t calls ids g, ap (λ (x : notice.Told). x .opened) (g .held), ap (λ (x : notice.Told). x .date) (g .held)) refl
+      rw (
+        own-opening f notices verdict t calls ids g,
+        ap (λ (x : notice.NoticesTold). x .opened) (g .held),
+        ap (λ (x : notice.NoticesTold). x .date) (g .held),
+      ) refl
 
   module _ (opened : ℕ) (o : Grew 0 (length (partsText (openingText (openIn verdict f) f (t .opened) (t .date)) (placeCount f))) opened)
       (a : Lists) (n : ℕ) (s : Reading) (x : RowsIn f opened a n s) where
