@@ -114,7 +114,7 @@ pub fn receive(
     if !end.ended & (line.length == 0) {
         return receipt_from(state, next);
     }
-    let after = delivery_receipts::take_line(
+    let after = delivery_receipts::receive_line(
         file,
         state,
         line,

@@ -166,7 +166,7 @@ fn store_row(
 }
 
 // One line more. A good row goes to the six lists.
-pub fn take_line(
+pub fn receive_line(
     file: &[u8],
     s: Receiving,
     line: LongLine,
