@@ -55,7 +55,7 @@ fn tell_row(told: Told, after: Receiving, line: Line) -> Told
 }
 
 // One line more; a bad one is told.
-fn take_told(
+fn receive_told(
     k: Reading,
     file: &[u8],
     line: LongLine,
@@ -104,7 +104,7 @@ fn nothing_kept(told: Told) -> LinesRead
 }
 
 // A line that a line feed ended is taken, and the next one begun; any other is begun.
-fn take_end(
+fn receive_end(
     k: Reading,
     e: LineEnd,
     file: &[u8],
@@ -121,13 +121,13 @@ fn take_end(
     if !e.ended {
         return LinesRead { kept: k, line };
     }
-    let kept = take_told(k, file, line, ids, keys, days, fulls, numbers, backs);
+    let kept = receive_told(k, file, line, ids, keys, days, fulls, numbers, backs);
     let next = delivery_items::empty_long_line();
     LinesRead { kept, line: next }
 }
 
 // A part of the input: all lines that end in it are taken, and the line begun is kept with its bytes.
-pub fn take_part(
+pub fn receive_part(
     k: LinesRead,
     part: &[u8],
     file: &[u8],
@@ -144,14 +144,14 @@ pub fn take_part(
     let mut at: usize = 0;
     while at < part.len() {
         let e = delivery_items::line_from(s.line, part, at);
-        s = take_end(s.kept, e, file, ids, keys, days, fulls, numbers, backs);
+        s = receive_end(s.kept, e, file, ids, keys, days, fulls, numbers, backs);
         at = e.next;
     }
     s
 }
 
 // The first part, which is taken without its mark.
-fn take_first(
+fn receive_first(
     told: Told,
     part: &[u8],
     file: &[u8],
@@ -166,7 +166,7 @@ fn take_first(
 {
     let k = nothing_kept(told);
     let mark = delivery_lines::mark_length(part);
-    take_part(
+    receive_part(
         k,
         &part[mark..],
         file,
@@ -180,7 +180,7 @@ fn take_first(
 }
 
 // The last line, which no line feed ends, where it has bytes.
-pub fn take_last(
+pub fn receive_last(
     k: LinesRead,
     file: &[u8],
     ids: &mut [u8],
@@ -197,7 +197,7 @@ pub fn take_last(
     if line.length == 0 {
         return kept;
     }
-    take_told(kept, file, line, ids, keys, days, fulls, numbers, backs)
+    receive_told(kept, file, line, ids, keys, days, fulls, numbers, backs)
 }
 
 // Whether to read on: reads are left, and there was no good row too many.
@@ -232,13 +232,13 @@ fn read_rest(
         let read = streams::read_on_or_tell(b"reconcile: standard input", input, 1, part);
         input = read.input;
         let n = read.length;
-        k = take_part(k, &part[..n], file, ids, keys, days, fulls, numbers, backs);
+        k = receive_part(k, &part[..n], file, ids, keys, days, fulls, numbers, backs);
     }
     InputRead { input, lines: k }
 }
 
 // What is kept after the last line; where a read failed, what was kept before it.
-fn take_all(
+fn receive_all(
     r: InputRead,
     file: &[u8],
     ids: &mut [u8],
@@ -256,7 +256,7 @@ fn take_all(
         let kept = lines.kept;
         return RowsRead { input, kept };
     }
-    let kept = take_last(lines, file, ids, keys, days, fulls, numbers, backs);
+    let kept = receive_last(lines, file, ids, keys, days, fulls, numbers, backs);
     RowsRead { input, kept }
 }
 
@@ -284,7 +284,7 @@ pub fn read_rows(
         return RowsRead { input: begun, kept };
     }
     let n = first.length;
-    let lines = take_first(
+    let lines = receive_first(
         told,
         &part[..n],
         file,
@@ -310,5 +310,5 @@ pub fn read_rows(
         numbers,
         backs,
     );
-    take_all(r, file, ids, keys, days, fulls, numbers, backs)
+    receive_all(r, file, ids, keys, days, fulls, numbers, backs)
 }
