@@ -32,7 +32,7 @@ use Rattle.delivery_inputs.specs.declared.RowTaken.{RowTaken}
 use Rattle.delivery_inputs.specs.ReconcileInputs.{badRowsText, badsCounted, RowIn}
 use Rattle.delivery_inputs.proofs.ShortLines.{line-room, line-fits, line-long}
 use Rattle.delivery_inputs.proofs.BadLinesTold.{told-short, rows-append}
-use Rattle.delivery_reading.specs.declared.Reading.{Reading}
+use Rattle.delivery_reading.specs.declared.RowsKept.{RowsKept}
 use Rattle.delivery_reading.specs.declared.LinesRead.{LinesRead}
 use Rattle.delivery_reading.specs.Reading.{BadsTold, RowTold, EndTold, PartTold, LastTold, Told, FirstTold, ReadTo, RowsIn, Nothing}
 
@@ -46,8 +46,8 @@ row-fits n l made =
     (omega (arith, room, line-fits (badRowsText (toldOf n)) (told-short n) l made), line-long (badRowsText (toldOf n)) (told-short n) l made)
 
 -- a line that is taken as a row is told and counted where the state and the count are those, and so many bytes more were told
-pub row-told : (f : List ℕ) (k : Reading) (l : LongLine) (before after : Lists) (t : RowTaken) → RowIn f (k .state) (k .bad) l before after t
-    → (r : Reading) → r .state ≡ t .state → r .bad ≡ t .bad → Grew (k .told .bytes) (length (badRowsText (toldOf (t .state .bad)))) (r .told .bytes)
+pub row-told : (f : List ℕ) (k : RowsKept) (l : LongLine) (before after : Lists) (t : RowTaken) → RowIn f (k .state) (k .bad) l before after t
+    → (r : RowsKept) → r .state ≡ t .state → r .bad ≡ t .bad → Grew (k .told .bytes) (length (badRowsText (toldOf (t .state .bad)))) (r .told .bytes)
     → RowTold f k l before after r
 row-told f k l before after t x r s b w =
     record {
@@ -89,14 +89,14 @@ none-counted : 0 ≡ badsCounted 0
 unfolding badsCounted
 none-counted = refl
 
-bads-none : (k : Reading) → BadsTold [] k k
+bads-none : (k : RowsKept) → BadsTold [] k k
 bads-none k =
     record {
       text = omega (arith, none-text);
       count = λ n e. let z : n ≡ n + length {A = ℕ} [] = omega arith in e ∙ ap badsCounted z;
     }
 
-bads-more : (x y : List ℕ) (k s r : Reading) → BadsTold x k s → BadsTold y s r → BadsTold (x ++ y) k r
+bads-more : (x y : List ℕ) (k s r : RowsKept) → BadsTold x k s → BadsTold y s r → BadsTold (x ++ y) k r
 bads-more x y k s r a b =
     record {
       text = omega (arith, a .text, b .text, length-append (badRowsText x) (badRowsText y), ap length (rows-append x y));
@@ -105,7 +105,7 @@ bads-more x y k s r a b =
           b .count (n + length x) (a .count n e) ∙ ap badsCounted z;
     }
 
-told-more : (told : ℕ) (x y : List ℕ) (k r : Reading) → Told told x k → BadsTold y k r → Told told (x ++ y) r
+told-more : (told : ℕ) (x y : List ℕ) (k r : RowsKept) → Told told x k → BadsTold y k r → Told told (x ++ y) r
 told-more told x y k r t b =
     record {
       text = omega (arith, t .text, b .text, length-append (badRowsText x) (badRowsText y), ap length (rows-append x y));
@@ -187,7 +187,7 @@ last-none f k a z =
     }
 
 -- a last line with bytes brings what it brings as a line
-pub last-some : (f : List ℕ) (k : LinesRead) (a b : Lists) (r : Reading) → (k .line .length ≡ 0 → ⊥) → RowTold f (k .kept) (k .line) a b r → LastTold f k a b r
+pub last-some : (f : List ℕ) (k : LinesRead) (a b : Lists) (r : RowsKept) → (k .line .length ≡ 0 → ⊥) → RowTold f (k .kept) (k .line) a b r → LastTold f k a b r
 unfolding restReceived
 last-some f k a b r n t =
     record {
@@ -199,7 +199,7 @@ last-some f k a b r n t =
 
 -- ---- the first part
 
-none-held : (a : Lists) (s : Reading) → Nothing s → noReceipt ≡ receiptIn (s .state) a []
+none-held : (a : Lists) (s : RowsKept) → Nothing s → noReceipt ≡ receiptIn (s .state) a []
 unfolding receivedTo
 none-held a s n = rw (n .rows, n .begun, n .lines, n .over) refl
 
@@ -304,7 +304,7 @@ stops left false test e t z = go (lt-or-ge 0 left)
 
 -- after the last line the lists hold the rows of the input, and its bad lines were told
 rows-all : (f : List ℕ) (told : ℕ) (a : Lists) → roomIn a ≡ 65536 → (left n : ℕ) (k : LinesRead) → ReadTo f told a left n k
-    → (b : Lists) (r : Reading) → LastTold f k a b r → RowsIn f told b n r
+    → (b : Lists) (r : RowsKept) → LastTold f k a b r → RowsIn f told b n r
 rows-all f told a room left n k c b r d =
     record {
       input = c .input;
@@ -332,7 +332,7 @@ over-last room f s l o = go (eqb (l .length) 0) (over-line room f s (heldRead l)
     go false e = e
 
 -- where there is no good row too many after the last line, there was none before it
-none-over : (f : List ℕ) (k : LinesRead) (a b : Lists) (r : Reading) → LastTold f k a b r → r .state .over ≡ false → k .kept .state .over ≡ false
+none-over : (f : List ℕ) (k : LinesRead) (a b : Lists) (r : RowsKept) → LastTold f k a b r → r .state .over ≡ false → k .kept .state .over ≡ false
 none-over f k a b r d z = go (k .kept .state .over) refl
   where
     go : (o : Bool) → k .kept .state .over ≡ o → k .kept .state .over ≡ false
@@ -343,7 +343,7 @@ none-over f k a b r d z = go (k .kept .state .over) refl
 
 -- ---- the whole input
 
-module _ (f : List ℕ) (i : Input) (k : LinesRead) (a b : Lists) (r : Reading) (j : Input) (same : j ≡ i) (last : i .failed ≡ false → LastTold f k a b r)
+module _ (f : List ℕ) (i : Input) (k : LinesRead) (a b : Lists) (r : RowsKept) (j : Input) (same : j ≡ i) (last : i .failed ≡ false → LastTold f k a b r)
     (z : j .failed ≡ false) where
   taken : LastTold f k a b r
   taken = last (sym (ap (λ (x : Input). x .failed) same) ∙ z)

@@ -20,7 +20,7 @@ ghost use Rattle.delivery_inputs.specs.ReconcileInputs.{badRowsText};
 ghost use Rattle.delivery_reading.specs.Reading.{RowTold, Nothing, EndTold, PartTold, FirstTold, LastTold, ReadTo, RowsIn};
 
 // What is kept from one line to the next: what was received, how many lines were bad, at most 999,999,999, and what was told.
-pub struct Reading {
+pub struct RowsKept {
     pub state: Receiving,
     pub bad: u32,
     pub told: Told,
@@ -28,7 +28,7 @@ pub struct Reading {
 
 // What is kept from one part of the input to the next: what its lines brought, and the line begun.
 pub struct LinesRead {
-    pub kept: Reading,
+    pub kept: RowsKept,
     pub line: LongLine,
 }
 
@@ -41,7 +41,7 @@ pub struct InputRead {
 // How far standard input was read, to its end or to a good row too many, and what it brought. Where a read failed nothing is said of it.
 pub struct RowsRead {
     pub input: Input,
-    pub kept: Reading,
+    pub kept: RowsKept,
 }
 
 // Tells a line, which has to be what is told of the line after which this is received.
@@ -56,7 +56,7 @@ fn tell_row(told: Told, after: Receiving, line: Line) -> Told
 
 // One line more; a bad one is told.
 fn receive_told(
-    k: Reading,
+    k: RowsKept,
     file: &[u8],
     line: LongLine,
     ids: &mut [u8],
@@ -65,7 +65,7 @@ fn receive_told(
     fulls: &mut [u8],
     numbers: &mut [u16],
     backs: &mut [u16],
-) -> Reading
+) -> RowsKept
     ensures { λ r. ⌜ RowTold (now (file .entry)) k line (record { ids = now (ids .entry); keys = now (keys .entry); days = now (days .entry); fulls = now (fulls .entry); numbers = now (numbers .entry); backs = now (backs .entry) }) (record { ids = now (ids .exit); keys = now (keys .exit); days = now (days .exit); fulls = now (fulls .exit); numbers = now (numbers .exit); backs = now (backs .exit) }) r ⌝ }
 {
     let r = delivery_inputs::take_row(
@@ -82,7 +82,7 @@ fn receive_told(
     );
     let state = r.state;
     let told = tell_row(k.told, state, r.told);
-    Reading {
+    RowsKept {
         state,
         bad: r.bad,
         told,
@@ -95,7 +95,7 @@ fn nothing_kept(told: Told) -> LinesRead
 {
     let state = delivery_receipts::nothing_received();
     let line = delivery_items::empty_long_line();
-    let kept = Reading {
+    let kept = RowsKept {
         state,
         bad: 0,
         told,
@@ -105,7 +105,7 @@ fn nothing_kept(told: Told) -> LinesRead
 
 // A line that a line feed ended is taken, and the next one begun; any other is begun.
 fn receive_end(
-    k: Reading,
+    k: RowsKept,
     e: LineEnd,
     file: &[u8],
     ids: &mut [u8],
@@ -189,7 +189,7 @@ pub fn receive_last(
     fulls: &mut [u8],
     numbers: &mut [u16],
     backs: &mut [u16],
-) -> Reading
+) -> RowsKept
     ensures { λ r. ⌜ LastTold (now (file .entry)) k (record { ids = now (ids .entry); keys = now (keys .entry); days = now (days .entry); fulls = now (fulls .entry); numbers = now (numbers .entry); backs = now (backs .entry) }) (record { ids = now (ids .exit); keys = now (keys .exit); days = now (days .exit); fulls = now (fulls .exit); numbers = now (numbers .exit); backs = now (backs .exit) }) r ⌝ }
 {
     let line = k.line;

@@ -4,7 +4,7 @@ mod output;
 
 use delivery_judging::Printed;
 use delivery_notices::NoticesTaken;
-use delivery_reading::Reading;
+use delivery_reading::RowsKept;
 use file_calendar::FileCalendar;
 use streams::Input;
 use streams::Sent;
@@ -144,7 +144,7 @@ fn print_all(
 }
 
 // Tells the counts. Standard output is written before; where it does not take all, they are not told.
-fn tell_counts(kept: Reading, file: &[u8], p: Printed) -> Told
+fn tell_counts(kept: RowsKept, file: &[u8], p: Printed) -> Told
     requires { ⌜ (length (now file) ≤ 65537) × (kept .state .rows ≤ 65536) × (p .lines < 1000000000) × (kept .bad < 1000000000) ⌝ }
     ensures { λ r. ⌜ (p .sent .open ≡ true → Grew (kept .told .bytes) (length (summaryText (recordCount (now (file .entry))) (kept .state .rows) (p .lines) (kept .bad))) (r .bytes)) ⌝ }
 {
