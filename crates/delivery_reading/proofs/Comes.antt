@@ -15,7 +15,7 @@ use Rattle.session_lines.specs.declared.Line.{Line}
 use Rattle.session_lines.specs.CommandLines.{emptyLine}
 use Rattle.file_text_print.specs.Contents.{LineWith}
 use Rattle.streams.specs.Transfers.{Grew}
-use Rattle.streams.specs.declared.output.Told as stream
+use Rattle.streams.specs.declared.output.Told.{Told}
 use Rattle.streams.specs.declared.reads.Input.{Input}
 use Rattle.delivery_lines.specs.NoticeLines.{markLength, unmarked}
 use Rattle.delivery_lines.proofs.Marks.{unmarked-more}
@@ -34,7 +34,7 @@ use Rattle.delivery_inputs.proofs.ShortLines.{line-room, line-fits, line-long}
 use Rattle.delivery_inputs.proofs.BadLinesTold.{told-short, rows-append}
 use Rattle.delivery_reading.specs.declared.RowsKept.{RowsKept}
 use Rattle.delivery_reading.specs.declared.LinesRead.{LinesRead}
-use Rattle.delivery_reading.specs.Reading.{BadsTold, RowTold, EndTold, PartTold, LastTold, Told, FirstTold, ReadTo, RowsIn, Nothing}
+use Rattle.delivery_reading.specs.Reading.{BadsTold, RowTold, EndTold, PartTold, LastTold, AllBadsTold, FirstTold, RowsReadTo, RowsOfInput, Nothing}
 
 -- ---- one line
 
@@ -105,7 +105,7 @@ bads-more x y k s r a b =
           b .count (n + length x) (a .count n e) ∙ ap badsCounted z;
     }
 
-told-more : (told : ℕ) (x y : List ℕ) (k r : RowsKept) → Told told x k → BadsTold y k r → Told told (x ++ y) r
+told-more : (told : ℕ) (x y : List ℕ) (k r : RowsKept) → AllBadsTold told x k → BadsTold y k r → AllBadsTold told (x ++ y) r
 told-more told x y k r t b =
     record {
       text = omega (arith, t .text, b .text, length-append (badRowsText x) (badRowsText y), ap length (rows-append x y));
@@ -215,7 +215,7 @@ unfolding unmarked
 without-mark part mark m =
     ap (λ (n : ℕ). drop n part) (sym m) ∙ sym (take-all (length part - mark) (drop mark part) (omega (arith, length-drop mark part)))
 
-module _ (f : List ℕ) (t : stream.Told) (k : LinesRead) (own : k .kept .told ≡ t) (empty : k .line ≡ emptyLong) (nothing : Nothing (k .kept))
+module _ (f : List ℕ) (t : Told) (k : LinesRead) (own : k .kept .told ≡ t) (empty : k .line ≡ emptyLong) (nothing : Nothing (k .kept))
     (part : List ℕ) (mark : ℕ) (m : mark ≡ markLength part) (a b : Lists) (r : LinesRead)
     (d : PartTold f k a (take (length part - mark) (drop mark part)) r b []) where
   first-is : roomIn a ≡ 65536 → (rest : List ℕ) → (length part < 3 → rest ≡ [])
@@ -229,7 +229,7 @@ module _ (f : List ℕ) (t : stream.Told) (k : LinesRead) (own : k .kept .told �
       ∙ d .is [] rest
       ∙ ap (λ (n : ℕ). restReceived n f (receiptIn (r .kept .state) b (d .bads)) (r .line) rest) room
 
-  first-tells : Told (t .bytes) (d .bads) (r .kept)
+  first-tells : AllBadsTold (t .bytes) (d .bads) (r .kept)
   first-tells =
       let z : 0 + length (d .bads) ≡ length (d .bads) = omega arith in
       rw (← own)
@@ -248,7 +248,7 @@ module _ (f : List ℕ) (t : stream.Told) (k : LinesRead) (own : k .kept .told �
 -- an input of which the first bytes were read to the start of a buffer
 pub read-first : (f : List ℕ) (told : ℕ) (before : Lists) (buffer : List ℕ) (m : ℕ) → m ≤ length buffer → (r : LinesRead) (after : Lists)
     → FirstTold f told before (take m buffer) r after → roomIn before ≡ 65536
-    → (left n : ℕ) → (m < 3 → left ≡ 0) → n ≡ (0 + m) % 2 ^ 64 → ReadTo f told after left n r
+    → (left n : ℕ) → (m < 3 → left ≡ 0) → n ≡ (0 + m) % 2 ^ 64 → RowsReadTo f told after left n r
 read-first f told before buffer m fits r after d room left n z e =
     record {
       input = take m buffer;
@@ -256,7 +256,7 @@ read-first f told before buffer m fits r after d room left n z e =
       came = d .came room left (λ l. z (omega (arith, length-take-le m buffer fits)));
     }
 
-module _ (f : List ℕ) (told : ℕ) (a : Lists) (room : roomIn a ≡ 65536) (left n : ℕ) (k : LinesRead) (c : ReadTo f told a left n k) (some : 0 < left)
+module _ (f : List ℕ) (told : ℕ) (a : Lists) (room : roomIn a ≡ 65536) (left n : ℕ) (k : LinesRead) (c : RowsReadTo f told a left n k) (some : 0 < left)
     (part : List ℕ) (r : LinesRead) (b : Lists) (d : PartTold f k a part r b []) where
   more-is : (rest : List ℕ) → receiptOf f ((c .input ++ part) ++ rest)
       ≡ restReceived 65536 f (receiptIn (r .kept .state) b (c .came .bads ++ d .bads)) (r .line) rest
@@ -268,7 +268,7 @@ module _ (f : List ℕ) (told : ℕ) (a : Lists) (room : roomIn a ≡ 65536) (le
       ∙ ap (λ (m : ℕ). restReceived m f (receiptIn (r .kept .state) b (c .came .bads ++ d .bads)) (r .line) rest) room
 
   -- one part more of an input
-  read-more : (left′ n′ : ℕ) → n′ ≡ (n + length part) % 2 ^ 64 → ReadTo f told b left′ n′ r
+  read-more : (left′ n′ : ℕ) → n′ ≡ (n + length part) % 2 ^ 64 → RowsReadTo f told b left′ n′ r
   read-more left′ n′ e =
       record {
         input = c .input ++ part;
@@ -282,9 +282,9 @@ module _ (f : List ℕ) (told : ℕ) (a : Lists) (room : roomIn a ≡ 65536) (le
       }
 
 -- the same of the bytes that a read left at the start of a buffer
-pub read-on : (f : List ℕ) (told : ℕ) (a : Lists) → roomIn a ≡ 65536 → (left n : ℕ) (k : LinesRead) → ReadTo f told a left n k → 0 < left
+pub read-on : (f : List ℕ) (told : ℕ) (a : Lists) → roomIn a ≡ 65536 → (left n : ℕ) (k : LinesRead) → RowsReadTo f told a left n k → 0 < left
     → (buffer : List ℕ) (m : ℕ) → m ≤ length buffer → (r : LinesRead) (b : Lists) → PartTold f k a (take m buffer) r b []
-    → (left′ n′ : ℕ) → n′ ≡ (n + m) % 2 ^ 64 → ReadTo f told b left′ n′ r
+    → (left′ n′ : ℕ) → n′ ≡ (n + m) % 2 ^ 64 → RowsReadTo f told b left′ n′ r
 read-on f told a room left n k c some buffer m fits r b d left′ n′ e =
     read-more f told a room left n k c some (take m buffer) r b d left′ n′
     (e ∙ ap (λ (x : ℕ). (n + x) % 2 ^ 64) (sym (length-take-le m buffer fits)))
@@ -303,8 +303,8 @@ stops left false test e t z = go (lt-or-ge 0 left)
     go (inr l) = omega arith
 
 -- after the last line the lists hold the rows of the input, and its bad lines were told
-rows-all : (f : List ℕ) (told : ℕ) (a : Lists) → roomIn a ≡ 65536 → (left n : ℕ) (k : LinesRead) → ReadTo f told a left n k
-    → (b : Lists) (r : RowsKept) → LastTold f k a b r → RowsIn f told b n r
+rows-all : (f : List ℕ) (told : ℕ) (a : Lists) → roomIn a ≡ 65536 → (left n : ℕ) (k : LinesRead) → RowsReadTo f told a left n k
+    → (b : Lists) (r : RowsKept) → LastTold f k a b r → RowsOfInput f told b n r
 rows-all f told a room left n k c b r d =
     record {
       input = c .input;
@@ -349,7 +349,7 @@ module _ (f : List ℕ) (i : Input) (k : LinesRead) (a b : Lists) (r : RowsKept)
   taken = last (sym (ap (λ (x : Input). x .failed) same) ∙ z)
 
   -- where no read failed, the lists hold the rows of an input with as many bytes as were counted
-  pub rows-read : (told : ℕ) → roomIn a ≡ 65536 → ReadTo f told a (i .left) (i .bytes) k → RowsIn f told b (j .bytes) r
+  pub rows-read : (told : ℕ) → roomIn a ≡ 65536 → RowsReadTo f told a (i .left) (i .bytes) k → RowsOfInput f told b (j .bytes) r
   rows-read told room c = rw same (rows-all f told a room (i .left) (i .bytes) k c b r taken)
 
   -- and where there was no good row too many, it was read to its end

@@ -56,38 +56,38 @@ pub record LastTold (f : List ℕ) (k : LinesRead) (before after : Lists) (r : R
   pub lengths : SameLengths before after
 
 -- as many bytes as the lines of these bad ones have were told after so many, and the bad ones were counted
-pub record Told (told : ℕ) (bads : List ℕ) (s : RowsKept) : Type 0 where
+pub record AllBadsTold (told : ℕ) (bads : List ℕ) (s : RowsKept) : Type 0 where
   pub text : Grew told (length (badRowsText bads)) (s .told .bytes)
   pub count : s .bad ≡ badsCounted (length bads)
 
 -- after the first bytes of an input, whatever follows where reads are left, what is received is what the lists hold and what the rest brings;
 -- the bad lines so far were told, and counted
-pub record Came (f : List ℕ) (told : ℕ) (a : Lists) (input : List ℕ) (left : ℕ) (k : LinesRead) : Type 0 where
+pub record RowsCame (f : List ℕ) (told : ℕ) (a : Lists) (input : List ℕ) (left : ℕ) (k : LinesRead) : Type 0 where
   pub bads : List ℕ
   pub is : (rest : List ℕ) → (left ≡ 0 → rest ≡ [])
       → receiptOf f (input ++ rest) ≡ restReceived 65536 f (receiptIn (k .kept .state) a bads) (k .line) rest
-  pub tells : Told told bads (k .kept)
+  pub tells : AllBadsTold told bads (k .kept)
 
 -- after the first part of an input, for every number of reads left that is 0 where the part has fewer than three bytes:
 -- its bytes have come; the lists are as long as they were
 pub record FirstTold (f : List ℕ) (told : ℕ) (before : Lists) (part : List ℕ) (r : LinesRead) (after : Lists) : Type 0 where
-  pub came : roomIn before ≡ 65536 → (left : ℕ) → (length part < 3 → left ≡ 0) → Came f told after part left r
+  pub came : roomIn before ≡ 65536 → (left : ℕ) → (length part < 3 → left ≡ 0) → RowsCame f told after part left r
   pub lengths : SameLengths before after
 
 -- there is an input of which n bytes were counted, modulo 2^64, and its bytes have come
-pub record ReadTo (f : List ℕ) (told : ℕ) (a : Lists) (left n : ℕ) (k : LinesRead) : Type 0 where
+pub record RowsReadTo (f : List ℕ) (told : ℕ) (a : Lists) (left n : ℕ) (k : LinesRead) : Type 0 where
   pub input : List ℕ
   pub count : n ≡ length input % 2 ^ 64
-  pub came : Came f told a input left k
+  pub came : RowsCame f told a input left k
 
 -- there is an input of which n bytes were counted, modulo 2^64: its good rows are those in the lists, its bad lines were told after so many bytes, and counted;
 -- that it has the bytes that were read, and that it ended there, is not said
-pub record RowsIn (f : List ℕ) (told : ℕ) (a : Lists) (n : ℕ) (s : RowsKept) : Type 0 where
+pub record RowsOfInput (f : List ℕ) (told : ℕ) (a : Lists) (n : ℕ) (s : RowsKept) : Type 0 where
   pub input : List ℕ
   pub count : n ≡ length input % 2 ^ 64
   pub bads : List ℕ
   pub is : receiptIn (s .state) a bads ≡ receiptOf f input
-  pub tells : Told told bads s
+  pub tells : AllBadsTold told bads s
 
 -- before the first line: no bad line, no row and no line is counted, no line is begun, and no row was too many
 pub record Nothing (s : RowsKept) : Type 0 where

@@ -17,7 +17,7 @@ ghost use Rattle.streams.specs.Transfers.{Grew};
 ghost use Rattle.delivery_items.specs.Items.{emptyLong};
 ghost use Rattle.delivery_receipts.specs.Receiving.{roomIn, toldOf, SameLengths};
 ghost use Rattle.delivery_inputs.specs.ReconcileInputs.{badRowsText};
-ghost use Rattle.delivery_reading.specs.Reading.{RowTold, Nothing, EndTold, PartTold, FirstTold, LastTold, ReadTo, RowsIn};
+ghost use Rattle.delivery_reading.specs.Reading.{RowTold, Nothing, EndTold, PartTold, FirstTold, LastTold, RowsReadTo, RowsOfInput};
 
 // What is kept from one line to the next: what was received, how many lines were bad, at most 999,999,999, and what was told.
 pub struct RowsKept {
@@ -223,7 +223,7 @@ fn read_rest(
 ) -> InputRead
     requires { ⌜ 0 < length (now part) ⌝ }
     ensures { λ r. ⌜ SameLengths (record { ids = now (ids .entry); keys = now (keys .entry); days = now (days .entry); fulls = now (fulls .entry); numbers = now (numbers .entry); backs = now (backs .entry) }) (record { ids = now (ids .exit); keys = now (keys .exit); days = now (days .exit); fulls = now (fulls .exit); numbers = now (numbers .exit); backs = now (backs .exit) }) ⌝ }
-    ensures { λ r. ⌜ ((told : ℕ) → roomIn (record { ids = now (ids .entry); keys = now (keys .entry); days = now (days .entry); fulls = now (fulls .entry); numbers = now (numbers .entry); backs = now (backs .entry) }) ≡ 65536 → ReadTo (now (file .entry)) told (record { ids = now (ids .entry); keys = now (keys .entry); days = now (days .entry); fulls = now (fulls .entry); numbers = now (numbers .entry); backs = now (backs .entry) }) (first .input .left) (first .input .bytes) (first .lines) → ReadTo (now (file .entry)) told (record { ids = now (ids .exit); keys = now (keys .exit); days = now (days .exit); fulls = now (fulls .exit); numbers = now (numbers .exit); backs = now (backs .exit) }) (r .input .left) (r .input .bytes) (r .lines)) ⌝ }
+    ensures { λ r. ⌜ ((told : ℕ) → roomIn (record { ids = now (ids .entry); keys = now (keys .entry); days = now (days .entry); fulls = now (fulls .entry); numbers = now (numbers .entry); backs = now (backs .entry) }) ≡ 65536 → RowsReadTo (now (file .entry)) told (record { ids = now (ids .entry); keys = now (keys .entry); days = now (days .entry); fulls = now (fulls .entry); numbers = now (numbers .entry); backs = now (backs .entry) }) (first .input .left) (first .input .bytes) (first .lines) → RowsReadTo (now (file .entry)) told (record { ids = now (ids .exit); keys = now (keys .exit); days = now (days .exit); fulls = now (fulls .exit); numbers = now (numbers .exit); backs = now (backs .exit) }) (r .input .left) (r .input .bytes) (r .lines)) ⌝ }
     ensures { λ r. ⌜ (r .lines .kept .state .over ≡ false → r .input .left ≡ 0) ⌝ }
 {
     let mut input = first.input;
@@ -271,7 +271,7 @@ pub fn read_rows(
     numbers: &mut [u16],
     backs: &mut [u16],
 ) -> RowsRead
-    ensures { λ r. ⌜ (roomIn (record { ids = now (ids .entry); keys = now (keys .entry); days = now (days .entry); fulls = now (fulls .entry); numbers = now (numbers .entry); backs = now (backs .entry) }) ≡ 65536 → r .input .failed ≡ false → RowsIn (now (file .entry)) (told .bytes) (record { ids = now (ids .exit); keys = now (keys .exit); days = now (days .exit); fulls = now (fulls .exit); numbers = now (numbers .exit); backs = now (backs .exit) }) (r .input .bytes) (r .kept)) ⌝ }
+    ensures { λ r. ⌜ (roomIn (record { ids = now (ids .entry); keys = now (keys .entry); days = now (days .entry); fulls = now (fulls .entry); numbers = now (numbers .entry); backs = now (backs .entry) }) ≡ 65536 → r .input .failed ≡ false → RowsOfInput (now (file .entry)) (told .bytes) (record { ids = now (ids .exit); keys = now (keys .exit); days = now (days .exit); fulls = now (fulls .exit); numbers = now (numbers .exit); backs = now (backs .exit) }) (r .input .bytes) (r .kept)) ⌝ }
     ensures { λ r. ⌜ (r .input .failed ≡ false → r .kept .state .over ≡ false → r .input .left ≡ 0) ⌝ }
 {
     let mut part = io::large_buffer();

@@ -40,7 +40,7 @@ use Rattle.delivery_reconciled.specs.Reconciled.{lastText, toldText, reconcileT
 use Rattle.delivery_reconciled.specs.Standings.{idRowText, rowCount}
 use Rattle.delivery_reconciled.proofs.RowIds.{received-count, strangers-are, strangers-counted}
 use Rattle.delivery_reading.specs.declared.RowsKept.{RowsKept}
-use Rattle.delivery_reading.specs.Reading.{RowsIn}
+use Rattle.delivery_reading.specs.Reading.{RowsOfInput}
 use Rattle.delivery_judging.specs.declared.Printed.{Printed}
 use Rattle.delivery_judging.specs.Judging.{Held, PlacesOut, StrangersOut}
 use Rattle.delivery_reconciling.specs.ReconcileRuns.{ProductsOut, DifferencesOut, ReconcileRan}
@@ -70,7 +70,7 @@ unfolding receiptOf
 received-few f input = lines-few 65536 f noReceipt (linesFrom [] (unmarked input)) (omega arith)
 
 -- there are at most 65,536 good rows
-pub rows-few : (f : List ℕ) (told : ℕ) (a : Lists) (n : ℕ) (s : RowsKept) → RowsIn f told a n s → s .state .rows ≤ 65536
+pub rows-few : (f : List ℕ) (told : ℕ) (a : Lists) (n : ℕ) (s : RowsKept) → RowsOfInput f told a n s → s .state .rows ≤ 65536
 rows-few f told a n s x =
     omega (
       arith,
@@ -88,7 +88,7 @@ counted-few n = go (lt-or-ge n 999999999)
     go (inr l) = rw (le-ltb n 999999999 l) (omega arith)
 
 -- the count of bad lines has at most nine digits
-pub bads-few : (f : List ℕ) (told : ℕ) (a : Lists) (n : ℕ) (s : RowsKept) → RowsIn f told a n s → s .bad < 1000000000
+pub bads-few : (f : List ℕ) (told : ℕ) (a : Lists) (n : ℕ) (s : RowsKept) → RowsOfInput f told a n s → s .bad < 1000000000
 bads-few f told a n s x = omega (arith, x .tells .count, counted-few (length (x .bads)))
 
 -- ---- the lines of the ids that are not in the file
@@ -224,7 +224,7 @@ module _ (f notices : List ℕ) (verdict : Answer Calendar) (t : NoticesTaken) (
       ) refl
 
   module _ (opened : ℕ) (o : Grew 0 (length (partsText (openingText (openIn verdict f) f (t .opened) (t .date)) (placeCount f))) opened)
-      (a : Lists) (n : ℕ) (s : RowsKept) (x : RowsIn f opened a n s) where
+      (a : Lists) (n : ℕ) (s : RowsKept) (x : RowsOfInput f opened a n s) where
     over-is : s .state .over ≡ receiptOf f (x .input) .over
     over-is = ap (λ (r : Receipt). r .over) (x .is)
 

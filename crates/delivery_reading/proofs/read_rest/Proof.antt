@@ -6,7 +6,7 @@ use lib.ListN.{length}
 use lib.Seq.{length-take-le}
 use Rattle.delivery_receipts.specs.Receiving.{roomIn, SameLengths}
 use borrow.Author.Needs.{needs}
-use Rattle.delivery_reading.specs.Reading.{ReadTo}
+use Rattle.delivery_reading.specs.Reading.{RowsReadTo}
 use Rattle.delivery_reading.proofs.Comes.{same-lists, then-lists, room-same, read-on, goes, stops}
 use Rattle.delivery_reading.proofs.read_rest.Statement.{statement}
 use Rattle.delivery_reading.proofs.read_rest.Tie as tie
@@ -16,8 +16,8 @@ Inv-loop part₀ file ids₀ keys₀ days₀ fulls₀ numbers₀ backs₀ input�
     SameLengths (record { ids = ids₀; keys = keys₀; days = days₀; fulls = fulls₀; numbers = numbers₀; backs = backs₀ })
     (record { ids = ids; keys = keys; days = days; fulls = fulls; numbers = numbers; backs = backs }) × (length part ≡ length part₀)
     × ((told : ℕ) → roomIn (record { ids = ids₀; keys = keys₀; days = days₀; fulls = fulls₀; numbers = numbers₀; backs = backs₀ }) ≡ 65536
-    → ReadTo file told (record { ids = ids₀; keys = keys₀; days = days₀; fulls = fulls₀; numbers = numbers₀; backs = backs₀ }) (input₀ .left)
-    (input₀ .bytes) k₀ → ReadTo file told (record { ids = ids; keys = keys; days = days; fulls = fulls; numbers = numbers; backs = backs }) (input .left)
+    → RowsReadTo file told (record { ids = ids₀; keys = keys₀; days = days₀; fulls = fulls₀; numbers = numbers₀; backs = backs₀ }) (input₀ .left)
+    (input₀ .bytes) k₀ → RowsReadTo file told (record { ids = ids; keys = keys; days = days; fulls = fulls; numbers = numbers; backs = backs }) (input .left)
     (input .bytes) k)
 
 abbrev μ-loop : tie.MeasureT-loop
