@@ -41,8 +41,8 @@ use Rattle.delivery_reconciled.specs.Standings.{idRowText, rowCount}
 use Rattle.delivery_reconciled.proofs.RowIds.{received-count, strangers-are, strangers-counted}
 use Rattle.delivery_reading.specs.declared.RowsKept.{RowsKept}
 use Rattle.delivery_reading.specs.Reading.{RowsOfInput}
-use Rattle.delivery_judging.specs.declared.Printed.{Printed}
-use Rattle.delivery_judging.specs.Judging.{Held, PlacesOut, StrangersOut}
+use Rattle.delivery_judging.specs.declared.LinesPrinted.{LinesPrinted}
+use Rattle.delivery_judging.specs.LinesOut.{Held, PlacesOut, StrangersOut}
 use Rattle.delivery_reconciling.specs.ReconcileRuns.{ProductsOut, DifferencesOut, ReconcileRan}
 
 -- ---- no more than 65,536 rows are received
@@ -107,7 +107,7 @@ sum-few f ids zero = omega arith
 sum-few f ids (suc n) = omega (arith, sum-few f ids n, count-one f ids n)
 
 -- they are no more than the rows
-pub strangers-few : (f ids : List ℕ) (n : ℕ) (s : Sent) (r : Printed) → StrangersOut f ids n s r → r .lines ≤ n
+pub strangers-few : (f ids : List ℕ) (n : ℕ) (s : Sent) (r : LinesPrinted) → StrangersOut f ids n s r → r .lines ≤ n
 strangers-few f ids n s r x = omega (arith, x .lines, sum-few f ids n)
 
 -- ---- what is written
@@ -129,7 +129,8 @@ module _ (f notices : List ℕ) (verdict : Answer Calendar) (t : NoticesTaken) (
 
     -- the lines of all products after the heading
     pub products-out : (headed : Sent) → (headed .open ≡ true → Grew 0 (length differencesHeading) (headed .bytes))
-        → (r : Printed) → PlacesOut (openIn verdict f) f (t .date) (t .count) calls ids a rows places (placeCount f) headed r → ProductsOut f notices a rows r
+        → (r : LinesPrinted) → PlacesOut (openIn verdict f) f (t .date) (t .count) calls ids a rows places (placeCount f) headed r
+        → ProductsOut f notices a rows r
     products-out headed h r y =
         let x : PlacesOut (openCall f) f (t .date) (t .count) calls ids a rows places (placeCount f) headed r = rw own-opening at y in
         record {
@@ -169,7 +170,7 @@ module _ (f notices : List ℕ) (a : Lists) (rows : ℕ) where
       ap (λ (n : ℕ). sumTo (λ p. length (keysAt (openCall f) f (textTold notices) (receivedTo a rows) p)) (placeCount f) + n) (sym (strangers-counted f a rows))
 
   -- the lines of the ids that are not in the file, after those of the products
-  pub differences-out : (p : Printed) → ProductsOut f notices a rows p → (o : Printed) → StrangersOut f (a .ids) rows (p .sent) o
+  pub differences-out : (p : LinesPrinted) → ProductsOut f notices a rows p → (o : LinesPrinted) → StrangersOut f (a .ids) rows (p .sent) o
       → DifferencesOut f notices a rows (record { sent = o .sent; lines = p .lines + o .lines })
   differences-out p x o y =
       record {
@@ -261,7 +262,7 @@ module _ (f notices : List ℕ) (verdict : Answer Calendar) (t : NoticesTaken) (
         none-last = last-none (openCall f) f (textTold notices) (receiptIn (s .state) a (x .bads)) e
 
     -- else the differences are written, and the counts told last
-    pub ran-all : s .state .over ≡ false → (p : Printed) → DifferencesOut f notices a (s .state .rows) p → (told : ℕ)
+    pub ran-all : s .state .over ≡ false → (p : LinesPrinted) → DifferencesOut f notices a (s .state .rows) p → (told : ℕ)
         → (p .sent .open ≡ true → Grew (s .told .bytes) (length (summaryText (recordCount f) (s .state .rows) (p .lines) (s .bad))) told)
         → ReconcileRan f notices n (p .sent .open) (p .sent .bytes) told
     ran-all e p d told w =
