@@ -9,7 +9,7 @@ use streams::Input;
 ghost use mathlib.Core.Path.{_≡_};
 ghost use mathlib.Core.Bool.{false};
 ghost use lib.ListN.{length};
-ghost use Rattle.file_text_told.specs.Whole.{ReadTo, Ran};
+ghost use Rattle.file_text_told.specs.Whole.{ReadTo, ComposeRan};
 
 // What the lines so far say, the line begun, and how far the list was read.
 pub struct Reading {
@@ -47,7 +47,7 @@ fn read_list(records: &mut [u8]) -> Reading
 // Hands out the file of a list that was read to its end, or why there is none.
 fn answer(r: Reading, records: &mut [u8]) -> Handed
     requires { ⌜ (r .input .left ≡ 0) × (r .input .failed ≡ false) × ReadTo (r .taken) (r .line) (now records) (r .input .bytes) ⌝ }
-    ensures { λ h. ⌜ Ran (r .input .bytes) (h .sent .open) (h .sent .bytes) (h .told .bytes) ⌝ }
+    ensures { λ h. ⌜ ComposeRan (r .input .bytes) (h .sent .open) (h .sent .bytes) (h .told .bytes) ⌝ }
 {
     let mut file = io::large_buffer();
     let begun = r.taken;
@@ -60,7 +60,7 @@ fn answer(r: Reading, records: &mut [u8]) -> Handed
 
 // Reads the list and hands out what it gives. Of a list that could not be read to its end nothing is handed out; the contract says nothing of that case.
 fn run() -> Outcome
-    ensures { λ r. ⌜ (r .input .left ≡ 0) × (r .input .failed ≡ false → Ran (r .input .bytes) (r .handed .sent .open) (r .handed .sent .bytes) (r .handed .told .bytes)) ⌝ }
+    ensures { λ r. ⌜ (r .input .left ≡ 0) × (r .input .failed ≡ false → ComposeRan (r .input .bytes) (r .handed .sent .open) (r .handed .sent .bytes) (r .handed .told .bytes)) ⌝ }
 {
     let mut records = io::large_buffer();
     let r = read_list(&mut records);
