@@ -10,7 +10,7 @@ use lib.ListN.{length, length-append, length-map}
 use borrow.Author.Tests.{eq-eqb, ne-eqb, eqb-true}
 use Rattle.questions.proofs.Bools.{clash}
 use Rattle.delivery_notices.specs.declared.NoticesTaken.{NoticesTaken}
-use Rattle.delivery_notices.specs.Notices.{Told, textTold}
+use Rattle.delivery_notices.specs.Notices.{NoticesTold, textTold}
 use Rattle.delivery_notices.specs.NoticeLists.{noticeAt, noticesTo, noticeHeld, listsFit, TextIn}
 use Rattle.c_delivery.specs.declared.Notices.{Notices}
 use Rattle.c_delivery.specs.Delivered.{noNotices, saidNotices, noticesOf, noticesRead, NoticesIn}
@@ -70,21 +70,21 @@ module _ (text : List ℕ) (calls ids : ℕ) where
   without-room h = rw h refl
 
 module _ (text calls calls′ ids ids′ : List ℕ) (t : NoticesTaken) (x : TextIn text calls calls′ ids ids′ t) where
-  abbrev told : Told
+  abbrev told : NoticesTold
   told = textTold text
 
   module _ (h : t .fits ≡ true) where
     bad-is : t .bad ≡ told .bad
-    bad-is = ap (λ (u : Told). u .bad) (x .is h)
+    bad-is = ap (λ (u : NoticesTold). u .bad) (x .is h)
 
     date-is : t .date ≡ told .date
-    date-is = ap (λ (u : Told). u .date) (x .is h)
+    date-is = ap (λ (u : NoticesTold). u .date) (x .is h)
 
     opened-is : t .opened ≡ told .opened
-    opened-is = ap (λ (u : Told). u .opened) (x .is h)
+    opened-is = ap (λ (u : NoticesTold). u .opened) (x .is h)
 
     notices-are : noticesTo calls′ ids′ (t .count) ≡ map noticeHeld (told .notices)
-    notices-are = ap (λ (u : Told). u .notices) (x .is h)
+    notices-are = ap (λ (u : NoticesTold). u .notices) (x .is h)
 
     count-is : t .count ≡ length (told .notices)
     count-is = sym (notices-length calls′ ids′ (t .count)) ∙ ap length notices-are ∙ length-map (told .notices) noticeHeld

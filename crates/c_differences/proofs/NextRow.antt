@@ -12,11 +12,14 @@ use borrow.Author.Tests.{eq-eqb, ne-eqb, eqb-true, eqb-false}
 use Rattle.questions.proofs.Bools.{clash}
 use Rattle.delivery_lines.specs.NoticeLines.{markLength}
 use Rattle.delivery_items.specs.declared.LongLine.{LongLine}
+use Rattle.delivery_items.specs.declared.LineEnd.{LineEnd}
 use Rattle.delivery_items.specs.Items.{emptyLong, heldRead}
+use Rattle.delivery_items.specs.LineEnds.{lineEnd}
+use Rattle.delivery_items.proofs.LineEnds.{end-on, end-within}
 use Rattle.delivery_receipts.specs.declared.Receiving.{Receiving}
-use Rattle.delivery_receipts.specs.declared.LineEnd.{LineEnd}
 use Rattle.delivery_receipts.specs.Receipts.{Receipt, lineReceived, restReceived}
-use Rattle.delivery_receipts.specs.Receiving.{Lists, roomIn, receiptIn, toldOf, SameLengths, RowLineIn, LineFed}
+use Rattle.delivery_receipts.specs.Receiving.{Lists, roomIn, receiptIn, toldOf, SameLengths, RowLineIn}
+use Rattle.delivery_receipts.proofs.RowLinesFed.{received-ended, received-begun}
 use Rattle.c_differences.specs.declared.FlatReceipt.{FlatReceipt}
 use Rattle.c_differences.specs.Found.{lineStart, receivingOf, receiptFrom, ReceivedIn}
 
@@ -65,7 +68,7 @@ none-told : (bads : List ℕ) → bads ++ toldOf 0 ≡ bads
 none-told bads = append-nil bads
 
 module _ (f text : List ℕ) (s : FlatReceipt) (before : Lists) (from : ℕ) (start : from ≡ lineStart text (s .next)) (more : from < length text)
-    (e : LineEnd) (fed : LineFed emptyLong text from e) where
+    (e : LineEnd) (fed : e ≡ lineEnd emptyLong (drop from text) from) where
   abbrev room : ℕ
   room = roomIn before
 
@@ -83,7 +86,7 @@ module _ (f text : List ℕ) (s : FlatReceipt) (before : Lists) (from : ℕ) (st
   nothing-left h z =
       record {
         is = λ bads. rw (← start)
-            (whole bads ∙ fed .begun h room f (so-far bads) [] ∙ ends-empty room f (so-far bads) (e .line) z
+            (whole bads ∙ received-begun emptyLong text from e fed room f (so-far bads) [] h ∙ ends-empty room f (so-far bads) (e .line) z
             ∙ sym (ap (restReceived room f (receiptIn (receivingOf s) before (bads ++ toldOf 0)) emptyLong) ended-at
             ∙ no-line room f (receiptIn (receivingOf s) before (bads ++ toldOf 0))
             ∙ ap (receiptIn (receivingOf s) before) (none-told bads)));
@@ -97,18 +100,18 @@ module _ (f text : List ℕ) (s : FlatReceipt) (before : Lists) (from : ℕ) (st
     then bads = receiptIn r after (bads ++ toldOf (r .bad))
 
     later : e .next ≡ lineStart text (e .next)
-    later = start-later text (e .next) (λ z. absurd (omega (arith, fed .on more)))
+    later = start-later text (e .next) (λ z. absurd (omega (arith, end-on emptyLong text from e fed more)))
 
     -- a line that a line feed ended is received, and the next one begins after it
     pub line-feed : e .ended ≡ true → ReceivedIn f s text before after (receiptFrom r (e .next))
     line-feed h =
         record {
           is = λ bads. rw (← start, ← later)
-              (whole bads ∙ fed .ended h room f (so-far bads) []
+              (whole bads ∙ received-ended emptyLong text from e fed room f (so-far bads) [] h
               ∙ ap (restReceived room f (lineReceived room f (so-far bads) (heldRead (e .line))) emptyLong) (append-nil (drop (e .next) text))
               ∙ ap (λ (c : Receipt). restReceived room f c emptyLong (drop (e .next) text)) (sym (x .is bads)));
-          on = rw (← start) (fed .on);
-          within = fed .within (omega arith);
+          on = rw (← start) (end-on emptyLong text from e fed);
+          within = end-within emptyLong text from e fed (omega arith);
           lengths = x .lengths;
         }
 
@@ -117,7 +120,7 @@ module _ (f text : List ℕ) (s : FlatReceipt) (before : Lists) (from : ℕ) (st
     last-line h n =
         record {
           is = λ bads. rw (← start)
-              (whole bads ∙ fed .begun h room f (so-far bads) [] ∙ ends-line room f (so-far bads) (e .line) n
+              (whole bads ∙ received-begun emptyLong text from e fed room f (so-far bads) [] h ∙ ends-line room f (so-far bads) (e .line) n
               ∙ sym (x .is bads)
               ∙ sym (ap (restReceived room f (then bads) emptyLong) ended-at ∙ no-line room f (then bads)));
           on = λ l. l;

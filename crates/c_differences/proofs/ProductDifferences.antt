@@ -19,7 +19,8 @@ use Rattle.session_lines.specs.declared.Line.{Line}
 use Rattle.session_lines.specs.CommandLines.{emptyLine, fed}
 use Rattle.delivery_differences.specs.Differences.{rowsAt}
 use Rattle.delivery_receipts.specs.Receipts.{Received}
-use Rattle.delivery_receipts.specs.Receiving.{idIn, Lists, receivedTo, rowsFor, PlacesIn, firstUnknown}
+use Rattle.delivery_products.specs.IdList.{idIn}
+use Rattle.delivery_receipts.specs.Receiving.{Lists, receivedTo, rowsFor, PlacesIn, firstUnknown}
 use Rattle.delivery_receipts.proofs.Gathering.{rows-are}
 use Rattle.delivery_reports.specs.declared.ReportProgress.{ReportProgress}
 use Rattle.delivery_reports.specs.Reports.{ReportLinesIn, unknownText}

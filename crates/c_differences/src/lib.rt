@@ -12,7 +12,8 @@ ghost use mathlib.Core.List.{[]};
 ghost use Prim.Native.Nat.{_≤_};
 ghost use lib.ListN.{length, take};
 ghost use Rattle.session_lines.specs.CommandLines.{emptyLine, fed};
-ghost use Rattle.delivery_receipts.specs.Receiving.{idIn, receivedTo, rowsFor, firstUnknown};
+ghost use Rattle.delivery_products.specs.IdList.{idIn};
+ghost use Rattle.delivery_receipts.specs.Receiving.{receivedTo, rowsFor, firstUnknown};
 ghost use Rattle.delivery_reports.specs.Reports.{ReportLinesIn, unknownText, differencesHeading};
 ghost use Rattle.c_delivery.specs.Delivered.{textLine};
 ghost use Rattle.c_differences.specs.Found.{lineStart, receivingOf, receiptFrom, ReceivedIn, judgeable, listedCount, roomFor, noLines, DifferencesIn};
@@ -107,13 +108,13 @@ pub fn receive(
     if text.len() <= from {
         return receipt_from(state, text.len());
     }
-    let end = delivery_receipts::line_from(delivery_items::empty_long_line(), text, from);
+    let end = delivery_items::line_from(delivery_items::empty_long_line(), text, from);
     let line = end.line;
     let next = place_after(end.ended, end.next, text.len());
     if !end.ended & (line.length == 0) {
         return receipt_from(state, next);
     }
-    let after = delivery_receipts::take_line(
+    let after = delivery_receipts::receive_line(
         file,
         state,
         line,
@@ -279,5 +280,5 @@ pub fn unknown_product(file: &[u8], ids: &[u8], i: u32) -> TextLine
     if !delivery_receipts::is_first_unknown(file, ids, i) {
         return c_delivery::text_line(session_lines::empty_line());
     }
-    c_delivery::text_line(delivery_reports::unknown_line(delivery_tables::id_in(ids, i)))
+    c_delivery::text_line(delivery_reports::unknown_line(delivery_products::id_in(ids, i)))
 }

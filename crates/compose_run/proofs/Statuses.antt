@@ -7,7 +7,7 @@ use mathlib.Core.Bool.{Bool, true, false, not, true≢false}
 use mathlib.Core.List.{List}
 use lib.Dec.{eqb}
 use lib.ListN.{length}
-use Rattle.file_text_told.specs.Whole.{composeTold, Ran}
+use Rattle.file_text_told.specs.Whole.{composeTold, ComposeHandedOut}
 use Rattle.file_text_told.proofs.Lengths.{told-short}
 use Rattle.program_status.specs.Statuses.{statusOf}
 use Rattle.streams.specs.declared.reads.Input.{Input}
@@ -20,7 +20,8 @@ unfolding composeRefused
 refused-is input long e = ap (λ (n : ℕ). not (eqb n 0)) e
 
 -- a line of so many bytes was told
-pub compose-ran : (n : ℕ) (h : Handed) (status long : ℕ) → Ran n (h .sent .open) (h .sent .bytes) (h .told .bytes) → h .told .bytes % 2 ^ 64 ≡ long
+pub compose-ran : (n : ℕ) (h : Handed) (status long : ℕ) → ComposeHandedOut n (h .sent .open) (h .sent .bytes) (h .told .bytes)
+    → h .told .bytes % 2 ^ 64 ≡ long
     → status ≡ statusOf (not (h .sent .open)) (not (eqb long 0)) → ComposeRan n h status
 compose-ran n h status long r t s =
     let e : long ≡ length (composeTold (r .input)) = omega (arith, t, r .said, told-short (r .input)) in

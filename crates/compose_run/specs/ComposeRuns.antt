@@ -5,7 +5,7 @@ use mathlib.Core.Bool.{Bool, true, false, not}
 use mathlib.Core.List.{List}
 use lib.Dec.{eqb}
 use lib.ListN.{length}
-use Rattle.file_text_told.specs.Whole.{composeTold, Ran}
+use Rattle.file_text_told.specs.Whole.{composeTold, ComposeHandedOut}
 use Rattle.program_status.specs.Statuses.{statusOf}
 use Rattle.compose_run.specs.declared.output.Handed.{Handed}
 use Rattle.compose_run.specs.declared.Outcome.{Outcome}
@@ -17,7 +17,7 @@ composeRefused input = not (eqb (length (composeTold input)) 0)
 -- the end of a run that read its input, of which n bytes were counted: what was handed out,
 -- and the status, which is by whether standard output took all, and whether that input is at fault
 pub record ComposeRan (n : ℕ) (h : Handed) (status : ℕ) : Type 0 where
-  pub ran : Ran n (h .sent .open) (h .sent .bytes) (h .told .bytes)
+  pub ran : ComposeHandedOut n (h .sent .open) (h .sent .bytes) (h .told .bytes)
   pub ends : status ≡ statusOf (not (h .sent .open)) (composeRefused (ran .input))
 
 -- the end of a run: no read is left; where none failed this is the end, for the input that was read;

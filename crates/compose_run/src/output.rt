@@ -7,7 +7,7 @@ ghost use mathlib.Core.Path.{_≡_};
 ghost use mathlib.Core.Bool.{false};
 ghost use Prim.Native.Nat.{_%_, _^_, _≤_};
 ghost use lib.ListN.{length, take};
-ghost use Rattle.file_text_told.specs.Whole.{OfInput, Ran};
+ghost use Rattle.file_text_told.specs.Whole.{OfInput, ComposeHandedOut};
 
 // What standard output has taken, and what was told.
 pub struct Handed {
@@ -36,7 +36,7 @@ pub(crate) fn is_open(handed: Handed) -> bool
 // Where standard output does not take all bytes, one line on standard error says why.
 pub(crate) fn hand_out(input: Input, file: &[u8], n: usize, line: Line) -> Handed
     requires { ⌜ (input .left ≡ 0) × (input .failed ≡ false) × (n ≤ length (now file)) × (n ≤ 65536) × (line .length ≤ 64) × OfInput (input .bytes) (take n (now file)) (take (line .length) (line .bytes)) ⌝ }
-    ensures { λ r. ⌜ Ran (input .bytes) (r .sent .open) (r .sent .bytes) (r .told .bytes) × (r .told .bytes % 2 ^ 64 ≡ line .length) ⌝ }
+    ensures { λ r. ⌜ ComposeHandedOut (input .bytes) (r .sent .open) (r .sent .bytes) (r .told .bytes) × (r .told .bytes % 2 ^ 64 ≡ line .length) ⌝ }
 {
     let bytes = line.bytes;
     let length = line.length;

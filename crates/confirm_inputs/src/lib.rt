@@ -27,7 +27,7 @@ fn differs_line(kind: Kind, key: u16) -> Line
     ensures { λ r. ⌜ LineWith emptyLine (differsText kind key) r ⌝ }
 {
     let word = session_lines::feed(session_lines::empty_line(), b"DIFFERS ");
-    session_lines::extend(delivery_reports::with_name(word, kind, key), b'\n')
+    session_lines::extend(file_text_print::with_name(word, kind, key), b'\n')
 }
 
 // A call was refused.

@@ -59,7 +59,7 @@ pub fn take_row(
 ) -> RowTaken
     ensures { λ r. ⌜ RowIn (now (file .entry)) state bad line (record { ids = now (ids .entry); keys = now (keys .entry); days = now (days .entry); fulls = now (fulls .entry); numbers = now (numbers .entry); backs = now (backs .entry) }) (record { ids = now (ids .exit); keys = now (keys .exit); days = now (days .exit); fulls = now (fulls .exit); numbers = now (numbers .exit); backs = now (backs .exit) }) r ⌝ }
 {
-    let after = delivery_receipts::take_line(
+    let after = delivery_receipts::receive_line(
         file,
         state,
         line,

@@ -1,3 +1,4 @@
 mod FieldsParted
 mod ItemForms
 pub mod LongItems
+pub mod LineEnds

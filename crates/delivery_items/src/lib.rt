@@ -4,9 +4,10 @@ use session_lines::Command;
 ghost use mathlib.Core.Path.{_≡_};
 ghost use Prim.Native.Nat.{_≤_};
 ghost use lib.Dec.{eqb};
-ghost use lib.ListN.{length, take};
+ghost use lib.ListN.{length, take, drop};
 ghost use Rattle.delivery_items.specs.Items.{separator, fieldsOf, unquoted, rawField, fieldAt, noItem, maturityRead, keyRead, shortItem, fullItem, fieldsItem, itemOf, isProductWord, headed, lineRead, emptyLong, lengthened, heldRead};
 ghost use Rattle.delivery_items.specs.LineFields.{SeparatorFrom};
+ghost use Rattle.delivery_items.specs.LineEnds.{lineEnd};
 
 // A row: the id, the key of a month or of a weekly option's Friday, and the last trading day;
 // of a full one, which has five fields, also the listing number and the days back. Another line is none, with zeros.
@@ -33,6 +34,13 @@ pub struct LongLine {
     pub bytes: [u8; 255],
     pub length: usize,
     pub over: bool,
+}
+
+// A line, the place in a part of the input after it, and whether a line feed ended it.
+pub struct LineEnd {
+    pub line: LongLine,
+    pub next: usize,
+    pub ended: bool,
 }
 
 // Whether a byte parts two fields.
@@ -295,6 +303,31 @@ pub fn extend_long(line: LongLine, byte: u8) -> LongLine
         bytes,
         length: at + 1,
         over: line.over,
+    }
+}
+
+// A line begun with its bytes from a place of a part on, up to its line feed or to the end of the part.
+pub fn line_from(line: LongLine, part: &[u8], from: usize) -> LineEnd
+    ensures { λ r. ⌜ r ≡ lineEnd line (drop from (now (part .entry))) from ⌝ }
+{
+    let mut l = line;
+    let mut i = from;
+    while i < part.len() {
+        let byte = part[i];
+        i += 1;
+        if byte == b'\n' {
+            return LineEnd {
+                line: l,
+                next: i,
+                ended: true,
+            };
+        }
+        l = extend_long(l, byte);
+    }
+    LineEnd {
+        line: l,
+        next: i,
+        ended: false,
     }
 }
 

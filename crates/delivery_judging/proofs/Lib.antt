@@ -1,3 +1,3 @@
-mod Keys
+mod KeysWritten
 mod Places
 mod Rows

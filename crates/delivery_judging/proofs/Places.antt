@@ -11,7 +11,7 @@ use borrow.Author.Tests.{le-leb}
 use Rattle.streams.specs.declared.output.Sent.{Sent}
 use Rattle.file_ids.specs.Ids.{isRecord, idAt}
 use Rattle.table.specs.declared.Outcome.{Outcome}
-use Rattle.delivery_notices.specs.Notices.{Told}
+use Rattle.delivery_notices.specs.Notices.{NoticesTold}
 use Rattle.delivery_parts.specs.PlaceParts.{partsText}
 use Rattle.delivery_differences.specs.Differences.{differing, rowsAt}
 use Rattle.delivery_reports.specs.Reports.{keysText, differingFrom, reportFrom}
@@ -21,14 +21,14 @@ use Rattle.delivery_receipts.proofs.Gathering.{rows-are}
 use Rattle.delivery_reconciled.specs.declared.PlaceListed.{PlaceListed}
 use Rattle.delivery_reconciled.specs.Reconciled.{sumTo, kindAt, listedAt, keysAt, placeText}
 use Rattle.delivery_reconciled.specs.Standings.{ListedIn}
-use Rattle.delivery_judging.specs.declared.Printed.{Printed}
-use Rattle.delivery_judging.specs.Judging.{KeysOut, Listed, Held, PlaceOut, PlacesOut}
-use Rattle.delivery_judging.proofs.Keys.{keys-few}
+use Rattle.delivery_judging.specs.declared.LinesPrinted.{LinesPrinted}
+use Rattle.delivery_judging.specs.LinesOut.{KeysOut, PlaceLists, Held, PlaceOut, PlacesOut}
+use Rattle.delivery_judging.proofs.KeysWritten.{keys-few}
 
 -- a buffer of 6,554 bytes has room for the refusals
 pub listed-is : (opening : List ℕ → ℕ → Outcome) (f : List ℕ) (p date count : ℕ) (calls ids refusals refusals′ : List ℕ) (r : PlaceListed)
     → length refusals ≡ 6554
-    → ListedIn opening f p date count calls ids refusals refusals′ r → Listed opening f p date count calls ids r
+    → ListedIn opening f p date count calls ids refusals refusals′ r → PlaceLists opening f p date count calls ids r
 listed-is opening f p date count calls ids refusals refusals′ r n x =
     record {
       holds = λ h. x .holds (fits h);
@@ -40,7 +40,7 @@ listed-is opening f p date count calls ids refusals refusals′ r n x =
     fits : count ≤ 6554 → r .fits ≡ true
     fits h = x .fits ∙ le-leb count (length refusals) (omega arith)
 
-module _ (opening : List ℕ → ℕ → Outcome) (f : List ℕ) (t : Told) (rows : List Received) (p : ℕ) where
+module _ (opening : List ℕ → ℕ → Outcome) (f : List ℕ) (t : NoticesTold) (rows : List Received) (p : ℕ) where
   no-keys : isRecord f p ≡ false → keysAt opening f t rows p ≡ []
   unfolding keysAt
   no-keys e = rw e refl
@@ -58,7 +58,7 @@ module _ (opening : List ℕ → ℕ → Outcome) (f : List ℕ) (t : Told) (row
   all-text e = ap (keysText (kindAt f p) (idAt f p) (listedAt opening f t p) (rowsFor (idAt f p) rows)) (all-keys e)
 
 module _ (opening : List ℕ → ℕ → Outcome) (f : List ℕ) (date count : ℕ) (calls ids : List ℕ) (a : Lists) (rows places p : ℕ) (s : Sent)
-    (l : PlaceListed) (x : Listed opening f p date count calls ids l) where
+    (l : PlaceListed) (x : PlaceLists opening f p date count calls ids l) where
   -- a place that holds no record
   pub place-none : l .holds ≡ false → PlaceOut opening f date count calls ids a rows places p s (record { sent = s; lines = 0 })
   place-none n =
@@ -70,10 +70,10 @@ module _ (opening : List ℕ → ℕ → Outcome) (f : List ℕ) (date count : �
 
   -- a place that holds one
   module _ (y : l .holds ≡ true) (before after : List ℕ) (b : length before ≡ places) (size : ℕ) (q : PlacesIn (l .id) (a .ids) rows before after size)
-      (r : Printed)
+      (r : LinesPrinted)
       (k : KeysOut (l .kind) (l .id) (take (l .listed) (l .maturities))
       (rowsAt (a .keys) (a .days) (a .fulls) (a .numbers) (a .backs) (take size after)) s r) where
-    module _ (t : Told) (h : Held date count calls ids rows places t) where
+    module _ (t : NoticesTold) (h : Held date count calls ids rows places t) where
       own : rowsAt (a .keys) (a .days) (a .fulls) (a .numbers) (a .backs) (take size after) ≡ rowsFor (idAt f p) (receivedTo a rows)
       own =
           ap (rowsAt (a .keys) (a .days) (a .fulls) (a .numbers) (a .backs)) (q .is (h .most) (omega (arith, h .room)))
@@ -138,7 +138,7 @@ module _ (opening : List ℕ → ℕ → Outcome) (f : List ℕ) (date count : �
 
   -- the lines of the first places and those of the next place are the lines of one place more
   pub places-more : (p : ℕ) (so-far : Sent) (lines : ℕ) → PlacesOut opening f date count calls ids a rows places p s (record { sent = so-far; lines = lines })
-      → (r : Printed) → PlaceOut opening f date count calls ids a rows places p so-far r
+      → (r : LinesPrinted) → PlaceOut opening f date count calls ids a rows places p so-far r
       → PlacesOut opening f date count calls ids a rows places (p + 1) s (record { sent = r .sent; lines = lines + r .lines })
   places-more p so-far lines g r x =
       record {
@@ -154,12 +154,12 @@ module _ (opening : List ℕ → ℕ → Outcome) (f : List ℕ) (date count : �
       }
 
   -- what is said of the first p places is said of the first n where p is n
-  pub places-at : (p n : ℕ) → p ≡ n → (r : Printed) → PlacesOut opening f date count calls ids a rows places p s r
+  pub places-at : (p n : ℕ) → p ≡ n → (r : LinesPrinted) → PlacesOut opening f date count calls ids a rows places p s r
       → PlacesOut opening f date count calls ids a rows places n s r
   places-at p n e r x = rw (← e) x
 
 -- what is said of a place with room for m row places is said with room for n where m is n
 pub place-at : (opening : List ℕ → ℕ → Outcome) (f : List ℕ) (date count : ℕ) (calls ids : List ℕ) (a : Lists) (rows m n : ℕ) → m ≡ n
-    → (p : ℕ) (s : Sent) (r : Printed)
+    → (p : ℕ) (s : Sent) (r : LinesPrinted)
     → PlaceOut opening f date count calls ids a rows m p s r → PlaceOut opening f date count calls ids a rows n p s r
 place-at opening f date count calls ids a rows m n e p s r x = rw (← e) x

@@ -13,7 +13,7 @@ use Rattle.delivery_reports.specs.declared.ReportProgress.{ReportProgress}
 use Rattle.delivery_receipts.specs.Receiving.{firstUnknown}
 use Rattle.delivery_reconciled.specs.Reconciled.{sumTo}
 use Rattle.delivery_reconciled.specs.Standings.{idRowText, rowCount, StrangersIn}
-use Rattle.delivery_judging.specs.Judging.{Wrote, StrangersOut}
+use Rattle.delivery_judging.specs.LinesOut.{Wrote, StrangersOut}
 
 one-most : (f ids : List ℕ) (i : ℕ) → rowCount f ids i ≤ 1
 unfolding rowCount

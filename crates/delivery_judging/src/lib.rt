@@ -16,10 +16,10 @@ ghost use Rattle.delivery_reports.specs.Reports.{reportFrom, differingFrom};
 ghost use Rattle.delivery_parts.specs.PlaceParts.{partsText};
 ghost use Rattle.file_ids.specs.Ids.{placeCount};
 ghost use Rattle.delivery_reconciled.specs.Standings.{idRowText};
-ghost use Rattle.delivery_judging.specs.Judging.{Wrote, KeysOut, Listed, PlaceOut, PlacesOut, StrangersOut};
+ghost use Rattle.delivery_judging.specs.LinesOut.{Wrote, KeysOut, PlaceLists, PlaceOut, PlacesOut, StrangersOut};
 
 // What was written, and how many lines were.
-pub struct Printed {
+pub struct LinesPrinted {
     pub sent: Sent,
     pub lines: u64,
 }
@@ -55,7 +55,7 @@ fn print_keys(
     fulls: &[u8],
     numbers: &[u16],
     backs: &[u16],
-) -> Printed
+) -> LinesPrinted
     ensures { λ r. ⌜ KeysOut (l .kind) (l .id) (take (l .listed) (l .maturities)) (rowsAt (now (keys .entry)) (now (days .entry)) (now (fulls .entry)) (now (numbers .entry)) (now (backs .entry)) (now (places .entry))) sent r ⌝ }
 {
     let kind = l.kind;
@@ -96,7 +96,7 @@ fn print_keys(
         lines += p.lines as u64;
         from = p.next;
     }
-    Printed {
+    LinesPrinted {
         sent: so_far,
         lines,
     }
@@ -111,7 +111,7 @@ fn listed_of(
     calls: &[u32],
     of: &[u8],
 ) -> PlaceListed
-    ensures { λ r. ⌜ Listed (openIn (calendarAnswer judged) (now (file .entry))) (now (file .entry)) place (t .date) (t .count) (now (calls .entry)) (now (of .entry)) r ⌝ }
+    ensures { λ r. ⌜ PlaceLists (openIn (calendarAnswer judged) (now (file .entry))) (now (file .entry)) place (t .date) (t .count) (now (calls .entry)) (now (of .entry)) r ⌝ }
 {
     let mut refusals = [0u8; 6554];
     delivery_reconciled::listed_at(
@@ -143,12 +143,12 @@ fn print_place(
     numbers: &[u16],
     backs: &[u16],
     places: &mut [u16],
-) -> Printed
+) -> LinesPrinted
     ensures { λ r. ⌜ PlaceOut (openIn (calendarAnswer judged) (now (file .entry))) (now (file .entry)) (t .date) (t .count) (now (calls .entry)) (now (of .entry)) (record { ids = now (ids .entry); keys = now (keys .entry); days = now (days .entry); fulls = now (fulls .entry); numbers = now (numbers .entry); backs = now (backs .entry) }) rows (length (now (places .entry))) place sent r ⌝ }
 {
     let l = listed_of(file, judged, place, t, calls, of);
     if !l.holds {
-        return Printed { sent, lines: 0 };
+        return LinesPrinted { sent, lines: 0 };
     }
     let id = l.id;
     let size = delivery_receipts::places_of(id, ids, rows, places);
@@ -171,13 +171,13 @@ pub fn print_places(
     numbers: &[u16],
     backs: &[u16],
     places: &mut [u16],
-) -> Printed
+) -> LinesPrinted
     ensures { λ r. ⌜ (length (now (file .entry)) ≤ 65537 → PlacesOut (openIn (calendarAnswer judged) (now (file .entry))) (now (file .entry)) (t .date) (t .count) (now (calls .entry)) (now (of .entry)) (record { ids = now (ids .entry); keys = now (keys .entry); days = now (days .entry); fulls = now (fulls .entry); numbers = now (numbers .entry); backs = now (backs .entry) }) rows (length (now (places .entry))) (placeCount (now (file .entry))) sent r) ⌝ }
 {
     let mut so_far = sent;
     let mut lines: u64 = 0;
     if 65537 < file.len() {
-        return Printed {
+        return LinesPrinted {
             sent: so_far,
             lines,
         };
@@ -206,7 +206,7 @@ pub fn print_places(
         lines += part.lines;
         p += 1;
     }
-    Printed {
+    LinesPrinted {
         sent: so_far,
         lines,
     }
@@ -229,7 +229,7 @@ fn write_strangers(
 }
 
 // The lines of the ids that are not in the file.
-pub fn print_strangers(sent: Sent, file: &[u8], rows: u32, ids: &[u8]) -> Printed
+pub fn print_strangers(sent: Sent, file: &[u8], rows: u32, ids: &[u8]) -> LinesPrinted
     ensures { λ r. ⌜ StrangersOut (now (file .entry)) (now (ids .entry)) rows sent r ⌝ }
 {
     let mut out = io::buffer();
@@ -242,7 +242,7 @@ pub fn print_strangers(sent: Sent, file: &[u8], rows: u32, ids: &[u8]) -> Printe
         lines += p.lines as u64;
         from = p.next;
     }
-    Printed {
+    LinesPrinted {
         sent: so_far,
         lines,
     }

@@ -18,18 +18,18 @@ use Rattle.delivery_lines.specs.declared.NoticeLine.{NoticeLine}
 use Rattle.delivery_lines.specs.NoticeLines.{Said, nothing, bad, opening, notice, saidBy, lineHeld, markLength, unmarked}
 use Rattle.delivery_lines.proofs.NoticeLengths.{said-long, said-four, fourOf}
 use Rattle.delivery_notices.specs.declared.NoticesTaken.{NoticesTaken}
-use Rattle.delivery_notices.specs.Notices.{Notice, Told, nothingTold, badTold, goodTold, saidTold, nextTold, linesTold, wholeTold, textTold}
+use Rattle.delivery_notices.specs.Notices.{Notice, NoticesTold, nothingTold, badTold, goodTold, saidTold, nextTold, linesTold, wholeTold, textTold}
 use Rattle.delivery_notices.specs.NoticeLists.{noticesTo, noticeHeld, toldHeld, toldIn, kindIn, firstIn, lineNotice, StoredIn, listsFit, TextIn}
 use Rattle.delivery_notices.specs.NoticeReading.{noNoticesTaken, badTaken, mayStand, wholeTaken, readLength, SaidIn, LineTaken, NoticeLinesIn}
 use Rattle.delivery_notices.proofs.NoticeEnds.{lines-none, line-more, line-length, is-last}
 
 -- ---- what the definitions say in one step
 
-after-no : (told : Told) (said : Said) → (told .bad ≡ 0 → ⊥) → {x : Told} → x ≡ toldHeld told → x ≡ toldHeld (nextTold told said)
+after-no : (told : NoticesTold) (said : Said) → (told .bad ≡ 0 → ⊥) → {x : NoticesTold} → x ≡ toldHeld told → x ≡ toldHeld (nextTold told said)
 unfolding nextTold
 after-no told said n q = rw (ne-eqb (told .bad) 0 n) q
 
-cut-is : (t : NoticesTaken) (calls ids : List ℕ) (told : Told) → toldIn t calls ids ≡ toldHeld told
+cut-is : (t : NoticesTaken) (calls ids : List ℕ) (told : NoticesTold) → toldIn t calls ids ≡ toldHeld told
     → toldIn (badTaken t) calls ids ≡ toldHeld (saidTold told bad)
 unfolding saidTold badTold
 cut-is t calls ids told q = ap badTold q
@@ -44,12 +44,12 @@ no-notices : (calls ids : List ℕ) → toldIn (noNoticesTaken true) calls ids �
 unfolding nothingTold noticesTo
 no-notices calls ids = refl
 
-one-line : (long : Bool) (t : Told) (line : List ℕ) (lines : List (List ℕ)) (cut : Bool) → cut ≡ (long && eqb (length lines) 0)
+one-line : (long : Bool) (t : NoticesTold) (line : List ℕ) (lines : List (List ℕ)) (cut : Bool) → cut ≡ (long && eqb (length lines) 0)
     → linesTold long t (line ∷ lines) ≡ linesTold long (nextTold t (cond cut bad (saidBy line))) lines
 unfolding linesTold
 one-line long t line lines cut e = rw e refl
 
-no-line : (long : Bool) (t : Told) → linesTold long t [] ≡ t
+no-line : (long : Bool) (t : NoticesTold) → linesTold long t [] ≡ t
 unfolding linesTold
 no-line long t = refl
 
@@ -95,17 +95,17 @@ map-snoc f [] x = refl
 map-snoc f (y ∷ ys) x = ap (λ (l : List Notice). f y ∷ l) (map-snoc f ys x)
 
 module _ (t : NoticesTaken) (n : NoticeLine) (calls ids : List ℕ) (z : t .bad ≡ 0) where
-  module _ (told : Told) (q : toldIn t calls ids ≡ toldHeld told) where
+  module _ (told : NoticesTold) (q : toldIn t calls ids ≡ toldHeld told) where
     opened-same : t .opened ≡ told .opened
-    opened-same = ap (λ (x : Told). x .opened) q
+    opened-same = ap (λ (x : NoticesTold). x .opened) q
 
     lines-same : t .lines ≡ told .lines
-    lines-same = ap (λ (x : Told). x .lines) q
+    lines-same = ap (λ (x : NoticesTold). x .lines) q
 
     after-good : record { opened = t .opened; date = t .date; notices = noticesTo calls ids (t .count); lines = t .lines + 1; bad = t .bad }
         ≡ toldHeld (saidTold told nothing)
     unfolding saidTold
-    after-good = rw z (ap (λ (x : Told). goodTold x (x .opened) (x .date) (x .notices)) q)
+    after-good = rw z (ap (λ (x : NoticesTold). goodTold x (x .opened) (x .date) (x .notices)) q)
 
     after-bad : toldIn (badTaken t) calls ids ≡ toldHeld (badTold told)
     unfolding badTold
@@ -115,7 +115,7 @@ module _ (t : NoticesTaken) (n : NoticeLine) (calls ids : List ℕ) (z : t .bad 
     unfolding saidTold
     after-cut = after-bad
 
-  comment-told : n .letter ≡ 35 → (told : Told) (said : Said) → n ≡ lineHeld said → toldIn t calls ids ≡ toldHeld told
+  comment-told : n .letter ≡ 35 → (told : NoticesTold) (said : Said) → n ≡ lineHeld said → toldIn t calls ids ≡ toldHeld told
       → record { opened = t .opened; date = t .date; notices = noticesTo calls ids (t .count); lines = t .lines + 1; bad = t .bad }
       ≡ toldHeld (saidTold told said)
   comment-told l told nothing e q = after-good told q
@@ -137,7 +137,7 @@ module _ (t : NoticesTaken) (n : NoticeLine) (calls ids : List ℕ) (z : t .bad 
   }
 
   module _ (c : n .letter ≡ 35 → ⊥) where
-    bad-told : n .letter ≡ 0 → (told : Told) (said : Said) → n ≡ lineHeld said → toldIn t calls ids ≡ toldHeld told
+    bad-told : n .letter ≡ 0 → (told : NoticesTold) (said : Said) → n ≡ lineHeld said → toldIn t calls ids ≡ toldHeld told
         → toldIn (badTaken t) calls ids ≡ toldHeld (saidTold told said)
     bad-told l told nothing e q = absurd (omega (arith, ap (λ (m : NoticeLine). m .letter) e, letter-nothing))
     bad-told l told bad e q = after-cut told q
@@ -150,14 +150,14 @@ module _ (t : NoticesTaken) (n : NoticeLine) (calls ids : List ℕ) (z : t .bad 
 
     module _ (b : n .letter ≡ 0 → ⊥) where
       -- a line that may not stand there
-      opening-strayed : mayStand 79 (t .opened) ≡ false → (told : Told) (d : ℕ) → toldIn t calls ids ≡ toldHeld told
+      opening-strayed : mayStand 79 (t .opened) ≡ false → (told : NoticesTold) (d : ℕ) → toldIn t calls ids ≡ toldHeld told
           → toldIn (badTaken t) calls ids ≡ toldHeld (saidTold told (opening d))
       unfolding saidTold
       opening-strayed m told d q =
           let e : eqb (told .opened) 0 ≡ false = rw (opened-same told q) at m in
           rw e (after-bad told q)
 
-      notice-strayed : (letter : ℕ) → (letter ≡ 79 → ⊥) → mayStand letter (t .opened) ≡ false → (told : Told) (k : Call) (id : List ℕ)
+      notice-strayed : (letter : ℕ) → (letter ≡ 79 → ⊥) → mayStand letter (t .opened) ≡ false → (told : NoticesTold) (k : Call) (id : List ℕ)
           → toldIn t calls ids ≡ toldHeld told
           → toldIn (badTaken t) calls ids ≡ toldHeld (saidTold told (notice k id))
       unfolding saidTold
@@ -165,7 +165,7 @@ module _ (t : NoticesTaken) (n : NoticeLine) (calls ids : List ℕ) (z : t .bad 
           let e : eqb (told .opened) 0 ≡ true = not-false (eqb (told .opened) 0) (rw (ne-eqb letter 79 o, opened-same told q) at m) in
           rw e (after-bad told q)
 
-      strayed-told : mayStand (n .letter) (t .opened) ≡ false → (told : Told) (said : Said) → n ≡ lineHeld said → toldIn t calls ids ≡ toldHeld told
+      strayed-told : mayStand (n .letter) (t .opened) ≡ false → (told : NoticesTold) (said : Said) → n ≡ lineHeld said → toldIn t calls ids ≡ toldHeld told
           → toldIn (badTaken t) calls ids ≡ toldHeld (saidTold told said)
       strayed-told m told nothing e q = absurd (c (ap (λ (x : NoticeLine). x .letter) e ∙ letter-nothing))
       strayed-told m told bad e q = absurd (b (ap (λ (x : NoticeLine). x .letter) e ∙ letter-bad))
@@ -187,15 +187,15 @@ module _ (t : NoticesTaken) (n : NoticeLine) (calls ids : List ℕ) (z : t .bad 
 
       module _ (m : mayStand (n .letter) (t .opened) ≡ true) where
         -- the O
-        opening-stands : n .letter ≡ 79 → (told : Told) (d : ℕ) → n .day ≡ d → toldIn t calls ids ≡ toldHeld told
+        opening-stands : n .letter ≡ 79 → (told : NoticesTold) (d : ℕ) → n .day ≡ d → toldIn t calls ids ≡ toldHeld told
             → record { opened = t .lines + 1; date = n .day; notices = noticesTo calls ids (t .count); lines = t .lines + 1; bad = t .bad }
             ≡ toldHeld (saidTold told (opening d))
         unfolding saidTold
         opening-stands l told d y q =
             let e : eqb (told .opened) 0 ≡ true = rw (l, opened-same told q) at m in
-            rw (e, y, z) (ap (λ (x : Told). goodTold x (x .lines + 1) d (x .notices)) q)
+            rw (e, y, z) (ap (λ (x : NoticesTold). goodTold x (x .lines + 1) d (x .notices)) q)
 
-        open-told : n .letter ≡ 79 → (told : Told) (said : Said) → n ≡ lineHeld said → toldIn t calls ids ≡ toldHeld told
+        open-told : n .letter ≡ 79 → (told : NoticesTold) (said : Said) → n ≡ lineHeld said → toldIn t calls ids ≡ toldHeld told
             → record { opened = t .lines + 1; date = n .day; notices = noticesTo calls ids (t .count); lines = t .lines + 1; bad = t .bad }
             ≡ toldHeld (saidTold told said)
         open-told l told nothing e q = absurd (c (ap (λ (x : NoticeLine). x .letter) e ∙ letter-nothing))
@@ -218,7 +218,8 @@ module _ (t : NoticesTaken) (n : NoticeLine) (calls ids : List ℕ) (z : t .bad 
 
         -- a call
         module _ (o : n .letter ≡ 79 → ⊥) (calls′ ids′ : List ℕ) (s : StoredIn (t .lines + 1) n (t .count) calls calls′ ids ids′) where
-          notice-stands : (told : Told) (k : Call) (id : List ℕ) → lineNotice (t .lines + 1) n ≡ noticeHeld (record { line = t .lines + 1; call = k; id = id })
+          notice-stands : (told : NoticesTold) (k : Call) (id : List ℕ)
+              → lineNotice (t .lines + 1) n ≡ noticeHeld (record { line = t .lines + 1; call = k; id = id })
               → toldIn t calls ids ≡ toldHeld told
               → record { opened = t .opened; date = t .date; notices = noticesTo calls′ ids′ (t .count + 1); lines = t .lines + 1; bad = t .bad }
               ≡ toldHeld (saidTold told (notice k id))
@@ -226,10 +227,11 @@ module _ (t : NoticesTaken) (n : NoticeLine) (calls ids : List ℕ) (z : t .bad 
           notice-stands told k id h q =
               let e : eqb (told .opened) 0 ≡ false = not-true (eqb (told .opened) 0) (rw (ne-eqb (n .letter) 79 o, opened-same told q) at m) in
               rw (e, z, s .is, h, lines-same told q, map-snoc noticeHeld (told .notices) (record { line = told .lines + 1; call = k; id = id }))
-              (ap (λ (x : Told). goodTold (record { opened = x .opened; date = x .date; notices = x .notices; lines = told .lines; bad = 0 }) (x .opened)
+              (ap (λ (x : NoticesTold). goodTold (record { opened = x .opened; date = x .date; notices = x .notices; lines = told .lines; bad = 0 }) (x .opened)
               (x .date) (x .notices ++ (noticeHeld (record { line = told .lines + 1; call = k; id = id }) ∷ []))) q)
 
-          call-told : (told : Told) (said : Said) → n ≡ lineHeld said → n .id ≡ getD (n .id) 0 0 ∷ getD (n .id) 1 0 ∷ getD (n .id) 2 0 ∷ getD (n .id) 3 0 ∷ []
+          call-told : (told : NoticesTold) (said : Said) → n ≡ lineHeld said
+              → n .id ≡ getD (n .id) 0 0 ∷ getD (n .id) 1 0 ∷ getD (n .id) 2 0 ∷ getD (n .id) 3 0 ∷ []
               → toldIn t calls ids ≡ toldHeld told
               → record { opened = t .opened; date = t .date; notices = noticesTo calls′ ids′ (t .count + 1); lines = t .lines + 1; bad = t .bad }
               ≡ toldHeld (saidTold told said)
@@ -246,25 +248,25 @@ module _ (t : NoticesTaken) (n : NoticeLine) (calls ids : List ℕ) (z : t .bad 
 -- ---- a line by its bytes
 
 module _ (t : NoticesTaken) (line : List ℕ) (calls ids : List ℕ) where
-  bad-same : (told : Told) → toldIn t calls ids ≡ toldHeld told → t .bad ≡ told .bad
-  bad-same told q = ap (λ (x : Told). x .bad) q
+  bad-same : (told : NoticesTold) → toldIn t calls ids ≡ toldHeld told → t .bad ≡ told .bad
+  bad-same told q = ap (λ (x : NoticesTold). x .bad) q
 
   -- after a bad line no further line changes what is taken
   pub line-after-bad : (cut : Bool) → (t .bad ≡ 0 → ⊥) → LineTaken t line cut calls calls ids ids t
   line-after-bad cut n = record { is = stays; grows = inl refl; lines = omega arith; fits = refl; calls-long = refl; ids-long = refl }
     where
-      stays : (told : Told) → toldIn t calls ids ≡ toldHeld told → toldIn t calls ids ≡ toldHeld (nextTold told (cond cut bad (saidBy line)))
+      stays : (told : NoticesTold) → toldIn t calls ids ≡ toldHeld told → toldIn t calls ids ≡ toldHeld (nextTold told (cond cut bad (saidBy line)))
       stays told q = after-no told (cond cut bad (saidBy line)) (λ e. n (bad-same told q ∙ e)) q
 
   module _ (z : t .bad ≡ 0) where
-    next-is : (told : Told) (said : Said) → toldIn t calls ids ≡ toldHeld told → nextTold told said ≡ saidTold told said
+    next-is : (told : NoticesTold) (said : Said) → toldIn t calls ids ≡ toldHeld told → nextTold told said ≡ saidTold told said
     unfolding nextTold
     next-is told said q = rw (eq-eqb (told .bad) 0 (sym (bad-same told q) ∙ z)) refl
 
-    cut-told : (told : Told) → toldIn t calls ids ≡ toldHeld told → toldIn (badTaken t) calls ids ≡ toldHeld (nextTold told bad)
+    cut-told : (told : NoticesTold) → toldIn t calls ids ≡ toldHeld told → toldIn (badTaken t) calls ids ≡ toldHeld (nextTold told bad)
     cut-told told q = rw (next-is told bad q) (after-cut-line told q)
       where
-        after-cut-line : (x : Told) → toldIn t calls ids ≡ toldHeld x → toldIn (badTaken t) calls ids ≡ toldHeld (saidTold x bad)
+        after-cut-line : (x : NoticesTold) → toldIn t calls ids ≡ toldHeld x → toldIn (badTaken t) calls ids ≡ toldHeld (saidTold x bad)
         after-cut-line x p = cut-is t calls ids x p
 
     -- a line that is cut off is taken as the bad line
@@ -299,7 +301,7 @@ module _ (t : NoticesTaken) (line : List ℕ) (calls ids : List ℕ) where
 -- after the lines that end before a place
 pub record Going (text : List ℕ) (long : Bool) (calls₀ ids₀ : List ℕ) (t : NoticesTaken) (calls ids : List ℕ) (from : ℕ) : Type 0 where
   -- what the lines so far tell
-  pub told : Told
+  pub told : NoticesTold
   -- what is taken and the lists hold what the lines so far tell
   pub stands : toldIn t calls ids ≡ toldHeld told
   -- the lines left, after those so far, tell what the whole text tells
@@ -380,7 +382,7 @@ module _ (text : List ℕ) (long : Bool) (calls₀ ids₀ : List ℕ) where
         ids-long = g .ids-long;
       }
     where
-      ends-told : (x : Told) → linesTold long x (linesFrom [] (drop from text)) ≡ x
+      ends-told : (x : NoticesTold) → linesTold long x (linesFrom [] (drop from text)) ≡ x
       ends-told x = rw (lines-none from text h) (no-line long x)
 
 -- ---- the whole text
@@ -398,20 +400,20 @@ module _ (t : NoticesTaken) where
   pub whole-missing : t .opened ≡ 0 → t .bad ≡ 0 → badTaken t ≡ wholeTaken t
   whole-missing e z = rw (eq-eqb (t .opened) 0 e, eq-eqb (t .bad) 0 z) refl
 
-  module _ (calls ids : List ℕ) (told : Told) (q : toldIn t calls ids ≡ toldHeld told) where
+  module _ (calls ids : List ℕ) (told : NoticesTold) (q : toldIn t calls ids ≡ toldHeld told) where
     held-opened : (t .opened ≡ 0 → ⊥) → toldIn t calls ids ≡ toldHeld (wholeTold told)
     unfolding wholeTold
-    held-opened n = rw (ne-eqb (told .opened) 0 (λ e. n (ap (λ (x : Told). x .opened) q ∙ e))) q
+    held-opened n = rw (ne-eqb (told .opened) 0 (λ e. n (ap (λ (x : NoticesTold). x .opened) q ∙ e))) q
 
     held-bad : t .opened ≡ 0 → (t .bad ≡ 0 → ⊥) → toldIn t calls ids ≡ toldHeld (wholeTold told)
     unfolding wholeTold nextTold
     held-bad e n =
-        rw (eq-eqb (told .opened) 0 (sym (ap (λ (x : Told). x .opened) q) ∙ e), ne-eqb (told .bad) 0 (λ z. n (ap (λ (x : Told). x .bad) q ∙ z))) q
+        rw (eq-eqb (told .opened) 0 (sym (ap (λ (x : NoticesTold). x .opened) q) ∙ e), ne-eqb (told .bad) 0 (λ z. n (ap (λ (x : NoticesTold). x .bad) q ∙ z))) q
 
     held-missing : t .opened ≡ 0 → t .bad ≡ 0 → toldIn (badTaken t) calls ids ≡ toldHeld (wholeTold told)
     unfolding wholeTold nextTold
     held-missing e z =
-        rw (eq-eqb (told .opened) 0 (sym (ap (λ (x : Told). x .opened) q) ∙ e), eq-eqb (told .bad) 0 (sym (ap (λ (x : Told). x .bad) q) ∙ z))
+        rw (eq-eqb (told .opened) 0 (sym (ap (λ (x : NoticesTold). x .opened) q) ∙ e), eq-eqb (told .bad) 0 (sym (ap (λ (x : NoticesTold). x .bad) q) ∙ z))
         (cut-is t calls ids told q)
 
     whole-held : toldIn (wholeTaken t) calls ids ≡ toldHeld (wholeTold told)

@@ -11,7 +11,7 @@ use Rattle.history_replay.specs.Replay.{shortIn, callOf}
 use Rattle.delivery_lines.specs.declared.NoticeLine.{NoticeLine}
 use Rattle.delivery_lines.specs.NoticeLines.{held}
 use Rattle.delivery_notices.specs.declared.NoticesTaken.{NoticesTaken}
-use Rattle.delivery_notices.specs.Notices.{Notice, Told, textTold}
+use Rattle.delivery_notices.specs.Notices.{Notice, NoticesTold, textTold}
 
 -- notice i of two lists: the number of its line and its call, five numbers, and the four bytes of its id;
 -- a kind number other than 0 to 3, which no text gives, is a call that every table refuses (`callOf`)
@@ -41,11 +41,11 @@ abbrev pub noticeHeld : Notice → Notice
 noticeHeld n = record { line = n .line; call = callHeld (n .call); id = n .id }
 
 -- what a text says with its calls as they are held
-abbrev pub toldHeld : Told → Told
+abbrev pub toldHeld : NoticesTold → NoticesTold
 toldHeld t = record { opened = t .opened; date = t .date; notices = map noticeHeld (t .notices); lines = t .lines; bad = t .bad }
 
 -- what the code holds of a text
-abbrev pub toldIn : NoticesTaken → List ℕ → List ℕ → Told
+abbrev pub toldIn : NoticesTaken → List ℕ → List ℕ → NoticesTold
 toldIn t calls ids =
     record { opened = t .opened; date = t .date; notices = noticesTo calls ids (t .count); lines = t .lines; bad = t .bad }
 

@@ -11,7 +11,7 @@ use Rattle.session_lines.specs.CommandLines.{linesFrom}
 use Rattle.delivery_lines.specs.declared.NoticeLine.{NoticeLine}
 use Rattle.delivery_lines.specs.NoticeLines.{Said, bad, saidBy, lineHeld}
 use Rattle.delivery_notices.specs.declared.NoticesTaken.{NoticesTaken}
-use Rattle.delivery_notices.specs.Notices.{Told, nothingTold, saidTold, nextTold, linesTold}
+use Rattle.delivery_notices.specs.Notices.{NoticesTold, nothingTold, saidTold, nextTold, linesTold}
 use Rattle.delivery_notices.specs.NoticeLists.{toldIn, toldHeld}
 
 -- before the first line, with room or without
@@ -36,7 +36,7 @@ readLength n = cond (ltb 65537 n) 65537 n
 
 -- of what is held before and after a line, by what it says: where it stands for what the lines so far say, it does so after this one
 pub record SaidIn (t : NoticesTaken) (n : NoticeLine) (calls calls′ ids ids′ : List ℕ) (r : NoticesTaken) : Type 0 where
-  pub is : (told : Told) (said : Said) → n ≡ lineHeld said → n .id ≡ getD (n .id) 0 0 ∷ getD (n .id) 1 0 ∷ getD (n .id) 2 0 ∷ getD (n .id) 3 0 ∷ []
+  pub is : (told : NoticesTold) (said : Said) → n ≡ lineHeld said → n .id ≡ getD (n .id) 0 0 ∷ getD (n .id) 1 0 ∷ getD (n .id) 2 0 ∷ getD (n .id) 3 0 ∷ []
       → toldIn t calls ids ≡ toldHeld told → toldIn r calls′ ids′ ≡ toldHeld (saidTold told said)
   pub grows : (r .count ≡ t .count) ⊎ ((r .count ≡ t .count + 1) × ((n .letter ≡ 35 → ⊥) × (n .letter ≡ 0 → ⊥)))
   pub lines : r .lines ≡ t .lines + 1
@@ -46,7 +46,7 @@ pub record SaidIn (t : NoticesTaken) (n : NoticeLine) (calls calls′ ids ids′
 
 -- the same of a line by its bytes; one that is cut is bad
 pub record LineTaken (t : NoticesTaken) (line : List ℕ) (cut : Bool) (calls calls′ ids ids′ : List ℕ) (r : NoticesTaken) : Type 0 where
-  pub is : (told : Told) → toldIn t calls ids ≡ toldHeld told → toldIn r calls′ ids′ ≡ toldHeld (nextTold told (cond cut bad (saidBy line)))
+  pub is : (told : NoticesTold) → toldIn t calls ids ≡ toldHeld told → toldIn r calls′ ids′ ≡ toldHeld (nextTold told (cond cut bad (saidBy line)))
   pub grows : (r .count ≡ t .count) ⊎ ((r .count ≡ t .count + 1) × (9 ≤ length line))
   pub lines : r .lines ≤ t .lines + 1
   pub fits : r .fits ≡ t .fits

@@ -6,5 +6,5 @@ mod PrintableRows
 pub mod Orders
 mod DeliveredPlaces
 mod OwnReceipts
-mod Inputs
+mod OwnInputs
 pub mod Own

@@ -27,7 +27,7 @@ use Rattle.delivery_own.specs.Own.{itemBack, received, EachBack, underHe
 use Rattle.delivery_own.proofs.Orders.{order-same, order-length, order-map, order-each, order-for}
 use Rattle.delivery_own.proofs.DeliveredPlaces.{open-table, each-to, rows-few, own-at, own-among, own-opens, own-closed}
 use Rattle.delivery_own.proofs.OwnReceipts.{all-received}
-use Rattle.delivery_own.proofs.Inputs.{input-short}
+use Rattle.delivery_own.proofs.OwnInputs.{input-short}
 
 -- ---- where every key is the same there is no line
 

@@ -11,7 +11,7 @@ use Rattle.history.specs.Book.{Call, roll, close, reopen, measure}
 use Rattle.session_lines.specs.CommandLines.{linesFrom}
 use Rattle.delivery_lines.specs.NoticeLines.{Said, nothing, bad, opening, notice, saidBy, lineHeld, markLength, unmarked}
 use Rattle.delivery_lines.proofs.NoticeLengths.{said-long}
-use Rattle.delivery_notices.specs.Notices.{Told, nothingTold, badTold, saidTold, nextTold, linesTold, wholeTold, textTold}
+use Rattle.delivery_notices.specs.Notices.{NoticesTold, nothingTold, badTold, saidTold, nextTold, linesTold, wholeTold, textTold}
 
 -- the bytes of some lines, each with its line feed
 unfoldable size : List (List ℕ) → ℕ
@@ -41,17 +41,18 @@ call-long line (close day) id e = said-long line 67 (ap (λ (s : Said). lineHeld
 call-long line (reopen day) id e = said-long line 69 (ap (λ (s : Said). lineHeld s .letter) e) (λ z. omega (arith, z)) (λ z. omega (arith, z))
 call-long line (measure p q price) id e = said-long line 77 (ap (λ (s : Said). lineHeld s .letter) e) (λ z. omega (arith, z)) (λ z. omega (arith, z))
 
-bad-few : (t : Told) → length (badTold t .notices) ≡ length (t .notices)
+bad-few : (t : NoticesTold) → length (badTold t .notices) ≡ length (t .notices)
 unfolding badTold
 bad-few t = refl
 
-said-few : (t : Told) (line : List ℕ) (said : Said) → said ≡ saidBy line → 10 * length (saidTold t said .notices) ≤ 10 * length (t .notices) + length line + 1
+said-few : (t : NoticesTold) (line : List ℕ) (said : Said) → said ≡ saidBy line
+    → 10 * length (saidTold t said .notices) ≤ 10 * length (t .notices) + length line + 1
 unfolding saidTold
 said-few t line nothing e = omega arith
 said-few t line bad e = omega (arith, bad-few t)
 said-few t line (opening day) e = go (eqb (t .opened) 0)
   where
-    first : Told
+    first : NoticesTold
     first = record { opened = t .lines + 1; date = day; notices = t .notices; lines = t .lines + 1; bad = 0 }
 
     go : (b : Bool) → 10 * length (cond b first (badTold t) .notices) ≤ 10 * length (t .notices) + length line + 1
@@ -59,7 +60,7 @@ said-few t line (opening day) e = go (eqb (t .opened) 0)
     go false = omega (arith, bad-few t)
 said-few t line (notice call id) e = go (eqb (t .opened) 0)
   where
-    more : Told
+    more : NoticesTold
     more =
         record {
           opened = t .opened;
@@ -73,11 +74,12 @@ said-few t line (notice call id) e = go (eqb (t .opened) 0)
     go true = omega (arith, bad-few t)
     go false = omega (arith, call-long line call id e, length-append (t .notices) (record { line = t .lines + 1; call = call; id = id } ∷ []))
 
-bad-line : (t : Told) (line : List ℕ) → 10 * length (saidTold t bad .notices) ≤ 10 * length (t .notices) + length line + 1
+bad-line : (t : NoticesTold) (line : List ℕ) → 10 * length (saidTold t bad .notices) ≤ 10 * length (t .notices) + length line + 1
 unfolding saidTold
 bad-line t line = omega (arith, bad-few t)
 
-next-few : (t : Told) (line : List ℕ) (cut : Bool) → 10 * length (nextTold t (cond cut bad (saidBy line)) .notices) ≤ 10 * length (t .notices) + length line + 1
+next-few : (t : NoticesTold) (line : List ℕ) (cut : Bool)
+    → 10 * length (nextTold t (cond cut bad (saidBy line)) .notices) ≤ 10 * length (t .notices) + length line + 1
 unfolding nextTold
 next-few t line cut = go (eqb (t .bad) 0) cut
   where
@@ -89,7 +91,7 @@ next-few t line cut = go (eqb (t .bad) 0) cut
 added : (a b c d e : ℕ) → 10 * a ≤ 10 * b + c → 10 * b ≤ 10 * d + e + 1 → 10 * a ≤ 10 * d + (e + 1 + c)
 added a b c d e h k = omega arith
 
-lines-few : (long : Bool) (t : Told) (lines : List (List ℕ)) → 10 * length (linesTold long t lines .notices) ≤ 10 * length (t .notices) + size lines
+lines-few : (long : Bool) (t : NoticesTold) (lines : List (List ℕ)) → 10 * length (linesTold long t lines .notices) ≤ 10 * length (t .notices) + size lines
 unfolding linesTold size
 lines-few long t [] = omega arith
 lines-few long t (line ∷ lines) =
@@ -98,7 +100,7 @@ lines-few long t (line ∷ lines) =
     added (length (linesTold long next lines .notices)) (length (next .notices)) (size lines) (length (t .notices)) (length line)
     (lines-few long next lines) (next-few t line cut)
 
-whole-few : (t : Told) → length (wholeTold t .notices) ≡ length (t .notices)
+whole-few : (t : NoticesTold) → length (wholeTold t .notices) ≡ length (t .notices)
 unfolding wholeTold nextTold saidTold badTold
 whole-few t = go (eqb (t .opened) 0) (eqb (t .bad) 0)
   where

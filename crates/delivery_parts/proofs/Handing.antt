@@ -22,7 +22,7 @@ use Rattle.session_text.specs.TermsText.{decimal}
 use Rattle.file_text_print.specs.Contents.{LineWith, idText}
 use Rattle.file_text_print.proofs.TextLengths.{decimal-short, id-short}
 use Rattle.delivery_notices.specs.declared.NoticesTaken.{NoticesTaken}
-use Rattle.delivery_notices.specs.Notices.{Told, textTold}
+use Rattle.delivery_notices.specs.Notices.{NoticesTold, textTold}
 use Rattle.delivery_notices.specs.NoticeLists.{noticesTo, noticeAt, noticeHeld, listsFit, toldIn, toldHeld}
 use Rattle.delivery_rows.specs.Delivery.{deliveryHeading, rowsText}
 use Rattle.delivery_refusals.specs.Refusals.{noticesName, masterText, badNoticeText, refusedNoticeText, refusalTold, placeRefusals, refusalLine, refusalLines}
@@ -190,16 +190,16 @@ lists-fit calls ids h k = and-both (le-leb 32770 calls h) (le-leb 26216 ids k)
 
 module _ (notices calls ids : List ℕ) (t : NoticesTaken) (held : toldIn t calls ids ≡ toldHeld (textTold notices)) where
   bad-is : t .bad ≡ textTold notices .bad
-  bad-is = ap (λ (x : Told). x .bad) held
+  bad-is = ap (λ (x : NoticesTold). x .bad) held
 
   date-is : t .date ≡ textTold notices .date
-  date-is = ap (λ (x : Told). x .date) held
+  date-is = ap (λ (x : NoticesTold). x .date) held
 
   opened-is : t .opened ≡ textTold notices .opened
-  opened-is = ap (λ (x : Told). x .opened) held
+  opened-is = ap (λ (x : NoticesTold). x .opened) held
 
   notices-are : noticesTo calls ids (t .count) ≡ map noticeHeld (textTold notices .notices)
-  notices-are = ap (λ (x : Told). x .notices) held
+  notices-are = ap (λ (x : NoticesTold). x .notices) held
 
   -- the count of notices held of a text is at most 6,553
   pub count-few : t .count ≤ 6553
@@ -262,7 +262,7 @@ module _ (f notices : List ℕ) (verdict : Answer Calendar) (own : verdict ≡ j
 -- ---- place by place
 
 module _ (f notices : List ℕ) (verdict : Answer Calendar) (t : NoticesTaken) (calls ids : List ℕ) (g : Runs f notices verdict t calls ids) where
-  abbrev told : Told
+  abbrev told : NoticesTold
   told = textTold notices
 
   abbrev rowParts : ℕ → List ℕ

@@ -18,7 +18,7 @@ use Rattle.table.specs.declared.Outcome.{Outcome}
 use Rattle.table.specs.Table.{openIn}
 use Rattle.table.proofs.Opens.{open-is}
 use Rattle.history.specs.History.{tableRun}
-use Rattle.delivery_notices.specs.Notices.{Told}
+use Rattle.delivery_notices.specs.Notices.{NoticesTold}
 use Rattle.delivery_notices.specs.NoticeLists.{noticesTo, noticeHeld}
 use Rattle.delivery_tables.specs.declared.Delivered.{Delivered}
 use Rattle.delivery_tables.specs.Tables.{callsFor, refusalsFor, NoticesMade, Delivers}
@@ -35,18 +35,18 @@ unfolding rowsText
 no-row = refl
 
 -- by the file's own verdict a place gives what the file opens
-pub rows-own : (verdict : Answer Calendar) (f : List ℕ) (t : Told) (p : ℕ) → verdict ≡ judgeCall f
+pub rows-own : (verdict : Answer Calendar) (f : List ℕ) (t : NoticesTold) (p : ℕ) → verdict ≡ judgeCall f
     → rowsBy (openIn verdict f) f t p ≡ placeRows f (t .date) (t .notices) p
 unfolding rowsBy placeRows opensAt
 rows-own verdict f t p e = rw (e, open-is f (idAt f p) (t .date)) refl
 
 -- by the file's own verdict the lines of a place's refused calls are those of the file
-pub refusals-own : (verdict : Answer Calendar) (f : List ℕ) (t : Told) (p : ℕ) → verdict ≡ judgeCall f
+pub refusals-own : (verdict : Answer Calendar) (f : List ℕ) (t : NoticesTold) (p : ℕ) → verdict ≡ judgeCall f
     → refusalsBy (openIn verdict f) f t p ≡ placeRefusals f t p
 unfolding refusalsBy placeRefusals productRefusals
 refusals-own verdict f t p e = rw (e, open-is f (idAt f p) (t .date)) refl
 
-module _ (opening : List ℕ → ℕ → Outcome) (f : List ℕ) (t : Told) (p : ℕ) where
+module _ (opening : List ℕ → ℕ → Outcome) (f : List ℕ) (t : NoticesTold) (p : ℕ) where
   rows-empty : isRecord f p ≡ false → [] ≡ rowsText (rowsBy opening f t p)
   unfolding rowsBy
   rows-empty e = rw e (sym no-row)
@@ -134,10 +134,10 @@ module _ (opening : List ℕ → ℕ → Outcome) (f : List ℕ) (p date count :
             refusals-long = m .long;
           }
         where
-          number : (t : Told) → date ≡ t .date → d .refusal ≡ opening (idAt f p) (t .date) .refusal
+          number : (t : NoticesTold) → date ≡ t .date → d .refusal ≡ opening (idAt f p) (t .date) .refusal
           number t e = m .refusal ∙ rw (i, e) refl
 
-          closed : (t : Told) → date ≡ t .date → opening (idAt f p) (t .date) .refusal ≡ 0 → ⊥
+          closed : (t : NoticesTold) → date ≡ t .date → opening (idAt f p) (t .date) .refusal ≡ 0 → ⊥
           closed t e z = n (number t e ∙ z)
 
       -- a place whose product is opened gives the rows of its table and the lines of its refused calls
@@ -156,18 +156,18 @@ module _ (opening : List ℕ → ℕ → Outcome) (f : List ℕ) (p date count :
           made : NoticesMade (opening id date .table) id (noticesTo calls ids count) refusals refusals′ (d .table)
           made = m .made (m .fits ∙ rw (notices-length calls ids count) (le-leb count (length refusals) few))
 
-          opened : (t : Told) → date ≡ t .date → opening (idAt f p) (t .date) .refusal ≡ 0
+          opened : (t : NoticesTold) → date ≡ t .date → opening (idAt f p) (t .date) .refusal ≡ 0
           opened t g = sym (m .refusal ∙ rw (i, g) refl) ∙ z
 
-          table-is : (t : Told) → date ≡ t .date → noticesTo calls ids count ≡ map noticeHeld (t .notices)
+          table-is : (t : NoticesTold) → date ≡ t .date → noticesTo calls ids count ≡ map noticeHeld (t .notices)
               → d .table ≡ tableRun (opening (idAt f p) (t .date) .table) (callsFor (idAt f p) (t .notices))
           table-is t g s = made .table ∙ rw (s, i, g) (run-same (idAt f p) (opening (idAt f p) (t .date) .table) (t .notices))
 
-          rows-are : (t : Told) → date ≡ t .date → noticesTo calls ids count ≡ map noticeHeld (t .notices)
+          rows-are : (t : NoticesTold) → date ≡ t .date → noticesTo calls ids count ≡ map noticeHeld (t .notices)
               → rowsText (tableRows id (d .table)) ≡ rowsText (rowsBy opening f t p)
           rows-are t g s = rw (table-is t g s, i) (rows-open opening f t p h (opened t g))
 
-          told-are : (t : Told) → date ≡ t .date → noticesTo calls ids count ≡ map noticeHeld (t .notices)
+          told-are : (t : NoticesTold) → date ≡ t .date → noticesTo calls ids count ≡ map noticeHeld (t .notices)
               → refusalLines id (t .opened) 0 calls refusals′ (count + 1) ≡ refusalsBy opening f t p
           told-are t g s =
               notices-told id (t .opened) calls ids refusals′ count (t .notices) (refusalsFor id (opening id date .table) (t .notices))

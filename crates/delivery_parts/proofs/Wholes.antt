@@ -12,7 +12,7 @@ use lib.ListN.{length, getD, take, length-append}
 use lib.Seq.{take-suc, length-take-le}
 use Rattle.file_ids.specs.Ids.{placeCount}
 use Rattle.history.specs.Book.{Call, roll, close, reopen, measure}
-use Rattle.delivery_notices.specs.Notices.{Notice, Told, textTold}
+use Rattle.delivery_notices.specs.Notices.{Notice, NoticesTold, textTold}
 use Rattle.delivery_notices.specs.NoticeLists.{noticeAt, noticesTo, callHeld, noticeHeld}
 use Rattle.delivery_tables.specs.Tables.{isMeasure}
 use Rattle.delivery_rows.specs.Delivery.{Row, rowText, rowsText, placeRows, rowsTo}
@@ -36,7 +36,7 @@ row-parts f date ns (suc n) =
 
 -- ---- refused calls
 
-refusal-parts : (f : List ℕ) (t : Told) (n : ℕ) → refusalsTo f t n ≡ partsText (placeRefusals f t) n
+refusal-parts : (f : List ℕ) (t : NoticesTold) (n : ℕ) → refusalsTo f t n ≡ partsText (placeRefusals f t) n
 unfolding refusalsTo partsText
 refusal-parts f t zero = refl
 refusal-parts f t (suc n) = ap (λ (l : List ℕ). l ++ placeRefusals f t n) (refusal-parts f t n)

@@ -8,14 +8,14 @@ use Rattle.questions.specs.Questions.{Answer}
 use Rattle.calendar.specs.declared.Calendar.{Calendar}
 use Rattle.file_load.specs.Load.{judgeCall}
 use Rattle.delivery_notices.specs.declared.NoticesTaken.{NoticesTaken}
-use Rattle.delivery_notices.specs.Notices.{Told, textTold}
+use Rattle.delivery_notices.specs.Notices.{NoticesTold, textTold}
 use Rattle.delivery_notices.specs.NoticeLists.{toldIn, toldHeld}
 use Rattle.delivery_rows.specs.Delivery.{deliveryHeading, rowsText, placeRows}
 use Rattle.delivery_refusals.specs.Refusals.{placeRefusals}
 use Rattle.delivery_parts.specs.PlaceParts.{partsText}
 
 -- the rows of the product at a place, as a text
-unfoldable pub placeRowsText : List ℕ → Told → ℕ → List ℕ
+unfoldable pub placeRowsText : List ℕ → NoticesTold → ℕ → List ℕ
 placeRowsText f t p = rowsText (placeRows f (t .date) (t .notices) p)
 
 -- rows are printed: the file is accepted and its verdict at hand, no line of the notices is bad, and two lists hold them

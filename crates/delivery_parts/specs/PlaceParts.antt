@@ -11,7 +11,7 @@ use Rattle.file_ids.specs.Ids.{placeCount, isRecord, idAt}
 use Rattle.file_load.specs.Load.{loadAsks}
 use Rattle.table.specs.declared.Outcome.{Outcome}
 use Rattle.history.specs.History.{tableRun}
-use Rattle.delivery_notices.specs.Notices.{Told, textTold}
+use Rattle.delivery_notices.specs.Notices.{NoticesTold, textTold}
 use Rattle.delivery_notices.specs.NoticeLists.{noticesTo, noticeHeld}
 use Rattle.delivery_tables.specs.Tables.{callsFor, refusalsFor}
 use Rattle.delivery_rows.specs.Delivery.{Row, deliveryHeading, rowsText, tableRows, placeRows, delivery}
@@ -49,13 +49,13 @@ abbrev pub noPart : Bool → PlacePart
 noPart fits = record { fits = fits; holds = false; id = replicate 4 0; refusal = 0; length = 0 }
 
 -- the rows of the product at a place, by what an id and a date open; by what the file opens they are `placeRows`
-unfoldable pub rowsBy : (List ℕ → ℕ → Outcome) → List ℕ → Told → ℕ → List Row
+unfoldable pub rowsBy : (List ℕ → ℕ → Outcome) → List ℕ → NoticesTold → ℕ → List Row
 rowsBy opening f t p =
     cond (isRecord f p && eqb (opening (idAt f p) (t .date) .refusal) 0)
     (tableRows (idAt f p) (tableRun (opening (idAt f p) (t .date) .table) (callsFor (idAt f p) (t .notices)))) []
 
 -- the lines of its refused calls likewise; by what the file opens they are `placeRefusals`
-unfoldable pub refusalsBy : (List ℕ → ℕ → Outcome) → List ℕ → Told → ℕ → List ℕ
+unfoldable pub refusalsBy : (List ℕ → ℕ → Outcome) → List ℕ → NoticesTold → ℕ → List ℕ
 refusalsBy opening f t p =
     cond (isRecord f p)
     (cond (eqb (opening (idAt f p) (t .date) .refusal) 0)
@@ -67,9 +67,9 @@ refusalsBy opening f t p =
 pub record PlaceIn (opening : List ℕ → ℕ → Outcome) (f : List ℕ) (p date count : ℕ) (calls ids refusals refusals′ out out′ : List ℕ)
     (r : PlacePart) : Type 0 where
   pub fits : r .fits ≡ partFits count (length refusals) (length out)
-  pub rows : r .fits ≡ true → (t : Told) → date ≡ t .date → noticesTo calls ids count ≡ map noticeHeld (t .notices)
+  pub rows : r .fits ≡ true → (t : NoticesTold) → date ≡ t .date → noticesTo calls ids count ≡ map noticeHeld (t .notices)
       → take (r .length) out′ ≡ rowsText (rowsBy opening f t p)
-  pub told : r .fits ≡ true → (t : Told) → date ≡ t .date → noticesTo calls ids count ≡ map noticeHeld (t .notices)
+  pub told : r .fits ≡ true → (t : NoticesTold) → date ≡ t .date → noticesTo calls ids count ≡ map noticeHeld (t .notices)
       → cond (r .holds) (refusalLines (r .id) (t .opened) (r .refusal) calls refusals′ (count + 1)) [] ≡ refusalsBy opening f t p
   pub within : r .length ≤ length out′
   pub out-long : length out′ ≡ length out
@@ -77,7 +77,7 @@ pub record PlaceIn (opening : List ℕ → ℕ → Outcome) (f : List ℕ) (p da
 
 -- the parts make up the whole: a run hands out the heading and the rows of each place,
 -- and of each place the lines of its refused calls, then those of the measures of unknown ids
-pub record WholeDelivery (f notices : List ℕ) (t : Told) : Type 0 where
+pub record WholeDelivery (f notices : List ℕ) (t : NoticesTold) : Type 0 where
   pub rows : deliverText f notices
       ≡ cond (eqb (firstNo (loadAsks f)) 0 && eqb (t .bad) 0)
       (deliveryHeading ++ partsText (λ p. rowsText (placeRows f (t .date) (t .notices) p)) (placeCount f)) []

@@ -2,6 +2,7 @@
 use product::Product;
 ghost use mathlib.Core.Path.{_≡_};
 ghost use Rattle.file_load.specs.Products.{sameId};
+ghost use Rattle.delivery_products.specs.IdList.{idIn};
 ghost use Rattle.delivery_products.specs.ProductsByPlace.{noProduct, placeCall, placeAnswer};
 
 // The refusal, 0 where the place holds a record, and the record's product, zeros with a refusal.
@@ -38,6 +39,19 @@ pub fn product_in(file: &[u8], place: usize) -> PlaceProduct
         refusal: 0,
         product,
     }
+}
+
+// The four bytes of id i of a list; 0 past its end.
+pub fn id_in(ids: &[u8], i: u32) -> file_records::FourBytes
+    ensures { λ r. ⌜ r ≡ idIn (now (ids .entry)) i ⌝ }
+{
+    let at = 4 * (i as usize);
+    [
+        file_blocks::byte_at(ids, at),
+        file_blocks::byte_at(ids, at + 1),
+        file_blocks::byte_at(ids, at + 2),
+        file_blocks::byte_at(ids, at + 3),
+    ]
 }
 
 // Whether two ids are the same.

@@ -16,7 +16,7 @@ use Rattle.file_load.specs.Load.{loadAsks, judgeCall}
 use Rattle.session_lines.specs.CommandLines.{linesFrom}
 use Rattle.delivery_lines.specs.NoticeLines.{Said, nothing, bad, opening, notice, saidBy, markLength, unmarked}
 use Rattle.delivery_notices.specs.declared.NoticesTaken.{NoticesTaken}
-use Rattle.delivery_notices.specs.Notices.{Notice, Told, nothingTold, badTold, saidTold, nextTold, linesTold, wholeTold, textTold}
+use Rattle.delivery_notices.specs.Notices.{Notice, NoticesTold, nothingTold, badTold, saidTold, nextTold, linesTold, wholeTold, textTold}
 use Rattle.delivery_notices.specs.NoticeLists.{noticesTo, noticeHeld, TextIn}
 use Rattle.delivery_refusals.specs.Refusals.{masterText, badNoticeText}
 use Rattle.delivery_parts.proofs.Wholes.{notices-length}
@@ -25,11 +25,11 @@ use Rattle.delivery_queries.proofs.QueryStandings.{standing-own}
 
 -- ---- how many notices
 
-bad-same : (t : Told) → badTold t .notices ≡ t .notices
+bad-same : (t : NoticesTold) → badTold t .notices ≡ t .notices
 unfolding badTold
 bad-same t = refl
 
-said-more : (t : Told) (said : Said) → length (saidTold t said .notices) ≤ length (t .notices) + 1
+said-more : (t : NoticesTold) (said : Said) → length (saidTold t said .notices) ≤ length (t .notices) + 1
 unfolding saidTold
 said-more t nothing = omega arith
 said-more t bad = omega (arith, ap length (bad-same t))
@@ -57,7 +57,7 @@ said-more t (notice call id) = go (eqb (t .opened) 0)
     go true = omega (arith, ap length (bad-same t))
     go false = omega (arith, length-append (t .notices) (one ∷ []))
 
-next-more : (t : Told) (said : Said) → length (nextTold t said .notices) ≤ length (t .notices) + 1
+next-more : (t : NoticesTold) (said : Said) → length (nextTold t said .notices) ≤ length (t .notices) + 1
 unfolding nextTold
 next-more t said = go (eqb (t .bad) 0)
   where
@@ -65,7 +65,7 @@ next-more t said = go (eqb (t .bad) 0)
     go true = said-more t said
     go false = omega arith
 
-lines-more : (long : Bool) (t : Told) (lines : List (List ℕ)) → length (linesTold long t lines .notices) ≤ length (t .notices) + length lines
+lines-more : (long : Bool) (t : NoticesTold) (lines : List (List ℕ)) → length (linesTold long t lines .notices) ≤ length (t .notices) + length lines
 unfolding linesTold
 lines-more long t [] = omega arith
 lines-more long t (line ∷ lines) =
@@ -86,7 +86,7 @@ lines-most begun (byte ∷ rest) = go (eqb byte 10) (lines-most [] rest) (lines-
     go true p q = omega arith
     go false p q = omega arith
 
-whole-same : (t : Told) → length (wholeTold t .notices) ≤ length (t .notices)
+whole-same : (t : NoticesTold) → length (wholeTold t .notices) ≤ length (t .notices)
 unfolding wholeTold nextTold saidTold
 whole-same t = go (eqb (t .opened) 0) (eqb (t .bad) 0)
   where
@@ -107,7 +107,7 @@ notices-few : (text : List ℕ) → length (textTold text .notices) ≤ 65538
 unfolding textTold
 notices-few text =
     let part : List ℕ = unmarked (take 65537 text) in
-    let t : Told = linesTold (ltb 65536 (length text)) nothingTold (linesFrom [] part) in
+    let t : NoticesTold = linesTold (ltb 65536 (length text)) nothingTold (linesFrom [] part) in
     omega (
       arith,
       whole-same t,
@@ -123,7 +123,7 @@ notices-few text =
 module _ (judged : FileCalendar) (f text calls calls′ ids ids′ : List ℕ) (t : NoticesTaken) (m : TextIn text calls calls′ ids ids′ t)
     (fits : t .fits ≡ true) where
   held : noticesTo calls′ ids′ (t .count) ≡ map noticeHeld (textTold text .notices)
-  held = ap (λ (x : Told). x .notices) (m .is fits)
+  held = ap (λ (x : NoticesTold). x .notices) (m .is fits)
 
   few : t .count ≤ 65538
   few =
@@ -134,11 +134,11 @@ module _ (judged : FileCalendar) (f text calls calls′ ids ids′ : List ℕ) (
   -- by the file's own verdict and with room, what is known by a text's lists is what is known of the file and the text
   pub told-own : calendarAnswer judged ≡ judgeCall f → (room : ℕ) → 65538 ≤ room
       → (id : List ℕ) → standingIn judged f t calls′ ids′ room id ≡ standingOf f (textTold text .date) (textTold text .notices) id
-  told-own v room h = standing-own judged f t calls′ ids′ room (textTold text) v (omega (arith, few)) (ap (λ (x : Told). x .date) (m .is fits)) held
+  told-own v room h = standing-own judged f t calls′ ids′ room (textTold text) v (omega (arith, few)) (ap (λ (x : NoticesTold). x .date) (m .is fits)) held
 
   -- the bad line held of a text is the text's own
   pub told-bad : t .bad ≡ textTold text .bad
-  told-bad = ap (λ (x : Told). x .bad) (m .is fits)
+  told-bad = ap (λ (x : NoticesTold). x .bad) (m .is fits)
 
 -- ---- standard error
 

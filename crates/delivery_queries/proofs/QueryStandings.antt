@@ -21,7 +21,7 @@ use Rattle.table.proofs.Opens.{open-is}
 use Rattle.history.specs.History.{tableRun}
 use Rattle.delivery_products.proofs.IdFound.{find-there, find-product, find-none}
 use Rattle.delivery_notices.specs.declared.NoticesTaken.{NoticesTaken}
-use Rattle.delivery_notices.specs.Notices.{Told}
+use Rattle.delivery_notices.specs.Notices.{NoticesTold}
 use Rattle.delivery_notices.specs.NoticeLists.{noticesTo, noticeHeld}
 use Rattle.delivery_tables.specs.declared.Delivered.{Delivered}
 use Rattle.delivery_tables.specs.Tables.{callsFor, Delivers}
@@ -78,7 +78,7 @@ module _ (judged : FileCalendar) (f : List ℕ) (t : NoticesTaken) (calls ids : 
 -- ---- by the file's own verdict, and by the notices of a text
 
 -- by the file's own verdict, and with room for the refusals, what the lists hold of a product is what is known of it
-pub standing-own : (judged : FileCalendar) (f : List ℕ) (t : NoticesTaken) (calls ids : List ℕ) (room : ℕ) (told : Told) → calendarAnswer judged
+pub standing-own : (judged : FileCalendar) (f : List ℕ) (t : NoticesTaken) (calls ids : List ℕ) (room : ℕ) (told : NoticesTold) → calendarAnswer judged
     ≡ judgeCall f → t .count ≤ room
     → t .date ≡ told .date → noticesTo calls ids (t .count) ≡ map noticeHeld (told .notices)
     → (id : List ℕ) → standingIn judged f t calls ids room id ≡ standingOf f (told .date) (told .notices) id

@@ -15,24 +15,26 @@ use Rattle.session_lines.specs.declared.Line.{Line}
 use Rattle.session_lines.specs.CommandLines.{emptyLine}
 use Rattle.file_text_print.specs.Contents.{LineWith}
 use Rattle.streams.specs.Transfers.{Grew}
-use Rattle.streams.specs.declared.output.Told as stream
+use Rattle.streams.specs.declared.output.Told.{Told}
 use Rattle.streams.specs.declared.reads.Input.{Input}
 use Rattle.delivery_lines.specs.NoticeLines.{markLength, unmarked}
 use Rattle.delivery_lines.proofs.Marks.{unmarked-more}
 use Rattle.delivery_items.specs.declared.LongLine.{LongLine}
 use Rattle.delivery_items.specs.declared.LineRead.{LineRead}
+use Rattle.delivery_items.specs.declared.LineEnd.{LineEnd}
 use Rattle.delivery_items.specs.Items.{emptyLong, heldRead}
-use Rattle.delivery_receipts.specs.declared.LineEnd.{LineEnd}
+use Rattle.delivery_items.specs.LineEnds.{lineEnd}
+use Rattle.delivery_items.proofs.LineEnds.{end-used}
 use Rattle.delivery_receipts.specs.Receipts.{Receipt, noReceipt, sortOf, lineBrought, lineReceived, receiptOf, restReceived}
-use Rattle.delivery_receipts.specs.Receiving.{Lists, receivedTo, roomIn, toldOf, receiptIn, SameLengths, LineFed}
-use Rattle.delivery_receipts.proofs.RowLinesFed.{whole-input}
+use Rattle.delivery_receipts.specs.Receiving.{Lists, receivedTo, roomIn, toldOf, receiptIn, SameLengths}
+use Rattle.delivery_receipts.proofs.RowLinesFed.{received-ended, received-begun, whole-input}
 use Rattle.delivery_inputs.specs.declared.RowTaken.{RowTaken}
 use Rattle.delivery_inputs.specs.ReconcileInputs.{badRowsText, badsCounted, RowIn}
 use Rattle.delivery_inputs.proofs.ShortLines.{line-room, line-fits, line-long}
 use Rattle.delivery_inputs.proofs.BadLinesTold.{told-short, rows-append}
-use Rattle.delivery_reading.specs.declared.Reading.{Reading}
+use Rattle.delivery_reading.specs.declared.RowsKept.{RowsKept}
 use Rattle.delivery_reading.specs.declared.LinesRead.{LinesRead}
-use Rattle.delivery_reading.specs.Reading.{BadsTold, RowTold, EndTold, PartTold, LastTold, Told, FirstTold, ReadTo, RowsIn, Nothing}
+use Rattle.delivery_reading.specs.Reading.{BadsTold, RowTold, EndTold, PartTold, LastTold, AllBadsTold, FirstTold, RowsReadTo, RowsOfInput, Nothing}
 
 -- ---- one line
 
@@ -44,8 +46,8 @@ row-fits n l made =
     (omega (arith, room, line-fits (badRowsText (toldOf n)) (told-short n) l made), line-long (badRowsText (toldOf n)) (told-short n) l made)
 
 -- a line that is taken as a row is told and counted where the state and the count are those, and so many bytes more were told
-pub row-told : (f : List ℕ) (k : Reading) (l : LongLine) (before after : Lists) (t : RowTaken) → RowIn f (k .state) (k .bad) l before after t
-    → (r : Reading) → r .state ≡ t .state → r .bad ≡ t .bad → Grew (k .told .bytes) (length (badRowsText (toldOf (t .state .bad)))) (r .told .bytes)
+pub row-told : (f : List ℕ) (k : RowsKept) (l : LongLine) (before after : Lists) (t : RowTaken) → RowIn f (k .state) (k .bad) l before after t
+    → (r : RowsKept) → r .state ≡ t .state → r .bad ≡ t .bad → Grew (k .told .bytes) (length (badRowsText (toldOf (t .state .bad)))) (r .told .bytes)
     → RowTold f k l before after r
 row-told f k l before after t x r s b w =
     record {
@@ -87,14 +89,14 @@ none-counted : 0 ≡ badsCounted 0
 unfolding badsCounted
 none-counted = refl
 
-bads-none : (k : Reading) → BadsTold [] k k
+bads-none : (k : RowsKept) → BadsTold [] k k
 bads-none k =
     record {
       text = omega (arith, none-text);
       count = λ n e. let z : n ≡ n + length {A = ℕ} [] = omega arith in e ∙ ap badsCounted z;
     }
 
-bads-more : (x y : List ℕ) (k s r : Reading) → BadsTold x k s → BadsTold y s r → BadsTold (x ++ y) k r
+bads-more : (x y : List ℕ) (k s r : RowsKept) → BadsTold x k s → BadsTold y s r → BadsTold (x ++ y) k r
 bads-more x y k s r a b =
     record {
       text = omega (arith, a .text, b .text, length-append (badRowsText x) (badRowsText y), ap length (rows-append x y));
@@ -103,7 +105,7 @@ bads-more x y k s r a b =
           b .count (n + length x) (a .count n e) ∙ ap badsCounted z;
     }
 
-told-more : (told : ℕ) (x y : List ℕ) (k r : Reading) → Told told x k → BadsTold y k r → Told told (x ++ y) r
+told-more : (told : ℕ) (x y : List ℕ) (k r : RowsKept) → AllBadsTold told x k → BadsTold y k r → AllBadsTold told (x ++ y) r
 told-more told x y k r t b =
     record {
       text = omega (arith, t .text, b .text, length-append (badRowsText x) (badRowsText y), ap length (rows-append x y));
@@ -128,12 +130,12 @@ module _ (f : List ℕ) (k : LinesRead) (a : Lists) (part : List ℕ) where
     pub part-all : length part ≤ at → PartTold f k a part s b []
     part-all h = rw (drop-of-length-le part h) at d
 
-    module _ (e : LineEnd) (fed : LineFed (s .line) part at e) (c : Lists) (r : LinesRead) (t : EndTold f (s .kept) e b c r) where
+    module _ (e : LineEnd) (fed : e ≡ lineEnd (s .line) (drop at part) at) (c : Lists) (r : LinesRead) (t : EndTold f (s .kept) e b c r) where
       one-more : (y : e .ended ≡ true) (told rest : List ℕ)
           → restReceived (roomIn a) f (receiptIn (s .kept .state) b (told ++ d .bads)) (s .line) (drop at part ++ rest)
           ≡ restReceived (roomIn a) f (receiptIn (r .kept .state) c (told ++ (d .bads ++ toldOf (r .kept .state .bad)))) (r .line) (drop (e .next) part ++ rest)
       one-more y told rest =
-          fed .ended y (roomIn a) f (receiptIn (s .kept .state) b (told ++ d .bads)) rest
+          received-ended (s .line) part at e fed (roomIn a) f (receiptIn (s .kept .state) b (told ++ d .bads)) rest y
           ∙ ap (λ (n : ℕ). restReceived (roomIn a) f (lineReceived n f (receiptIn (s .kept .state) b (told ++ d .bads)) (heldRead (e .line))) emptyLong
           (drop (e .next) part ++ rest))
           (sym (room-same a b (d .lengths)))
@@ -155,10 +157,10 @@ module _ (f : List ℕ) (k : LinesRead) (a : Lists) (part : List ℕ) where
 
       more-begun : e .ended ≡ false → PartTold f k a part r c (drop (e .next) part)
       more-begun n =
-          rw (drop-of-length-le part (fed .used n), t .begun n .0, t .begun n .1 .0, t .begun n .1 .1)
+          rw (drop-of-length-le part (end-used (s .line) part at e fed n), t .begun n .0, t .begun n .1 .0, t .begun n .1 .1)
           (record {
             bads = d .bads;
-            is = λ told rest. d .is told rest ∙ fed .begun n (roomIn a) f (receiptIn (s .kept .state) b (told ++ d .bads)) rest;
+            is = λ told rest. d .is told rest ∙ received-begun (s .line) part at e fed (roomIn a) f (receiptIn (s .kept .state) b (told ++ d .bads)) rest n;
             tells = d .tells;
             lengths = d .lengths;
           })
@@ -185,7 +187,7 @@ last-none f k a z =
     }
 
 -- a last line with bytes brings what it brings as a line
-pub last-some : (f : List ℕ) (k : LinesRead) (a b : Lists) (r : Reading) → (k .line .length ≡ 0 → ⊥) → RowTold f (k .kept) (k .line) a b r → LastTold f k a b r
+pub last-some : (f : List ℕ) (k : LinesRead) (a b : Lists) (r : RowsKept) → (k .line .length ≡ 0 → ⊥) → RowTold f (k .kept) (k .line) a b r → LastTold f k a b r
 unfolding restReceived
 last-some f k a b r n t =
     record {
@@ -197,7 +199,7 @@ last-some f k a b r n t =
 
 -- ---- the first part
 
-none-held : (a : Lists) (s : Reading) → Nothing s → noReceipt ≡ receiptIn (s .state) a []
+none-held : (a : Lists) (s : RowsKept) → Nothing s → noReceipt ≡ receiptIn (s .state) a []
 unfolding receivedTo
 none-held a s n = rw (n .rows, n .begun, n .lines, n .over) refl
 
@@ -213,7 +215,7 @@ unfolding unmarked
 without-mark part mark m =
     ap (λ (n : ℕ). drop n part) (sym m) ∙ sym (take-all (length part - mark) (drop mark part) (omega (arith, length-drop mark part)))
 
-module _ (f : List ℕ) (t : stream.Told) (k : LinesRead) (own : k .kept .told ≡ t) (empty : k .line ≡ emptyLong) (nothing : Nothing (k .kept))
+module _ (f : List ℕ) (t : Told) (k : LinesRead) (own : k .kept .told ≡ t) (empty : k .line ≡ emptyLong) (nothing : Nothing (k .kept))
     (part : List ℕ) (mark : ℕ) (m : mark ≡ markLength part) (a b : Lists) (r : LinesRead)
     (d : PartTold f k a (take (length part - mark) (drop mark part)) r b []) where
   first-is : roomIn a ≡ 65536 → (rest : List ℕ) → (length part < 3 → rest ≡ [])
@@ -227,7 +229,7 @@ module _ (f : List ℕ) (t : stream.Told) (k : LinesRead) (own : k .kept .told �
       ∙ d .is [] rest
       ∙ ap (λ (n : ℕ). restReceived n f (receiptIn (r .kept .state) b (d .bads)) (r .line) rest) room
 
-  first-tells : Told (t .bytes) (d .bads) (r .kept)
+  first-tells : AllBadsTold (t .bytes) (d .bads) (r .kept)
   first-tells =
       let z : 0 + length (d .bads) ≡ length (d .bads) = omega arith in
       rw (← own)
@@ -246,7 +248,7 @@ module _ (f : List ℕ) (t : stream.Told) (k : LinesRead) (own : k .kept .told �
 -- an input of which the first bytes were read to the start of a buffer
 pub read-first : (f : List ℕ) (told : ℕ) (before : Lists) (buffer : List ℕ) (m : ℕ) → m ≤ length buffer → (r : LinesRead) (after : Lists)
     → FirstTold f told before (take m buffer) r after → roomIn before ≡ 65536
-    → (left n : ℕ) → (m < 3 → left ≡ 0) → n ≡ (0 + m) % 2 ^ 64 → ReadTo f told after left n r
+    → (left n : ℕ) → (m < 3 → left ≡ 0) → n ≡ (0 + m) % 2 ^ 64 → RowsReadTo f told after left n r
 read-first f told before buffer m fits r after d room left n z e =
     record {
       input = take m buffer;
@@ -254,7 +256,7 @@ read-first f told before buffer m fits r after d room left n z e =
       came = d .came room left (λ l. z (omega (arith, length-take-le m buffer fits)));
     }
 
-module _ (f : List ℕ) (told : ℕ) (a : Lists) (room : roomIn a ≡ 65536) (left n : ℕ) (k : LinesRead) (c : ReadTo f told a left n k) (some : 0 < left)
+module _ (f : List ℕ) (told : ℕ) (a : Lists) (room : roomIn a ≡ 65536) (left n : ℕ) (k : LinesRead) (c : RowsReadTo f told a left n k) (some : 0 < left)
     (part : List ℕ) (r : LinesRead) (b : Lists) (d : PartTold f k a part r b []) where
   more-is : (rest : List ℕ) → receiptOf f ((c .input ++ part) ++ rest)
       ≡ restReceived 65536 f (receiptIn (r .kept .state) b (c .came .bads ++ d .bads)) (r .line) rest
@@ -266,7 +268,7 @@ module _ (f : List ℕ) (told : ℕ) (a : Lists) (room : roomIn a ≡ 65536) (le
       ∙ ap (λ (m : ℕ). restReceived m f (receiptIn (r .kept .state) b (c .came .bads ++ d .bads)) (r .line) rest) room
 
   -- one part more of an input
-  read-more : (left′ n′ : ℕ) → n′ ≡ (n + length part) % 2 ^ 64 → ReadTo f told b left′ n′ r
+  read-more : (left′ n′ : ℕ) → n′ ≡ (n + length part) % 2 ^ 64 → RowsReadTo f told b left′ n′ r
   read-more left′ n′ e =
       record {
         input = c .input ++ part;
@@ -280,9 +282,9 @@ module _ (f : List ℕ) (told : ℕ) (a : Lists) (room : roomIn a ≡ 65536) (le
       }
 
 -- the same of the bytes that a read left at the start of a buffer
-pub read-on : (f : List ℕ) (told : ℕ) (a : Lists) → roomIn a ≡ 65536 → (left n : ℕ) (k : LinesRead) → ReadTo f told a left n k → 0 < left
+pub read-on : (f : List ℕ) (told : ℕ) (a : Lists) → roomIn a ≡ 65536 → (left n : ℕ) (k : LinesRead) → RowsReadTo f told a left n k → 0 < left
     → (buffer : List ℕ) (m : ℕ) → m ≤ length buffer → (r : LinesRead) (b : Lists) → PartTold f k a (take m buffer) r b []
-    → (left′ n′ : ℕ) → n′ ≡ (n + m) % 2 ^ 64 → ReadTo f told b left′ n′ r
+    → (left′ n′ : ℕ) → n′ ≡ (n + m) % 2 ^ 64 → RowsReadTo f told b left′ n′ r
 read-on f told a room left n k c some buffer m fits r b d left′ n′ e =
     read-more f told a room left n k c some (take m buffer) r b d left′ n′
     (e ∙ ap (λ (x : ℕ). (n + x) % 2 ^ 64) (sym (length-take-le m buffer fits)))
@@ -301,8 +303,8 @@ stops left false test e t z = go (lt-or-ge 0 left)
     go (inr l) = omega arith
 
 -- after the last line the lists hold the rows of the input, and its bad lines were told
-rows-all : (f : List ℕ) (told : ℕ) (a : Lists) → roomIn a ≡ 65536 → (left n : ℕ) (k : LinesRead) → ReadTo f told a left n k
-    → (b : Lists) (r : Reading) → LastTold f k a b r → RowsIn f told b n r
+rows-all : (f : List ℕ) (told : ℕ) (a : Lists) → roomIn a ≡ 65536 → (left n : ℕ) (k : LinesRead) → RowsReadTo f told a left n k
+    → (b : Lists) (r : RowsKept) → LastTold f k a b r → RowsOfInput f told b n r
 rows-all f told a room left n k c b r d =
     record {
       input = c .input;
@@ -330,7 +332,7 @@ over-last room f s l o = go (eqb (l .length) 0) (over-line room f s (heldRead l)
     go false e = e
 
 -- where there is no good row too many after the last line, there was none before it
-none-over : (f : List ℕ) (k : LinesRead) (a b : Lists) (r : Reading) → LastTold f k a b r → r .state .over ≡ false → k .kept .state .over ≡ false
+none-over : (f : List ℕ) (k : LinesRead) (a b : Lists) (r : RowsKept) → LastTold f k a b r → r .state .over ≡ false → k .kept .state .over ≡ false
 none-over f k a b r d z = go (k .kept .state .over) refl
   where
     go : (o : Bool) → k .kept .state .over ≡ o → k .kept .state .over ≡ false
@@ -341,13 +343,13 @@ none-over f k a b r d z = go (k .kept .state .over) refl
 
 -- ---- the whole input
 
-module _ (f : List ℕ) (i : Input) (k : LinesRead) (a b : Lists) (r : Reading) (j : Input) (same : j ≡ i) (last : i .failed ≡ false → LastTold f k a b r)
+module _ (f : List ℕ) (i : Input) (k : LinesRead) (a b : Lists) (r : RowsKept) (j : Input) (same : j ≡ i) (last : i .failed ≡ false → LastTold f k a b r)
     (z : j .failed ≡ false) where
   taken : LastTold f k a b r
   taken = last (sym (ap (λ (x : Input). x .failed) same) ∙ z)
 
   -- where no read failed, the lists hold the rows of an input with as many bytes as were counted
-  pub rows-read : (told : ℕ) → roomIn a ≡ 65536 → ReadTo f told a (i .left) (i .bytes) k → RowsIn f told b (j .bytes) r
+  pub rows-read : (told : ℕ) → roomIn a ≡ 65536 → RowsReadTo f told a (i .left) (i .bytes) k → RowsOfInput f told b (j .bytes) r
   rows-read told room c = rw same (rows-all f told a room (i .left) (i .bytes) k c b r taken)
 
   -- and where there was no good row too many, it was read to its end

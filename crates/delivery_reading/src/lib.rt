@@ -1,6 +1,6 @@
 // Standard input of `reconcile`: its good rows into lent lists, its bad lines told.
+use delivery_items::LineEnd;
 use delivery_items::LongLine;
-use delivery_receipts::LineEnd;
 use delivery_receipts::Receiving;
 use session_lines::Line;
 use streams::Input;
@@ -17,10 +17,10 @@ ghost use Rattle.streams.specs.Transfers.{Grew};
 ghost use Rattle.delivery_items.specs.Items.{emptyLong};
 ghost use Rattle.delivery_receipts.specs.Receiving.{roomIn, toldOf, SameLengths};
 ghost use Rattle.delivery_inputs.specs.ReconcileInputs.{badRowsText};
-ghost use Rattle.delivery_reading.specs.Reading.{RowTold, Nothing, EndTold, PartTold, FirstTold, LastTold, ReadTo, RowsIn};
+ghost use Rattle.delivery_reading.specs.Reading.{RowTold, Nothing, EndTold, PartTold, FirstTold, LastTold, RowsReadTo, RowsOfInput};
 
 // What is kept from one line to the next: what was received, how many lines were bad, at most 999,999,999, and what was told.
-pub struct Reading {
+pub struct RowsKept {
     pub state: Receiving,
     pub bad: u32,
     pub told: Told,
@@ -28,7 +28,7 @@ pub struct Reading {
 
 // What is kept from one part of the input to the next: what its lines brought, and the line begun.
 pub struct LinesRead {
-    pub kept: Reading,
+    pub kept: RowsKept,
     pub line: LongLine,
 }
 
@@ -41,7 +41,7 @@ pub struct InputRead {
 // How far standard input was read, to its end or to a good row too many, and what it brought. Where a read failed nothing is said of it.
 pub struct RowsRead {
     pub input: Input,
-    pub kept: Reading,
+    pub kept: RowsKept,
 }
 
 // Tells a line, which has to be what is told of the line after which this is received.
@@ -55,8 +55,8 @@ fn tell_row(told: Told, after: Receiving, line: Line) -> Told
 }
 
 // One line more; a bad one is told.
-fn take_told(
-    k: Reading,
+fn receive_told(
+    k: RowsKept,
     file: &[u8],
     line: LongLine,
     ids: &mut [u8],
@@ -65,7 +65,7 @@ fn take_told(
     fulls: &mut [u8],
     numbers: &mut [u16],
     backs: &mut [u16],
-) -> Reading
+) -> RowsKept
     ensures { λ r. ⌜ RowTold (now (file .entry)) k line (record { ids = now (ids .entry); keys = now (keys .entry); days = now (days .entry); fulls = now (fulls .entry); numbers = now (numbers .entry); backs = now (backs .entry) }) (record { ids = now (ids .exit); keys = now (keys .exit); days = now (days .exit); fulls = now (fulls .exit); numbers = now (numbers .exit); backs = now (backs .exit) }) r ⌝ }
 {
     let r = delivery_inputs::take_row(
@@ -82,7 +82,7 @@ fn take_told(
     );
     let state = r.state;
     let told = tell_row(k.told, state, r.told);
-    Reading {
+    RowsKept {
         state,
         bad: r.bad,
         told,
@@ -95,7 +95,7 @@ fn nothing_kept(told: Told) -> LinesRead
 {
     let state = delivery_receipts::nothing_received();
     let line = delivery_items::empty_long_line();
-    let kept = Reading {
+    let kept = RowsKept {
         state,
         bad: 0,
         told,
@@ -104,8 +104,8 @@ fn nothing_kept(told: Told) -> LinesRead
 }
 
 // A line that a line feed ended is taken, and the next one begun; any other is begun.
-fn take_end(
-    k: Reading,
+fn receive_end(
+    k: RowsKept,
     e: LineEnd,
     file: &[u8],
     ids: &mut [u8],
@@ -121,13 +121,13 @@ fn take_end(
     if !e.ended {
         return LinesRead { kept: k, line };
     }
-    let kept = take_told(k, file, line, ids, keys, days, fulls, numbers, backs);
+    let kept = receive_told(k, file, line, ids, keys, days, fulls, numbers, backs);
     let next = delivery_items::empty_long_line();
     LinesRead { kept, line: next }
 }
 
 // A part of the input: all lines that end in it are taken, and the line begun is kept with its bytes.
-pub fn take_part(
+pub fn receive_part(
     k: LinesRead,
     part: &[u8],
     file: &[u8],
@@ -143,15 +143,15 @@ pub fn take_part(
     let mut s = k;
     let mut at: usize = 0;
     while at < part.len() {
-        let e = delivery_receipts::line_from(s.line, part, at);
-        s = take_end(s.kept, e, file, ids, keys, days, fulls, numbers, backs);
+        let e = delivery_items::line_from(s.line, part, at);
+        s = receive_end(s.kept, e, file, ids, keys, days, fulls, numbers, backs);
         at = e.next;
     }
     s
 }
 
 // The first part, which is taken without its mark.
-fn take_first(
+fn receive_first(
     told: Told,
     part: &[u8],
     file: &[u8],
@@ -166,7 +166,7 @@ fn take_first(
 {
     let k = nothing_kept(told);
     let mark = delivery_lines::mark_length(part);
-    take_part(
+    receive_part(
         k,
         &part[mark..],
         file,
@@ -180,7 +180,7 @@ fn take_first(
 }
 
 // The last line, which no line feed ends, where it has bytes.
-pub fn take_last(
+pub fn receive_last(
     k: LinesRead,
     file: &[u8],
     ids: &mut [u8],
@@ -189,7 +189,7 @@ pub fn take_last(
     fulls: &mut [u8],
     numbers: &mut [u16],
     backs: &mut [u16],
-) -> Reading
+) -> RowsKept
     ensures { λ r. ⌜ LastTold (now (file .entry)) k (record { ids = now (ids .entry); keys = now (keys .entry); days = now (days .entry); fulls = now (fulls .entry); numbers = now (numbers .entry); backs = now (backs .entry) }) (record { ids = now (ids .exit); keys = now (keys .exit); days = now (days .exit); fulls = now (fulls .exit); numbers = now (numbers .exit); backs = now (backs .exit) }) r ⌝ }
 {
     let line = k.line;
@@ -197,7 +197,7 @@ pub fn take_last(
     if line.length == 0 {
         return kept;
     }
-    take_told(kept, file, line, ids, keys, days, fulls, numbers, backs)
+    receive_told(kept, file, line, ids, keys, days, fulls, numbers, backs)
 }
 
 // Whether to read on: reads are left, and there was no good row too many.
@@ -223,7 +223,7 @@ fn read_rest(
 ) -> InputRead
     requires { ⌜ 0 < length (now part) ⌝ }
     ensures { λ r. ⌜ SameLengths (record { ids = now (ids .entry); keys = now (keys .entry); days = now (days .entry); fulls = now (fulls .entry); numbers = now (numbers .entry); backs = now (backs .entry) }) (record { ids = now (ids .exit); keys = now (keys .exit); days = now (days .exit); fulls = now (fulls .exit); numbers = now (numbers .exit); backs = now (backs .exit) }) ⌝ }
-    ensures { λ r. ⌜ ((told : ℕ) → roomIn (record { ids = now (ids .entry); keys = now (keys .entry); days = now (days .entry); fulls = now (fulls .entry); numbers = now (numbers .entry); backs = now (backs .entry) }) ≡ 65536 → ReadTo (now (file .entry)) told (record { ids = now (ids .entry); keys = now (keys .entry); days = now (days .entry); fulls = now (fulls .entry); numbers = now (numbers .entry); backs = now (backs .entry) }) (first .input .left) (first .input .bytes) (first .lines) → ReadTo (now (file .entry)) told (record { ids = now (ids .exit); keys = now (keys .exit); days = now (days .exit); fulls = now (fulls .exit); numbers = now (numbers .exit); backs = now (backs .exit) }) (r .input .left) (r .input .bytes) (r .lines)) ⌝ }
+    ensures { λ r. ⌜ ((told : ℕ) → roomIn (record { ids = now (ids .entry); keys = now (keys .entry); days = now (days .entry); fulls = now (fulls .entry); numbers = now (numbers .entry); backs = now (backs .entry) }) ≡ 65536 → RowsReadTo (now (file .entry)) told (record { ids = now (ids .entry); keys = now (keys .entry); days = now (days .entry); fulls = now (fulls .entry); numbers = now (numbers .entry); backs = now (backs .entry) }) (first .input .left) (first .input .bytes) (first .lines) → RowsReadTo (now (file .entry)) told (record { ids = now (ids .exit); keys = now (keys .exit); days = now (days .exit); fulls = now (fulls .exit); numbers = now (numbers .exit); backs = now (backs .exit) }) (r .input .left) (r .input .bytes) (r .lines)) ⌝ }
     ensures { λ r. ⌜ (r .lines .kept .state .over ≡ false → r .input .left ≡ 0) ⌝ }
 {
     let mut input = first.input;
@@ -232,13 +232,13 @@ fn read_rest(
         let read = streams::read_on_or_tell(b"reconcile: standard input", input, 1, part);
         input = read.input;
         let n = read.length;
-        k = take_part(k, &part[..n], file, ids, keys, days, fulls, numbers, backs);
+        k = receive_part(k, &part[..n], file, ids, keys, days, fulls, numbers, backs);
     }
     InputRead { input, lines: k }
 }
 
 // What is kept after the last line; where a read failed, what was kept before it.
-fn take_all(
+fn receive_all(
     r: InputRead,
     file: &[u8],
     ids: &mut [u8],
@@ -256,7 +256,7 @@ fn take_all(
         let kept = lines.kept;
         return RowsRead { input, kept };
     }
-    let kept = take_last(lines, file, ids, keys, days, fulls, numbers, backs);
+    let kept = receive_last(lines, file, ids, keys, days, fulls, numbers, backs);
     RowsRead { input, kept }
 }
 
@@ -271,7 +271,7 @@ pub fn read_rows(
     numbers: &mut [u16],
     backs: &mut [u16],
 ) -> RowsRead
-    ensures { λ r. ⌜ (roomIn (record { ids = now (ids .entry); keys = now (keys .entry); days = now (days .entry); fulls = now (fulls .entry); numbers = now (numbers .entry); backs = now (backs .entry) }) ≡ 65536 → r .input .failed ≡ false → RowsIn (now (file .entry)) (told .bytes) (record { ids = now (ids .exit); keys = now (keys .exit); days = now (days .exit); fulls = now (fulls .exit); numbers = now (numbers .exit); backs = now (backs .exit) }) (r .input .bytes) (r .kept)) ⌝ }
+    ensures { λ r. ⌜ (roomIn (record { ids = now (ids .entry); keys = now (keys .entry); days = now (days .entry); fulls = now (fulls .entry); numbers = now (numbers .entry); backs = now (backs .entry) }) ≡ 65536 → r .input .failed ≡ false → RowsOfInput (now (file .entry)) (told .bytes) (record { ids = now (ids .exit); keys = now (keys .exit); days = now (days .exit); fulls = now (fulls .exit); numbers = now (numbers .exit); backs = now (backs .exit) }) (r .input .bytes) (r .kept)) ⌝ }
     ensures { λ r. ⌜ (r .input .failed ≡ false → r .kept .state .over ≡ false → r .input .left ≡ 0) ⌝ }
 {
     let mut part = io::large_buffer();
@@ -284,7 +284,7 @@ pub fn read_rows(
         return RowsRead { input: begun, kept };
     }
     let n = first.length;
-    let lines = take_first(
+    let lines = receive_first(
         told,
         &part[..n],
         file,
@@ -310,5 +310,5 @@ pub fn read_rows(
         numbers,
         backs,
     );
-    take_all(r, file, ids, keys, days, fulls, numbers, backs)
+    receive_all(r, file, ids, keys, days, fulls, numbers, backs)
 }

@@ -14,7 +14,8 @@ use Rattle.file_load.specs.Load.{found}
 use Rattle.delivery_differences.specs.declared.DeliveredRow.{DeliveredRow}
 use Rattle.delivery_differences.specs.Differences.{rowAt, rowsAt}
 use Rattle.delivery_receipts.specs.Receipts.{Received}
-use Rattle.delivery_receipts.specs.Receiving.{idIn, Lists, receivedAt, receivedTo, placesTo, rowsFor, PlacesIn, firstUnknown}
+use Rattle.delivery_products.specs.IdList.{idIn}
+use Rattle.delivery_receipts.specs.Receiving.{Lists, receivedAt, receivedTo, placesTo, rowsFor, PlacesIn, firstUnknown}
 
 pub record Gathering (id ids : List ℕ) (n : ℕ) (before : List ℕ) (out : List ℕ) (size i : ℕ) : Type 0 where
   -- the places gathered so far are those of the product's rows among the first i

@@ -1,83 +1,50 @@
 -- The lines of an input, byte by byte.
 -- Assumes nothing.
-use mathlib.Core.Path.{_≡_, refl, _∙_, sym, ap}
+use mathlib.Core.Path.{_≡_, refl, _∙_, sym, ap, ap₂}
 use mathlib.Core.Bool.{Bool, true, false, cond}
 use mathlib.Core.List.{List, [], _∷_, _++_}
-use Prim.Native.Nat.{ℕ, _+_, _≤_, _<_}
-use native.Mathlib.Numerals.{add-one}
-use native.Mathlib.Omega.{arith}
+use Prim.Native.Nat.{ℕ}
 use lib.Dec.{eqb}
-use lib.ListN.{length, getD, drop, drop-of-length-le}
-use lib.Seq.{drop-cons}
-use borrow.Author.Tests.{eq-eqb, ne-eqb}
-use Rattle.questions.proofs.Bools.{clash}
+use lib.ListN.{length, drop}
 use Rattle.session_lines.specs.CommandLines.{linesFrom}
+use Rattle.session_lines.specs.InputRest.{restOver}
 use Rattle.delivery_lines.specs.NoticeLines.{unmarked}
 use Rattle.delivery_items.specs.declared.LongLine.{LongLine}
+use Rattle.delivery_items.specs.declared.LineEnd.{LineEnd}
 use Rattle.delivery_items.specs.Items.{emptyLong, lengthened, fedLong, heldRead}
+use Rattle.delivery_items.specs.LineEnds.{lineEnd}
 use Rattle.delivery_items.proofs.LongItems.{any-length, any-empty, fed-more}
+use Rattle.delivery_items.proofs.LineEnds.{rest-ended, rest-begun}
 use Rattle.delivery_receipts.specs.Receipts.{Receipt, noReceipt, lineReceived, linesReceived, receiptOf, restReceived}
-use Rattle.delivery_receipts.specs.Receiving.{LineFed}
 
--- the byte at i comes next
-module _ (room : ℕ) (f : List ℕ) (s : Receipt) (l : LongLine) (part : List ℕ) (i : ℕ) (h : i < length part) (rest : List ℕ) where
-  feed-ends : getD part i 0 ≡ 10 → restReceived room f s l (drop i part ++ rest)
-      ≡ restReceived room f (lineReceived room f s (heldRead l)) emptyLong (drop (i + 1) part ++ rest)
-  unfolding restReceived
-  feed-ends e = rw (drop-cons part i 0 h, eq-eqb (getD part i 0) 10 e, add-one i) refl
+-- what is received for the rest of an input is what is given for it, over receipts
+module _ (room : ℕ) (f : List ℕ) where
+  received : Receipt → LongLine → (Receipt → Receipt) → Receipt
+  received s l next = next (lineReceived room f s (heldRead l))
 
-  feed-more : (getD part i 0 ≡ 10 → ⊥) → restReceived room f s l (drop i part ++ rest)
-      ≡ restReceived room f s (lengthened l (getD part i 0)) (drop (i + 1) part ++ rest)
-  unfolding restReceived
-  feed-more e = rw (drop-cons part i 0 h, ne-eqb (getD part i 0) 10 e, add-one i) refl
+  over-receipts : (s : Receipt) (l : LongLine) (rest : List ℕ)
+      → restReceived room f s l rest ≡ restOver emptyLong lengthened (λ x. x .length) (λ x. x) received s l rest
+  unfolding restReceived restOver received
+  over-receipts s l [] = refl
+  over-receipts s l (byte ∷ rest) =
+      ap₂ (cond (eqb byte 10)) (over-receipts (lineReceived room f s (heldRead l)) emptyLong rest) (over-receipts s (lengthened l byte) rest)
 
--- bytes so far, no line feed among them
-pub record Going (l₀ : LongLine) (part : List ℕ) (from : ℕ) (l : LongLine) (i : ℕ) : Type 0 where
-  -- what is received from the line begun and the first place is what is received from the bytes fed so far
-  pub same : (room : ℕ) (f : List ℕ) (s : Receipt) (rest : List ℕ)
-      → restReceived room f s l₀ (drop from part ++ rest) ≡ restReceived room f s l (drop i part ++ rest)
-  -- the place does not go back
-  pub on : from ≤ i
-  -- a place that begins in the part stays in the part
-  pub within : from ≤ length part → i ≤ length part
+-- a line from a place of a part on
+module _ (l : LongLine) (part : List ℕ) (from : ℕ) (e : LineEnd) (is : e ≡ lineEnd l (drop from part) from)
+    (room : ℕ) (f : List ℕ) (s : Receipt) (rest : List ℕ) where
+  -- one that ends is received, and the next begins after it
+  pub received-ended : e .ended ≡ true → restReceived room f s l (drop from part ++ rest)
+      ≡ restReceived room f (lineReceived room f s (heldRead (e .line))) emptyLong (drop (e .next) part ++ rest)
+  unfolding received
+  received-ended y =
+      over-receipts room f s l (drop from part ++ rest) ∙ rest-ended l part from e is (λ x. x) (received room f) s rest y
+      ∙ sym (over-receipts room f (lineReceived room f s (heldRead (e .line))) emptyLong (drop (e .next) part ++ rest))
 
--- before the first byte nothing is fed
-pub begins : (l : LongLine) (part : List ℕ) (from : ℕ) → Going l part from l from
-begins l part from = record { same = λ room f s rest. refl; on = omega arith; within = λ h. h }
-
-module _ (l₀ : LongLine) (part : List ℕ) (from : ℕ) (l : LongLine) (i : ℕ) (g : Going l₀ part from l i) where
-  -- a byte that is no line feed is fed to the line
-  pub goes : i < length part → (getD part i 0 ≡ 10 → ⊥) → (m : LongLine) → m ≡ lengthened l (getD part i 0) → Going l₀ part from m (i + 1)
-  goes h e m q =
-      record {
-        same = λ room f s rest. g .same room f s rest ∙ feed-more room f s l part i h rest e ∙
-            ap (λ (x : LongLine). restReceived room f s x (drop (i + 1) part ++ rest)) (sym q);
-        on = omega (arith, g .on);
-        within = λ w. omega arith;
-      }
-
-  -- a line feed ends the line, and the next one begins after it
-  pub line-ends : i < length part → getD part i 0 ≡ 10 → LineFed l₀ part from (record { line = l; next = i + 1; ended = true })
-  line-ends h e =
-      record {
-        ended = λ t room f s rest. g .same room f s rest ∙ feed-ends room f s l part i h rest e;
-        begun = λ t. clash refl t;
-        on = λ w. omega (arith, g .on);
-        within = λ w. omega arith;
-        used = λ t. clash refl t;
-      }
-
-  -- at the end of the part the line is begun and has not ended
-  pub part-ends : length part ≤ i → LineFed l₀ part from (record { line = l; next = i; ended = false })
-  part-ends h =
-      let z : drop i part ≡ [] = drop-of-length-le part {i = i} h in
-      record {
-        ended = λ t. clash t refl;
-        begun = λ t room f s rest. g .same room f s rest ∙ ap (λ (x : List ℕ). restReceived room f s l (x ++ rest)) z;
-        on = λ w. omega arith;
-        within = g .within;
-        used = λ t. h;
-      }
+  -- one that does not end goes on after the part
+  pub received-begun : e .ended ≡ false → restReceived room f s l (drop from part ++ rest) ≡ restReceived room f s (e .line) rest
+  received-begun n =
+      over-receipts room f s l (drop from part ++ rest) ∙ rest-begun l part from e is (λ x. x) (received room f) s rest n
+      ∙ sym (over-receipts room f s (e .line) rest)
 
 -- ---- the whole input
 

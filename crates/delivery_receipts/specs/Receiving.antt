@@ -1,28 +1,24 @@
 -- The rows in lent lists, and what is promised of a line that is read into them. Only the code needs these.
 -- Assumes nothing.
-use Prim.Native.Nat.{ℕ, zero, suc, _+_, _*_, _≤_, _<_}
+use Prim.Native.Nat.{ℕ, zero, suc, _+_, _*_, _≤_}
 use mathlib.Core.Path.{_≡_}
 use mathlib.Core.Bool.{Bool, true, false, not, _&&_, cond}
 use mathlib.Core.List.{List, [], _∷_, _++_}
 use lib.Dec.{eqb, leb}
-use lib.ListN.{length, getD, take, drop, set}
+use lib.ListN.{length, getD, take, set}
 use Rattle.questions.specs.Search.{every}
 use Rattle.file_load.specs.Products.{sameId}
 use Rattle.file_load.specs.Load.{found}
 use Rattle.file_text_read.specs.Lists.{nextLine}
+use Rattle.delivery_products.specs.IdList.{idIn}
 use Rattle.delivery_items.specs.declared.ItemRead.{ItemRead}
 use Rattle.delivery_items.specs.declared.LineRead.{LineRead}
 use Rattle.delivery_items.specs.declared.LongLine.{LongLine}
-use Rattle.delivery_items.specs.Items.{emptyLong, heldRead}
+use Rattle.delivery_items.specs.Items.{heldRead}
 use Rattle.delivery_differences.specs.declared.DeliveredRow.{DeliveredRow}
 use Rattle.delivery_differences.specs.Differences.{rowAt}
 use Rattle.delivery_receipts.specs.declared.Receiving.{Receiving}
-use Rattle.delivery_receipts.specs.declared.LineEnd.{LineEnd}
-use Rattle.delivery_receipts.specs.Receipts.{Received, Receipt, Sort, ended, empty, heading, bad, tooMany, good, sortOf, lineReceived, restReceived}
-
--- the four bytes of id i of a list
-abbrev pub idIn : List ℕ → ℕ → List ℕ
-idIn ids i = getD ids (4 * i) 0 ∷ getD ids (4 * i + 1) 0 ∷ getD ids (4 * i + 2) 0 ∷ getD ids (4 * i + 3) 0 ∷ []
+use Rattle.delivery_receipts.specs.Receipts.{Received, Receipt, Sort, ended, empty, heading, bad, tooMany, good, sortOf, lineReceived}
 
 -- six lent lists: ids, keys, days, whether a row has five fields, listing numbers and days back
 pub record Lists : Type 0 where
@@ -103,17 +99,6 @@ pub record SameLengths (before after : Lists) : Type 0 where
 pub record RowLineIn (f : List ℕ) (s : Receiving) (l : LongLine) (before after : Lists) (r : Receiving) : Type 0 where
   pub is : (bads : List ℕ) → receiptIn r after (bads ++ toldOf (r .bad)) ≡ lineReceived (roomIn before) f (receiptIn s before bads) (heldRead l)
   pub lengths : SameLengths before after
-
--- of a line begun, a part of the input and a place in it: the line's bytes up to its line feed, or to the part's end
-pub record LineFed (l : LongLine) (part : List ℕ) (from : ℕ) (r : LineEnd) : Type 0 where
-  pub ended : r .ended ≡ true → (room : ℕ) (f : List ℕ) (s : Receipt) (rest : List ℕ)
-      → restReceived room f s l (drop from part ++ rest)
-      ≡ restReceived room f (lineReceived room f s (heldRead (r .line))) emptyLong (drop (r .next) part ++ rest)
-  pub begun : r .ended ≡ false → (room : ℕ) (f : List ℕ) (s : Receipt) (rest : List ℕ)
-      → restReceived room f s l (drop from part ++ rest) ≡ restReceived room f s (r .line) rest
-  pub on : from < length part → from < r .next
-  pub within : from ≤ length part → r .next ≤ length part
-  pub used : r .ended ≡ false → length part ≤ r .next
 
 -- the places of a product's rows among the first n
 unfoldable pub placesTo : List ℕ → List ℕ → ℕ → List ℕ

@@ -11,8 +11,9 @@ ghost use lib.ListN.{length, set};
 ghost use Rattle.questions.specs.Search.{every};
 ghost use Rattle.file_load.specs.Products.{sameId};
 ghost use Rattle.file_load.specs.Load.{found};
+ghost use Rattle.delivery_products.specs.IdList.{idIn};
 ghost use Rattle.delivery_receipts.specs.Receipts.{formFits};
-ghost use Rattle.delivery_receipts.specs.Receiving.{idIn, fullMark, RowStored, receiving, RowLineIn, LineFed, PlacesIn, firstUnknown};
+ghost use Rattle.delivery_receipts.specs.Receiving.{fullMark, RowStored, receiving, RowLineIn, PlacesIn, firstUnknown};
 
 // How many good rows there are, whether a line was there that is not empty, how many lines there were,
 // whether there was a good row too many, and the number of the last line where it is bad, else 0.
@@ -22,13 +23,6 @@ pub struct Receiving {
     pub lines: u32,
     pub over: bool,
     pub bad: u32,
-}
-
-// A line, the place in the input after it, and whether a line feed ended it.
-pub struct LineEnd {
-    pub line: LongLine,
-    pub next: usize,
-    pub ended: bool,
 }
 
 // Before the first line.
@@ -41,31 +35,6 @@ pub fn nothing_received() -> Receiving
         lines: 0,
         over: false,
         bad: 0,
-    }
-}
-
-// A line begun with its bytes from a place of the input on, up to its line feed or to the end of the part.
-pub fn line_from(line: LongLine, part: &[u8], from: usize) -> LineEnd
-    ensures { λ r. ⌜ LineFed line (now (part .entry)) from r ⌝ }
-{
-    let mut l = line;
-    let mut i = from;
-    while i < part.len() {
-        let byte = part[i];
-        i += 1;
-        if byte == b'\n' {
-            return LineEnd {
-                line: l,
-                next: i,
-                ended: true,
-            };
-        }
-        l = delivery_items::extend_long(l, byte);
-    }
-    LineEnd {
-        line: l,
-        next: i,
-        ended: false,
     }
 }
 
@@ -197,7 +166,7 @@ fn store_row(
 }
 
 // One line more. A good row goes to the six lists.
-pub fn take_line(
+pub fn receive_line(
     file: &[u8],
     s: Receiving,
     line: LongLine,
@@ -229,19 +198,6 @@ pub fn take_line(
     after
 }
 
-// The four bytes of id i of a list; 0 past its end.
-fn id_in(ids: &[u8], i: u32) -> file_records::FourBytes
-    ensures { λ r. ⌜ r ≡ idIn (now (ids .entry)) i ⌝ }
-{
-    let at = 4 * (i as usize);
-    [
-        file_blocks::byte_at(ids, at),
-        file_blocks::byte_at(ids, at + 1),
-        file_blocks::byte_at(ids, at + 2),
-        file_blocks::byte_at(ids, at + 3),
-    ]
-}
-
 // One place more in a list, where the row there is the product's, and how many there are then.
 fn put_place(places: &mut [u16], size: usize, place: u32, is: bool) -> usize
     requires { ⌜ (size < length (now places)) × (place < 65536) ⌝ }
@@ -268,7 +224,7 @@ pub fn places_of(id: [u8; 4], ids: &[u8], n: u32, places: &mut [u16]) -> usize
     let mut size: usize = 0;
     let mut i: u32 = 0;
     while i < n {
-        let own = delivery_products::same_id(id_in(ids, i), id);
+        let own = delivery_products::same_id(delivery_products::id_in(ids, i), id);
         size = put_place(places, size, i, own);
         i += 1;
     }
@@ -279,10 +235,10 @@ pub fn places_of(id: [u8; 4], ids: &[u8], n: u32, places: &mut [u16]) -> usize
 fn stands_first(ids: &[u8], i: u32) -> bool
     ensures { λ r. ⌜ r ≡ every i (λ j. not (sameId (idIn (now (ids .entry)) j) (idIn (now (ids .entry)) i))) ⌝ }
 {
-    let id = id_in(ids, i);
+    let id = delivery_products::id_in(ids, i);
     let mut j: u32 = 0;
     while j < i {
-        if delivery_products::same_id(id_in(ids, j), id) {
+        if delivery_products::same_id(delivery_products::id_in(ids, j), id) {
             return false;
         }
         j += 1;
@@ -294,7 +250,7 @@ fn stands_first(ids: &[u8], i: u32) -> bool
 fn is_unknown(file: &[u8], ids: &[u8], i: u32) -> bool
     ensures { λ r. ⌜ r ≡ not (found (now (file .entry)) (idIn (now (ids .entry)) i)) ⌝ }
 {
-    match file_load::find(file, id_in(ids, i)) {
+    match file_load::find(file, delivery_products::id_in(ids, i)) {
         Found::At(_, _) => false,
         Found::Nothing => true,
     }

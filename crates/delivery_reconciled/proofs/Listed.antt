@@ -13,7 +13,7 @@ use Rattle.file_ids.specs.Ids.{isRecord, idAt}
 use Rattle.table.specs.declared.Outcome.{Outcome}
 use Rattle.table.specs.Table.{listedIn}
 use Rattle.history.specs.History.{tableRun}
-use Rattle.delivery_notices.specs.Notices.{Told}
+use Rattle.delivery_notices.specs.Notices.{NoticesTold}
 use Rattle.delivery_notices.specs.NoticeLists.{noticesTo, noticeHeld}
 use Rattle.delivery_tables.specs.declared.Delivered.{Delivered}
 use Rattle.delivery_tables.specs.Tables.{callsFor, NoticesMade, Delivers}
@@ -28,7 +28,7 @@ use Rattle.delivery_reconciled.specs.declared.PlaceListed.{PlaceListed}
 use Rattle.delivery_reconciled.specs.Reconciled.{kindAt, listedAt, openingText}
 use Rattle.delivery_reconciled.specs.Standings.{nothingListed, ListedIn}
 
-module _ (opening : List ℕ → ℕ → Outcome) (f : List ℕ) (t : Told) (p : ℕ) where
+module _ (opening : List ℕ → ℕ → Outcome) (f : List ℕ) (t : NoticesTold) (p : ℕ) where
   lists-none : (opening (idAt f p) (t .date) .refusal ≡ 0 → ⊥) → [] ≡ listedAt opening f t p
   unfolding listedAt
   lists-none n = rw (ne-eqb (opening (idAt f p) (t .date) .refusal) 0 n) refl
@@ -69,7 +69,7 @@ module _ (opening : List ℕ → ℕ → Outcome) (f : List ℕ) (p date count :
 
     module _ (y : isRecord f p ≡ true) (refusals′ : List ℕ) (d : Delivered)
         (m : Delivers opening id date (noticesTo calls ids count) refusals refusals′ d) where
-      number : (t : Told) → date ≡ t .date → d .refusal ≡ opening (idAt f p) (t .date) .refusal
+      number : (t : NoticesTold) → date ≡ t .date → d .refusal ≡ opening (idAt f p) (t .date) .refusal
       number t e = m .refusal ∙ rw (i, e) refl
 
       -- a place whose product has a refused opening lists nothing
@@ -104,7 +104,7 @@ module _ (opening : List ℕ → ℕ → Outcome) (f : List ℕ) (p date count :
           made : NoticesMade (opening id date .table) id (noticesTo calls ids count) refusals refusals′ (d .table)
           made = m .made (m .fits ∙ rw (notices-length calls ids count) (le-leb count (length refusals) h))
 
-          table-is : (t : Told) → date ≡ t .date → noticesTo calls ids count ≡ map noticeHeld (t .notices)
+          table-is : (t : NoticesTold) → date ≡ t .date → noticesTo calls ids count ≡ map noticeHeld (t .notices)
               → d .table ≡ tableRun (opening (idAt f p) (t .date) .table) (callsFor (idAt f p) (t .notices))
           table-is t g s = made .table ∙ rw (s, i, g) (run-same (idAt f p) (opening (idAt f p) (t .date) .table) (t .notices))
 

@@ -16,7 +16,8 @@ use Rattle.delivery_differences.specs.Differences.{noRow}
 use Rattle.delivery_parts.specs.PlaceParts.{partsText}
 use Rattle.delivery_reports.specs.Reports.{unknownText}
 use Rattle.delivery_receipts.specs.Receipts.{Received}
-use Rattle.delivery_receipts.specs.Receiving.{Lists, idIn, receivedAt, receivedTo, firstUnknown}
+use Rattle.delivery_products.specs.IdList.{idIn}
+use Rattle.delivery_receipts.specs.Receiving.{Lists, receivedAt, receivedTo, firstUnknown}
 use Rattle.delivery_reconciled.specs.Reconciled.{sumTo, idOf, isStranger, strangerText}
 use Rattle.delivery_reconciled.specs.Standings.{idRowText, rowCount}
 

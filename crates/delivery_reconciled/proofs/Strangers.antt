@@ -20,7 +20,8 @@ use Rattle.file_text_print.proofs.Building.{nothing}
 use Rattle.delivery_parts.specs.PlaceParts.{partsText}
 use Rattle.delivery_reports.specs.declared.ReportProgress.{ReportProgress}
 use Rattle.delivery_reports.specs.Reports.{unknownText}
-use Rattle.delivery_receipts.specs.Receiving.{idIn, firstUnknown}
+use Rattle.delivery_products.specs.IdList.{idIn}
+use Rattle.delivery_receipts.specs.Receiving.{firstUnknown}
 use Rattle.delivery_inputs.proofs.ShortLines.{line-room, line-long, line-fits, line-is}
 use Rattle.delivery_reconciled.specs.Reconciled.{sumTo}
 use Rattle.delivery_reconciled.specs.Standings.{idRowText, rowCount, anotherStranger, StrangersIn}

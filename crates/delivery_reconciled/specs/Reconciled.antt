@@ -16,7 +16,7 @@ use Rattle.file_load.specs.Load.{loadAsks, found}
 use Rattle.table.specs.declared.Outcome.{Outcome}
 use Rattle.table.specs.Table.{listedIn, openCall}
 use Rattle.history.specs.History.{tableRun}
-use Rattle.delivery_notices.specs.Notices.{Told, textTold}
+use Rattle.delivery_notices.specs.Notices.{NoticesTold, textTold}
 use Rattle.delivery_tables.specs.Tables.{callsFor}
 use Rattle.delivery_refusals.specs.Refusals.{masterText, badNoticeText, refusalTold}
 use Rattle.delivery_parts.specs.PlaceParts.{partsText}
@@ -38,18 +38,18 @@ kindAt f p = productAt f (p / 15) (p % 15) .kind
 
 -- 'Rows of a product without a table are `extra`':
 -- the maturities that the table of the product at a place lists after the notices; none without a table
-unfoldable pub listedAt : (List ℕ → ℕ → Outcome) → List ℕ → Told → ℕ → List Maturity
+unfoldable pub listedAt : (List ℕ → ℕ → Outcome) → List ℕ → NoticesTold → ℕ → List Maturity
 listedAt opening f t p =
     cond (eqb (opening (idAt f p) (t .date) .refusal) 0)
     (listedIn (tableRun (opening (idAt f p) (t .date) .table) (callsFor (idAt f p) (t .notices)))) []
 
 -- 'One line for a key that differs', 'keys rising':
 -- the keys of the product at a place, by the rows with its id
-unfoldable pub keysAt : (List ℕ → ℕ → Outcome) → List ℕ → Told → List Received → ℕ → List ℕ
+unfoldable pub keysAt : (List ℕ → ℕ → Outcome) → List ℕ → NoticesTold → List Received → ℕ → List ℕ
 keysAt opening f t rows p = cond (isRecord f p) (differing (listedAt opening f t p) (rowsFor (idAt f p) rows) 65536 0) []
 
 -- their lines
-unfoldable pub placeText : (List ℕ → ℕ → Outcome) → List ℕ → Told → List Received → ℕ → List ℕ
+unfoldable pub placeText : (List ℕ → ℕ → Outcome) → List ℕ → NoticesTold → List Received → ℕ → List ℕ
 placeText opening f t rows p =
     keysText (kindAt f p) (idAt f p) (listedAt opening f t p) (rowsFor (idAt f p) rows) (keysAt opening f t rows p)
 
@@ -68,12 +68,12 @@ strangerText f rows i = cond (isStranger f rows i) (unknownText (idOf rows i)) [
 
 -- 'Products in the file's order':
 -- the lines of all products, and of all ids that are not in the file, under the heading
-unfoldable pub differencesText : (List ℕ → ℕ → Outcome) → List ℕ → Told → List Received → List ℕ
+unfoldable pub differencesText : (List ℕ → ℕ → Outcome) → List ℕ → NoticesTold → List Received → List ℕ
 differencesText opening f t rows =
     differencesHeading ++ (partsText (placeText opening f t rows) (placeCount f) ++ partsText (strangerText f rows) (length rows))
 
 -- '3 differ': 'lines under the heading'
-unfoldable pub differCount : (List ℕ → ℕ → Outcome) → List ℕ → Told → List Received → ℕ
+unfoldable pub differCount : (List ℕ → ℕ → Outcome) → List ℕ → NoticesTold → List Received → ℕ
 differCount opening f t rows =
     sumTo (λ p. length (keysAt opening f t rows p)) (placeCount f) + sumTo (λ i. cond (isStranger f rows i) 1 0) (length rows)
 
@@ -103,13 +103,13 @@ summaryText products rows differ bad =
     ++ ((32 ∷ 100 ∷ 105 ∷ 102 ∷ 102 ∷ 101 ∷ 114 ∷ 44 ∷ 32 ∷ []) ++ (numberText bad ++ (32 ∷ 98 ∷ 97 ∷ 100 ∷ 10 ∷ [])))))))
 
 -- 'products of the file; good rows; lines under the heading; bad lines. Not there where there were too many rows'
-unfoldable pub lastText : (List ℕ → ℕ → Outcome) → List ℕ → Told → Receipt → List ℕ
+unfoldable pub lastText : (List ℕ → ℕ → Outcome) → List ℕ → NoticesTold → Receipt → List ℕ
 lastText opening f t r =
     cond (r .over) []
     (summaryText (recordCount f) (length (r .rows)) (differCount opening f t (r .rows)) (badsCounted (length (r .bads))))
 
 -- 'Standard error: refused openings .., bad lines by number, and last' the counts
-unfoldable pub toldText : (List ℕ → ℕ → Outcome) → List ℕ → Told → Receipt → List ℕ
+unfoldable pub toldText : (List ℕ → ℕ → Outcome) → List ℕ → NoticesTold → Receipt → List ℕ
 toldText opening f t r =
     partsText (openingText opening f (t .opened) (t .date)) (placeCount f) ++ (badRowsText (r .bads) ++ lastText opening f t r)
 

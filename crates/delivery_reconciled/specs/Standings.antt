@@ -10,12 +10,13 @@ use Rattle.product.specs.declared.Kind.{Kind}
 use Rattle.listing.specs.Rules.{unused}
 use Rattle.file_ids.specs.Ids.{isRecord, idAt}
 use Rattle.table.specs.declared.Outcome.{Outcome}
-use Rattle.delivery_notices.specs.Notices.{Told}
+use Rattle.delivery_notices.specs.Notices.{NoticesTold}
 use Rattle.delivery_notices.specs.NoticeLists.{noticesTo, noticeHeld}
 use Rattle.delivery_parts.specs.PlaceParts.{partsText}
 use Rattle.delivery_reports.specs.declared.ReportProgress.{ReportProgress}
 use Rattle.delivery_reports.specs.Reports.{unknownText}
-use Rattle.delivery_receipts.specs.Receiving.{idIn, firstUnknown}
+use Rattle.delivery_products.specs.IdList.{idIn}
+use Rattle.delivery_receipts.specs.Receiving.{firstUnknown}
 use Rattle.delivery_reconciled.specs.declared.PlaceListed.{PlaceListed}
 use Rattle.delivery_reconciled.specs.Reconciled.{kindAt, listedAt, sumTo}
 
@@ -31,7 +32,7 @@ pub record ListedIn (opening : List ℕ → ℕ → Outcome) (f : List ℕ) (p d
   pub holds : r .fits ≡ true → r .holds ≡ isRecord f p
   pub id : r .id ≡ idAt f p
   pub kind : r .kind ≡ kindAt f p
-  pub listed : r .fits ≡ true → r .holds ≡ true → (t : Told) → date ≡ t .date → noticesTo calls ids count ≡ map noticeHeld (t .notices)
+  pub listed : r .fits ≡ true → r .holds ≡ true → (t : NoticesTold) → date ≡ t .date → noticesTo calls ids count ≡ map noticeHeld (t .notices)
       → take (r .listed) (r .maturities) ≡ listedAt opening f t p
   pub long : length refusals′ ≡ length refusals
 

@@ -122,7 +122,7 @@ fn id_row_line(file: &[u8], ids: &[u8], i: u32) -> Line
     if !delivery_receipts::is_first_unknown(file, ids, i) {
         return session_lines::empty_line();
     }
-    delivery_reports::unknown_line(delivery_tables::id_in(ids, i))
+    delivery_reports::unknown_line(delivery_products::id_in(ids, i))
 }
 
 // 1 for a line that has bytes.

@@ -39,10 +39,10 @@ use Rattle.delivery_reconciled.specs.Reconciled.{sumTo, keysAt, placeText, stra
 use Rattle.delivery_reconciled.specs.Reconciled.{lastText, toldText, reconcileText, reconcileTold}
 use Rattle.delivery_reconciled.specs.Standings.{idRowText, rowCount}
 use Rattle.delivery_reconciled.proofs.RowIds.{received-count, strangers-are, strangers-counted}
-use Rattle.delivery_reading.specs.declared.Reading.{Reading}
-use Rattle.delivery_reading.specs.Reading.{RowsIn}
-use Rattle.delivery_judging.specs.declared.Printed.{Printed}
-use Rattle.delivery_judging.specs.Judging.{Held, PlacesOut, StrangersOut}
+use Rattle.delivery_reading.specs.declared.RowsKept.{RowsKept}
+use Rattle.delivery_reading.specs.Reading.{RowsOfInput}
+use Rattle.delivery_judging.specs.declared.LinesPrinted.{LinesPrinted}
+use Rattle.delivery_judging.specs.LinesOut.{Held, PlacesOut, StrangersOut}
 use Rattle.delivery_reconciling.specs.ReconcileRuns.{ProductsOut, DifferencesOut, ReconcileRan}
 
 -- ---- no more than 65,536 rows are received
@@ -70,7 +70,7 @@ unfolding receiptOf
 received-few f input = lines-few 65536 f noReceipt (linesFrom [] (unmarked input)) (omega arith)
 
 -- there are at most 65,536 good rows
-pub rows-few : (f : List ℕ) (told : ℕ) (a : Lists) (n : ℕ) (s : Reading) → RowsIn f told a n s → s .state .rows ≤ 65536
+pub rows-few : (f : List ℕ) (told : ℕ) (a : Lists) (n : ℕ) (s : RowsKept) → RowsOfInput f told a n s → s .state .rows ≤ 65536
 rows-few f told a n s x =
     omega (
       arith,
@@ -88,7 +88,7 @@ counted-few n = go (lt-or-ge n 999999999)
     go (inr l) = rw (le-ltb n 999999999 l) (omega arith)
 
 -- the count of bad lines has at most nine digits
-pub bads-few : (f : List ℕ) (told : ℕ) (a : Lists) (n : ℕ) (s : Reading) → RowsIn f told a n s → s .bad < 1000000000
+pub bads-few : (f : List ℕ) (told : ℕ) (a : Lists) (n : ℕ) (s : RowsKept) → RowsOfInput f told a n s → s .bad < 1000000000
 bads-few f told a n s x = omega (arith, x .tells .count, counted-few (length (x .bads)))
 
 -- ---- the lines of the ids that are not in the file
@@ -107,7 +107,7 @@ sum-few f ids zero = omega arith
 sum-few f ids (suc n) = omega (arith, sum-few f ids n, count-one f ids n)
 
 -- they are no more than the rows
-pub strangers-few : (f ids : List ℕ) (n : ℕ) (s : Sent) (r : Printed) → StrangersOut f ids n s r → r .lines ≤ n
+pub strangers-few : (f ids : List ℕ) (n : ℕ) (s : Sent) (r : LinesPrinted) → StrangersOut f ids n s r → r .lines ≤ n
 strangers-few f ids n s r x = omega (arith, x .lines, sum-few f ids n)
 
 -- ---- what is written
@@ -123,13 +123,14 @@ module _ (f notices : List ℕ) (verdict : Answer Calendar) (t : NoticesTaken) (
           few = omega (arith, count-few notices calls ids t (g .held));
           most = most;
           room = room;
-          dated = ap (λ (x : notice.Told). x .date) (g .held);
-          notices = ap (λ (x : notice.Told). x .notices) (g .held);
+          dated = ap (λ (x : notice.NoticesTold). x .date) (g .held);
+          notices = ap (λ (x : notice.NoticesTold). x .notices) (g .held);
         }
 
     -- the lines of all products after the heading
     pub products-out : (headed : Sent) → (headed .open ≡ true → Grew 0 (length differencesHeading) (headed .bytes))
-        → (r : Printed) → PlacesOut (openIn verdict f) f (t .date) (t .count) calls ids a rows places (placeCount f) headed r → ProductsOut f notices a rows r
+        → (r : LinesPrinted) → PlacesOut (openIn verdict f) f (t .date) (t .count) calls ids a rows places (placeCount f) headed r
+        → ProductsOut f notices a rows r
     products-out headed h r y =
         let x : PlacesOut (openCall f) f (t .date) (t .count) calls ids a rows places (placeCount f) headed r = rw own-opening at y in
         record {
@@ -169,7 +170,7 @@ module _ (f notices : List ℕ) (a : Lists) (rows : ℕ) where
       ap (λ (n : ℕ). sumTo (λ p. length (keysAt (openCall f) f (textTold notices) (receivedTo a rows) p)) (placeCount f) + n) (sym (strangers-counted f a rows))
 
   -- the lines of the ids that are not in the file, after those of the products
-  pub differences-out : (p : Printed) → ProductsOut f notices a rows p → (o : Printed) → StrangersOut f (a .ids) rows (p .sent) o
+  pub differences-out : (p : LinesPrinted) → ProductsOut f notices a rows p → (o : LinesPrinted) → StrangersOut f (a .ids) rows (p .sent) o
       → DifferencesOut f notices a rows (record { sent = o .sent; lines = p .lines + o .lines })
   differences-out p x o y =
       record {
@@ -185,11 +186,11 @@ module _ (f notices : List ℕ) (a : Lists) (rows : ℕ) where
 grew-then : (n m k a b : ℕ) → Grew n a m → Grew m b k → Grew n (a + b) k
 grew-then n m k a b x y = omega (arith, x, y)
 
-last-none : (opening : List ℕ → ℕ → Outcome) (f : List ℕ) (t : notice.Told) (r : Receipt) → r .over ≡ true → lastText opening f t r ≡ []
+last-none : (opening : List ℕ → ℕ → Outcome) (f : List ℕ) (t : notice.NoticesTold) (r : Receipt) → r .over ≡ true → lastText opening f t r ≡ []
 unfolding lastText
 last-none opening f t r e = rw e refl
 
-last-some : (opening : List ℕ → ℕ → Outcome) (f : List ℕ) (t : notice.Told) (r : Receipt) → r .over ≡ false
+last-some : (opening : List ℕ → ℕ → Outcome) (f : List ℕ) (t : notice.NoticesTold) (r : Receipt) → r .over ≡ false
     → lastText opening f t r ≡ summaryText (recordCount f) (length (r .rows)) (differCount opening f t (r .rows)) (badsCounted (length (r .bads)))
 unfolding lastText
 last-some opening f t r e = rw e refl
@@ -203,7 +204,7 @@ module _ (f notices : List ℕ) (verdict : Answer Calendar) (t : NoticesTaken) (
   accepted = eq-eqb (firstNo (loadAsks f)) 0 (sym (first-is f verdict (g .own)) ∙ g .accepted)
 
   none-bad : eqb (textTold notices .bad) 0 ≡ true
-  none-bad = eq-eqb (textTold notices .bad) 0 (sym (ap (λ (x : notice.Told). x .bad) (g .held)) ∙ g .good)
+  none-bad = eq-eqb (textTold notices .bad) 0 (sym (ap (λ (x : notice.NoticesTold). x .bad) (g .held)) ∙ g .good)
 
   text-of : (input : List ℕ) → reconcileText f notices input
       ≡ cond (not (receiptOf f input .over)) (differencesText (openCall f) f (textTold notices) (receiptOf f input .rows)) []
@@ -217,10 +218,14 @@ module _ (f notices : List ℕ) (verdict : Answer Calendar) (t : NoticesTaken) (
   openings-own : partsText (openingText (openIn verdict f) f (t .opened) (t .date)) (placeCount f)
       ≡ partsText (openingText (openCall f) f (textTold notices .opened) (textTold notices .date)) (placeCount f)
   openings-own =
-      rw (own-opening f notices verdict t calls ids g, ap (λ (x : notice.Told). x .opened) (g .held), ap (λ (x : notice.Told). x .date) (g .held)) refl
+      rw (
+        own-opening f notices verdict t calls ids g,
+        ap (λ (x : notice.NoticesTold). x .opened) (g .held),
+        ap (λ (x : notice.NoticesTold). x .date) (g .held),
+      ) refl
 
   module _ (opened : ℕ) (o : Grew 0 (length (partsText (openingText (openIn verdict f) f (t .opened) (t .date)) (placeCount f))) opened)
-      (a : Lists) (n : ℕ) (s : Reading) (x : RowsIn f opened a n s) where
+      (a : Lists) (n : ℕ) (s : RowsKept) (x : RowsOfInput f opened a n s) where
     over-is : s .state .over ≡ receiptOf f (x .input) .over
     over-is = ap (λ (r : Receipt). r .over) (x .is)
 
@@ -257,7 +262,7 @@ module _ (f notices : List ℕ) (verdict : Answer Calendar) (t : NoticesTaken) (
         none-last = last-none (openCall f) f (textTold notices) (receiptIn (s .state) a (x .bads)) e
 
     -- else the differences are written, and the counts told last
-    pub ran-all : s .state .over ≡ false → (p : Printed) → DifferencesOut f notices a (s .state .rows) p → (told : ℕ)
+    pub ran-all : s .state .over ≡ false → (p : LinesPrinted) → DifferencesOut f notices a (s .state .rows) p → (told : ℕ)
         → (p .sent .open ≡ true → Grew (s .told .bytes) (length (summaryText (recordCount f) (s .state .rows) (p .lines) (s .bad))) told)
         → ReconcileRan f notices n (p .sent .open) (p .sent .bytes) told
     ran-all e p d told w =

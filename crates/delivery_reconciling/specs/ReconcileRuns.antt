@@ -14,18 +14,18 @@ use Rattle.delivery_parts.specs.PlaceParts.{partsText}
 use Rattle.delivery_reports.specs.Reports.{differencesHeading}
 use Rattle.delivery_receipts.specs.Receiving.{Lists, receivedTo}
 use Rattle.delivery_reconciled.specs.Reconciled.{sumTo, keysAt, placeText, differencesText, differCount, reconcileText, reconcileTold}
-use Rattle.delivery_judging.specs.declared.Printed.{Printed}
+use Rattle.delivery_judging.specs.declared.LinesPrinted.{LinesPrinted}
 
 -- where standard output took all, as many bytes were written as the heading and the lines of all products have, modulo 2^64;
 -- these lines are counted
-pub record ProductsOut (f notices : List ℕ) (a : Lists) (rows : ℕ) (r : Printed) : Type 0 where
+pub record ProductsOut (f notices : List ℕ) (a : Lists) (rows : ℕ) (r : LinesPrinted) : Type 0 where
   pub text : r .sent .open ≡ true
       → Grew 0 (length (differencesHeading ++ partsText (placeText (openCall f) f (textTold notices) (receivedTo a rows)) (placeCount f))) (r .sent .bytes)
   pub lines : r .lines ≡ sumTo (λ p. length (keysAt (openCall f) f (textTold notices) (receivedTo a rows) p)) (placeCount f)
   pub few : r .lines ≤ 65536 * placeCount f
 
 -- the same with the lines of the ids that are not in the file
-pub record DifferencesOut (f notices : List ℕ) (a : Lists) (rows : ℕ) (r : Printed) : Type 0 where
+pub record DifferencesOut (f notices : List ℕ) (a : Lists) (rows : ℕ) (r : LinesPrinted) : Type 0 where
   pub text : r .sent .open ≡ true → Grew 0 (length (differencesText (openCall f) f (textTold notices) (receivedTo a rows))) (r .sent .bytes)
   pub lines : r .lines ≡ differCount (openCall f) f (textTold notices) (receivedTo a rows)
   pub few : r .lines ≤ 65536 * placeCount f + rows

@@ -11,7 +11,7 @@ use Rattle.file_load.specs.Load.{found}
 use Rattle.table.specs.Table.{openCall}
 use Rattle.session_text.specs.TermsText.{decimal}
 use Rattle.file_text_print.specs.Contents.{idText}
-use Rattle.delivery_notices.specs.Notices.{Notice, Told}
+use Rattle.delivery_notices.specs.Notices.{Notice, NoticesTold}
 use Rattle.delivery_notices.specs.NoticeLists.{noticeAt}
 use Rattle.delivery_tables.specs.Tables.{isMeasure, refusalsFor}
 
@@ -51,19 +51,19 @@ refusalsText id (n ∷ ns) (r ∷ rs) = refusalTold (n .line) r id ++ refusalsTe
 
 -- 'a refused opening by the line of the `O` and nothing else of that product':
 -- the refused calls of a product; where its opening is refused no call is made on it
-unfoldable pub productRefusals : List ℕ → Told → List ℕ → List ℕ
+unfoldable pub productRefusals : List ℕ → NoticesTold → List ℕ → List ℕ
 productRefusals f t id =
     cond (eqb (openCall f id (t .date) .refusal) 0)
     (refusalsText id (t .notices) (refusalsFor id (openCall f id (t .date) .table) (t .notices)))
     (refusedNoticeText (t .opened) (openCall f id (t .date) .refusal) id)
 
 -- those of the product at a place
-unfoldable pub placeRefusals : List ℕ → Told → ℕ → List ℕ
+unfoldable pub placeRefusals : List ℕ → NoticesTold → ℕ → List ℕ
 placeRefusals f t p = cond (isRecord f p) (productRefusals f t (idAt f p)) []
 
 -- 'refused calls by product':
 -- those of the first n places
-unfoldable pub refusalsTo : List ℕ → Told → ℕ → List ℕ
+unfoldable pub refusalsTo : List ℕ → NoticesTold → ℕ → List ℕ
 refusalsTo f t zero = []
 refusalsTo f t (suc n) = refusalsTo f t n ++ placeRefusals f t n
 

@@ -105,7 +105,7 @@ fn unknown_refusal(file: &[u8], calls: &[u32], ids: &[u8], i: u32) -> u8
     if delivery_tables::call_number(calls, 5 * (i as usize) + 1) != 3 {
         return 0;
     }
-    if is_found(file, delivery_tables::id_in(ids, i)) {
+    if is_found(file, delivery_products::id_in(ids, i)) {
         return 0;
     }
     9
@@ -117,5 +117,5 @@ pub fn unknown_measure_line(file: &[u8], calls: &[u32], ids: &[u8], i: u32) -> L
 {
     let refusal = unknown_refusal(file, calls, ids, i);
     let line = delivery_tables::call_number(calls, 5 * (i as usize));
-    refusal_text(line, refusal, delivery_tables::id_in(ids, i))
+    refusal_text(line, refusal, delivery_products::id_in(ids, i))
 }

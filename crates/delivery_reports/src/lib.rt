@@ -10,7 +10,6 @@ ghost use Prim.Native.Nat.{_+_, _≤_};
 ghost use lib.ListN.{length, take};
 ghost use lib.Seq.{paste};
 ghost use Rattle.session_lines.specs.CommandLines.{emptyLine};
-ghost use Rattle.session_text.specs.TermsText.{monthText, nameText};
 ghost use Rattle.file_text_print.specs.Contents.{LineWith};
 ghost use Rattle.delivery_differences.specs.Differences.{differenceOf, rowsAt};
 ghost use Rattle.delivery_reports.specs.Reports.{whyText, deliveredText, rightText, differenceText, unknownText, differencesHeading, anotherKey, ReportLinesIn};
@@ -20,24 +19,6 @@ pub struct ReportProgress {
     pub next: u32,
     pub length: usize,
     pub lines: u32,
-}
-
-// A line with a month by its number more.
-fn with_month(line: Line, month: u16) -> Line
-    ensures { λ r. ⌜ LineWith line (monthText month) r ⌝ }
-{
-    let year = file_text_print::with_four(line, 2000 + month / 12);
-    file_text_print::with_two(session_lines::extend(year, b'-'), month % 12 + 1)
-}
-
-// A line with the name of a maturity more: its month, or the date of its Friday.
-pub fn with_name(line: Line, kind: Kind, key: u16) -> Line
-    ensures { λ r. ⌜ LineWith line (nameText kind key) r ⌝ }
-{
-    if product::is_weekly(kind) {
-        return file_text_print::with_day(line, key);
-    }
-    with_month(line, key)
 }
 
 // A line with the reason more.
@@ -93,7 +74,7 @@ pub fn difference_line(kind: Kind, id: [u8; 4], key: u16, d: Difference) -> Line
     let row = d.delivered;
     let m = d.right;
     let begun = file_text_print::with_id(session_lines::empty_line(), id);
-    let name = with_name(session_lines::extend(begun, b','), kind, key);
+    let name = file_text_print::with_name(session_lines::extend(begun, b','), kind, key);
     let reason = with_why(session_lines::extend(name, b','), why);
     let delivered = with_delivered(session_lines::extend(reason, b','), why, row);
     let right = with_right(session_lines::extend(delivered, b','), why, m);

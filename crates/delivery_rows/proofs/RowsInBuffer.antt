@@ -26,19 +26,6 @@ use Rattle.file_text_print.proofs.TextLengths.{decimal-short, day-long, id-shor
 use Rattle.delivery_rows.specs.Delivery.{Row, deliveryRow, tableRows, rowText, rowsText}
 use Rattle.delivery_rows.specs.Printed.{RowsIn, rowsFirst, hasRoom, rowsOrNone}
 
--- ---- the name of a maturity
-
-module _ (l r : Line) (kind : Kind) (key : ℕ) where
-  -- a maturity of a weekly kind is named by the date of its Friday
-  pub name-friday : isWeekly kind ≡ true → LineWith l (dayText key) r → LineWith l (nameText kind key) r
-  unfolding nameText
-  name-friday e g = rw e g
-
-  -- a maturity of any other kind is named by its month
-  pub name-month : isWeekly kind ≡ false → LineWith l (monthText key) r → LineWith l (nameText kind key) r
-  unfolding nameText
-  name-month e g = rw e g
-
 -- ---- how long a row is
 
 month-long : (key : ℕ) → length (monthText key) ≡ 7

@@ -8,7 +8,6 @@ ghost use Prim.Native.Nat.{_+_, _≤_};
 ghost use lib.ListN.{length};
 ghost use lib.Seq.{paste};
 ghost use Rattle.session_lines.specs.CommandLines.{emptyLine};
-ghost use Rattle.session_text.specs.TermsText.{monthText, nameText};
 ghost use Rattle.file_text_print.specs.Contents.{LineWith};
 ghost use Rattle.delivery_rows.specs.Delivery.{deliveryRow, rowText, deliveryHeading};
 ghost use Rattle.delivery_rows.specs.Printed.{RowsIn, rowsOrNone, rowsFirst, hasRoom};
@@ -23,31 +22,13 @@ pub fn delivery_heading_line() -> Line
     )
 }
 
-// A line with a month more.
-fn with_month(line: Line, key: u16) -> Line
-    ensures { λ r. ⌜ LineWith line (monthText key) r ⌝ }
-{
-    let year = file_text_print::with_four(line, 2000 + key / 12);
-    file_text_print::with_two(session_lines::extend(year, b'-'), key % 12 + 1)
-}
-
-// A line with the name of a maturity more: its month, or the date of its Friday.
-fn with_name(line: Line, kind: Kind, key: u16) -> Line
-    ensures { λ r. ⌜ LineWith line (nameText kind key) r ⌝ }
-{
-    if product::is_weekly(kind) {
-        return file_text_print::with_day(line, key);
-    }
-    with_month(line, key)
-}
-
 // The row of a maturity.
 fn row_line(id: [u8; 4], kind: Kind, m: Maturity) -> Line
     ensures { λ r. ⌜ LineWith emptyLine (rowText (deliveryRow id kind m)) r ⌝ }
 {
     let first = file_text_print::with_id(session_lines::empty_line(), id);
     let number = file_text_print::with_decimal(session_lines::extend(first, b','), m.number);
-    let name = with_name(session_lines::extend(number, b','), kind, m.key);
+    let name = file_text_print::with_name(session_lines::extend(number, b','), kind, m.key);
     let day = file_text_print::with_day(session_lines::extend(name, b','), m.day);
     let back = file_text_print::with_decimal(session_lines::extend(day, b','), m.back);
     session_lines::extend(back, b'\n')

@@ -3,77 +3,36 @@
 use mathlib.Core.Path.{_≡_, refl, _∙_, sym, ap}
 use mathlib.Core.Bool.{Bool, true, false, cond}
 use mathlib.Core.List.{List, [], _∷_, _++_}
-use Prim.Native.Nat.{ℕ, _+_, _≤_, _<_}
-use native.Mathlib.Numerals.{add-one}
-use native.Mathlib.Omega.{arith}
+use Prim.Native.Nat.{ℕ}
 use lib.Dec.{eqb}
-use lib.ListN.{length, getD, drop}
-use lib.Seq.{drop-cons}
-use borrow.Author.Tests.{eq-eqb, ne-eqb}
-use Rattle.questions.proofs.Bools.{clash}
+use lib.ListN.{length, drop, drop-of-length-le}
 use Rattle.session_lines.specs.CommandLines.{linesFrom}
 use Rattle.session_lines.specs.InputRest.{restOver}
 use Rattle.delivery_items.specs.declared.LongLine.{LongLine}
+use Rattle.delivery_items.specs.declared.LineEnd.{LineEnd}
 use Rattle.delivery_items.specs.Items.{emptyLong, lengthened, fedLong}
+use Rattle.delivery_items.specs.LineEnds.{lineEnd}
 use Rattle.delivery_items.proofs.LongItems.{any-empty, fed-more}
+use Rattle.delivery_items.proofs.LineEnds.{end-used, rest-ended, rest-begun}
 use Rattle.delivery_answers.specs.declared.Standing.{Standing}
 use Rattle.delivery_answers.specs.Replies.{questionAnswer}
 use Rattle.delivery_queries.specs.Queries.{nextNumber, repliesText, longText}
 use Rattle.delivery_queries.proofs.LongQuestions.{any-length}
-use Rattle.delivery_sessions.specs.QueryParts.{queryRest, LineFed}
+use Rattle.delivery_sessions.specs.QueryParts.{queryRest}
 
--- the byte at i comes next
-module _ (of : List ℕ → Standing) (k : ℕ) (l : LongLine) (part : List ℕ) (i : ℕ) (h : i < length part) (rest : List ℕ) where
-  feed-ends : getD part i 0 ≡ 10 → queryRest of k l (drop i part ++ rest) ≡ longText of k l ++ queryRest of (nextNumber k) emptyLong (drop (i + 1) part ++ rest)
-  unfolding queryRest restOver
-  feed-ends e = rw (drop-cons part i 0 h, eq-eqb (getD part i 0) 10 e, add-one i) refl
+-- a line from a place of a part on
+module _ (of : List ℕ → Standing) (l : LongLine) (part : List ℕ) (from : ℕ) (e : LineEnd) (is : e ≡ lineEnd l (drop from part) from)
+    (k : ℕ) (rest : List ℕ) where
+  -- one that ends is answered, and the next begins after it
+  pub query-ended : e .ended ≡ true → queryRest of k l (drop from part ++ rest)
+      ≡ longText of k (e .line) ++ queryRest of (nextNumber k) emptyLong (drop (e .next) part ++ rest)
+  unfolding queryRest
+  query-ended y = rest-ended l part from e is _ _ k rest y
 
-  feed-more : (getD part i 0 ≡ 10 → ⊥) → queryRest of k l (drop i part ++ rest) ≡ queryRest of k (lengthened l (getD part i 0)) (drop (i + 1) part ++ rest)
-  unfolding queryRest restOver
-  feed-more e = rw (drop-cons part i 0 h, ne-eqb (getD part i 0) 10 e, add-one i) refl
-
--- bytes so far, no line feed among them
-pub record Fed (l₀ : LongLine) (part : List ℕ) (from : ℕ) (l : LongLine) (i : ℕ) : Type 0 where
-  -- what is still answered from the line begun and the first place is what is still answered from the bytes fed so far
-  pub same : (of : List ℕ → Standing) (k : ℕ) (rest : List ℕ) → queryRest of k l₀ (drop from part ++ rest) ≡ queryRest of k l (drop i part ++ rest)
-  -- the place does not go back
-  pub on : from ≤ i
-  -- a place that begins in the part stays in the part
-  pub within : from ≤ length part → i ≤ length part
-
--- before the first byte nothing is fed
-pub feeds-none : (l : LongLine) (part : List ℕ) (from : ℕ) → Fed l part from l from
-feeds-none l part from = record { same = λ of k rest. refl; on = omega arith; within = λ h. h }
-
-module _ (l₀ : LongLine) (part : List ℕ) (from : ℕ) (l : LongLine) (i : ℕ) (g : Fed l₀ part from l i) where
-  -- a byte that is no line feed is fed to the line
-  pub feeds : i < length part → (getD part i 0 ≡ 10 → ⊥) → (m : LongLine) → m ≡ lengthened l (getD part i 0) → Fed l₀ part from m (i + 1)
-  feeds h e m q =
-      record {
-        same = λ of k rest. g .same of k rest ∙ feed-more of k l part i h rest e ∙ ap (λ (x : LongLine). queryRest of k x (drop (i + 1) part ++ rest)) (sym q);
-        on = omega (arith, g .on);
-        within = λ w. omega arith;
-      }
-
-  -- a line feed ends the line, and the next one begins after it
-  pub line-ends : i < length part → getD part i 0 ≡ 10 → LineFed l₀ part from (record { line = l; next = i + 1; ended = true })
-  line-ends h e =
-      record {
-        ended = λ t of k rest. g .same of k rest ∙ feed-ends of k l part i h rest e;
-        begun = λ t. clash refl t;
-        on = λ w. omega (arith, g .on);
-        within = λ w. omega arith;
-      }
-
-  -- at the end of the part the line is begun and has not ended
-  pub part-ends : length part ≤ i → LineFed l₀ part from (record { line = l; next = i; ended = false })
-  part-ends h =
-      record {
-        ended = λ t. clash t refl;
-        begun = λ t of k rest. g .same of k rest;
-        on = λ w. omega arith;
-        within = g .within;
-      }
+  -- one that does not end goes on after the part
+  pub query-begun : e .ended ≡ false → queryRest of k l (drop from part ++ rest) ≡ queryRest of k (e .line) (drop (e .next) part ++ rest)
+  unfolding queryRest
+  query-begun n = rw (drop-of-length-le part (end-used l part from e is n)) (rest-begun l part from e is _ _ k rest n)
 
 -- ---- the whole input
 

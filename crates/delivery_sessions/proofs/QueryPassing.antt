@@ -17,12 +17,15 @@ use Rattle.session_parts.specs.TermsParts.{another}
 use Rattle.session_parts.proofs.TermsPassing.{next-is, has-next}
 use Rattle.session_lines.specs.InputRest.{restOver}
 use Rattle.delivery_items.specs.declared.LongLine.{LongLine}
+use Rattle.delivery_items.specs.declared.LineEnd.{LineEnd}
 use Rattle.delivery_items.specs.Items.{emptyLong}
+use Rattle.delivery_items.specs.LineEnds.{lineEnd}
+use Rattle.delivery_items.proofs.LineEnds.{end-on, end-within}
 use Rattle.delivery_answers.specs.declared.Standing.{Standing}
 use Rattle.delivery_queries.specs.Queries.{nextNumber, longText}
-use Rattle.delivery_sessions.specs.declared.LineEnd.{LineEnd}
 use Rattle.delivery_sessions.specs.declared.QueryProgress.{QueryProgress}
-use Rattle.delivery_sessions.specs.QueryParts.{queryRest, LineFed, QueryNext, QueryAnswers, QueryLastAnswer}
+use Rattle.delivery_sessions.specs.QueryParts.{queryRest, QueryNext, QueryAnswers, QueryLastAnswer}
+use Rattle.delivery_sessions.proofs.QueryLinesFed.{query-ended, query-begun}
 
 -- ---- the number of the next line
 
@@ -71,18 +74,18 @@ put before after at next text r p =
 -- ---- one line
 
 module _ (of : List ℕ → Standing) (part before : List ℕ) (s : QueryProgress) (inside : s .at < length part) (room : roomy before (s .length) ≡ true)
-    (e : LineEnd) (f : LineFed (s .line) part (s .at) e) where
+    (e : LineEnd) (f : e ≡ lineEnd (s .line) (drop (s .at) part) (s .at)) where
   -- the line does not end in the part
   pub goes-past : e .ended ≡ false → QueryNext of part before before s (record { number = s .number; line = e .line; at = e .next; length = s .length })
   goes-past h =
       record {
         piece = [];
-        text = λ rest. f .begun h of (s .number) rest;
+        text = λ rest. query-begun of (s .line) part (s .at) e f (s .number) rest h;
         is = sym (append-nil (take (s .length) before));
         unchanged = refl;
         long = refl;
         fits = (omega arith, omega (arith, room-long before (s .length) room));
-        on = (f .on inside, f .within (omega arith));
+        on = (end-on (s .line) part (s .at) e f inside, end-within (s .line) part (s .at) e f (omega arith));
       }
 
   -- a line feed ends it
@@ -92,12 +95,12 @@ module _ (of : List ℕ → Standing) (part before : List ℕ) (s : QueryProgres
   is-answered h after k n empty q z p =
       record {
         piece = longText of (s .number) (e .line);
-        text = λ rest. rw (q, z) (f .ended h of (s .number) rest);
+        text = λ rest. rw (q, z) (query-ended of (s .line) part (s .at) e f (s .number) rest h);
         is = w .head;
         unchanged = w .tail;
         long = p .long;
         fits = (omega (arith, w .to), w .fits);
-        on = (f .on inside, f .within (omega arith));
+        on = (end-on (s .line) part (s .at) e f inside, end-within (s .line) part (s .at) e f (omega arith));
       }
     where
       w : Put before after (s .length) n (longText of (s .number) (e .line))

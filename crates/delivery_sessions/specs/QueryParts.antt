@@ -2,7 +2,6 @@
 -- Assumes nothing.
 use Prim.Native.Nat.{ℕ, _+_, _≤_, _<_}
 use mathlib.Core.Path.{_≡_}
-use mathlib.Core.Bool.{true, false}
 use mathlib.Core.List.{List, [], _++_}
 use mathlib.Core.Logic.{_⊎_}
 use lib.ListN.{length, take, drop}
@@ -11,22 +10,12 @@ use Rattle.delivery_items.specs.declared.LongLine.{LongLine}
 use Rattle.delivery_items.specs.Items.{emptyLong, lengthened}
 use Rattle.delivery_answers.specs.declared.Standing.{Standing}
 use Rattle.delivery_queries.specs.Queries.{nextNumber, longText}
-use Rattle.delivery_sessions.specs.declared.LineEnd.{LineEnd}
 use Rattle.delivery_sessions.specs.declared.QueryProgress.{QueryProgress}
 
 -- what is still answered for the rest of an input, with the number of the line that is begun, and its bytes so far;
 -- from an empty line with the number 1 this is `linesText` (proofs, Feeding: `whole-input`)
 unfoldable pub queryRest : (List ℕ → Standing) → ℕ → LongLine → List ℕ → List ℕ
 queryRest of = restOver emptyLong lengthened (λ l. l .length) (λ k. []) (λ k l next. longText of k l ++ next (nextNumber k))
-
--- of a line begun, a part of the input and a place in it: the line's bytes up to its line feed, or to the part's end
-pub record LineFed (l : LongLine) (part : List ℕ) (from : ℕ) (r : LineEnd) : Type 0 where
-  pub ended : r .ended ≡ true → (of : List ℕ → Standing) (k : ℕ) (rest : List ℕ)
-      → queryRest of k l (drop from part ++ rest) ≡ longText of k (r .line) ++ queryRest of (nextNumber k) emptyLong (drop (r .next) part ++ rest)
-  pub begun : r .ended ≡ false → (of : List ℕ → Standing) (k : ℕ) (rest : List ℕ)
-      → queryRest of k l (drop from part ++ rest) ≡ queryRest of k (r .line) (drop (r .next) part ++ rest)
-  pub on : from < length part → from < r .next
-  pub within : from ≤ length part → r .next ≤ length part
 
 -- one line, or the rest of the part: a piece of text stands after what stood in the buffer, and for every rest of the input it is what comes next
 pub record QueryNext (of : List ℕ → Standing) (part before after : List ℕ) (s r : QueryProgress) : Type 0 where

@@ -9,14 +9,7 @@ ghost use lib.ListN.{length};
 ghost use Rattle.session_text.specs.Buffer.{roomy};
 ghost use Rattle.session_parts.specs.TermsParts.{another};
 ghost use Rattle.delivery_queries.specs.Queries.{nextNumber, standingIn};
-ghost use Rattle.delivery_sessions.specs.QueryParts.{LineFed, QueryNext, QueryAnswers, QueryLastAnswer};
-
-// A line, the place in the part after it, and whether a line feed ended it.
-pub struct LineEnd {
-    pub line: LongLine,
-    pub next: usize,
-    pub ended: bool,
-}
+ghost use Rattle.delivery_sessions.specs.QueryParts.{QueryNext, QueryAnswers, QueryLastAnswer};
 
 // The number of the line that is begun, its bytes so far, the place in the part of the input, and how many bytes of answers stand in the buffer.
 pub struct QueryProgress {
@@ -36,31 +29,6 @@ fn next_number(k: u64) -> u64
     k
 }
 
-// A line begun with its bytes from a place of a part on, up to its line feed or to the end of the part.
-pub fn line_from(line: LongLine, part: &[u8], from: usize) -> LineEnd
-    ensures { λ r. ⌜ LineFed line (now (part .entry)) from r ⌝ }
-{
-    let mut l = line;
-    let mut i = from;
-    while i < part.len() {
-        let byte = part[i];
-        i += 1;
-        if byte == b'\n' {
-            return LineEnd {
-                line: l,
-                next: i,
-                ended: true,
-            };
-        }
-        l = delivery_items::extend_long(l, byte);
-    }
-    LineEnd {
-        line: l,
-        next: i,
-        ended: false,
-    }
-}
-
 // The answer to the line that goes on at a place, if it ends in the part; else the line with all the rest of the part.
 fn answer_next(
     file: &[u8],
@@ -78,7 +46,7 @@ fn answer_next(
 {
     let begun = s.line;
     let number = s.number;
-    let e = line_from(begun, part, s.at);
+    let e = delivery_items::line_from(begun, part, s.at);
     let line = e.line;
     if !e.ended {
         return QueryProgress {

@@ -5,7 +5,6 @@ use session_apart::Rest;
 use table::Table;
 ghost use mathlib.Core.Path.{_≡_};
 ghost use mathlib.Core.Bool.{not, _||_};
-ghost use mathlib.Core.List.{[], _∷_};
 ghost use Prim.Native.Nat.{_+_, _*_, _≤_, _<_};
 ghost use lib.Dec.{eqb};
 ghost use lib.ListN.{length, getD};
@@ -34,19 +33,6 @@ pub fn call_number(list: &[u32], i: usize) -> u32
         return list[i];
     }
     0
-}
-
-// The four bytes of id i of a list; 0 past its end.
-pub fn id_in(ids: &[u8], i: u32) -> file_records::FourBytes
-    ensures { λ r. ⌜ r ≡ getD (now (ids .entry)) (4 * i) 0 ∷ getD (now (ids .entry)) (4 * i + 1) 0 ∷ getD (now (ids .entry)) (4 * i + 2) 0 ∷ getD (now (ids .entry)) (4 * i + 3) 0 ∷ [] ⌝ }
-{
-    let at = 4 * (i as usize);
-    [
-        file_blocks::byte_at(ids, at),
-        file_blocks::byte_at(ids, at + 1),
-        file_blocks::byte_at(ids, at + 2),
-        file_blocks::byte_at(ids, at + 3),
-    ]
 }
 
 // Whether a notice of a kind with an id is a call of a product: a measure, 3, only of the one with its id.
@@ -103,7 +89,7 @@ fn notice_at(
     ensures { λ r. ⌜ (ten ≡ sound (tableWith rest (now (closed .entry)) (now (exchange .entry))) → CallMade (noticed id (tableWith rest (now (closed .entry)) (now (exchange .entry))) (noticeAt (now (calls .entry)) (now (ids .entry)) i)) r (now (closed .exit)) (now (exchange .exit))) ⌝ }
 {
     let kind = call_number(calls, 5 * (i as usize) + 1);
-    if !concerns(kind, id_in(ids, i), id) {
+    if !concerns(kind, delivery_products::id_in(ids, i), id) {
         return MadeApart { refusal: 0, rest };
     }
     call_at(file, judged, rest, ten, closed, exchange, calls, i)

@@ -30,8 +30,8 @@ use Rattle.table.specs.Table.{listedIn, openedTable, rollCall}
 use Rattle.table_prices.specs.TablePrices.{tickCall, cashCall}
 
 -- a call's refusal and value
-abbrev pub answers : Answer ℕ → ℕ → ℕ → Bool
-answers a refusal value = eqb (a .refusal) refusal && eqb (a .value) value
+abbrev pub answeredWith : Answer ℕ → ℕ → ℕ → Bool
+answeredWith a refusal value = eqb (a .refusal) refusal && eqb (a .value) value
 
 -- the same numbers in the same order
 abbrev pub sameList : List ℕ → List ℕ → Bool
@@ -136,11 +136,11 @@ cover2010 = record { «first_year» = 2010; years = 1 }
 unfoldable pub rows : List Bool
 rows =
     -- '21 March 2008 is day 3,002, a Friday'
-    answers (dayCall 2008 3 21) 0 3002 ∷ eqb (weekdayOf 3002) 4 ∷
+    answeredWith (dayCall 2008 3 21) 0 3002 ∷ eqb (weekdayOf 3002) 4 ∷
     -- '1 January 2008 is 2,922'
-    answers (dayCall 2008 1 1) 0 2922 ∷
+    answeredWith (dayCall 2008 1 1) 0 2922 ∷
     -- '29 February 2000 is 59; 29 February 2001: 23'
-    answers (dayCall 2000 2 29) 0 59 ∷ answers (dayCall 2001 2 29) 23 0 ∷
+    answeredWith (dayCall 2000 2 29) 0 59 ∷ answeredWith (dayCall 2001 2 29) 23 0 ∷
     -- 'With only 21 March 2008 closed, March 2008 ends on 20 March for FR11 and for IT11'
     eqb (lastTradingDay only21 (Option Months12) FR11 (monthNumber 2008 3)) (dayOf 2008 3 20) ∷
     eqb (lastTradingDay only21 (Option Months12) IT11 (monthNumber 2008 3)) (dayOf 2008 3 20) ∷

@@ -1,6 +1,7 @@
 // The text of what a master file holds, line by line: the form that lists have.
 use calendar::Calendar;
 use calendar::Cover;
+use product::Kind;
 use session_lines::Line;
 ghost use mathlib.Core.Path.{_≡_};
 ghost use mathlib.Core.List.{[], _∷_};
@@ -10,7 +11,7 @@ ghost use lib.Seq.{paste};
 ghost use Rattle.calendar.specs.Trading.{coverStart};
 ghost use Rattle.file_records.specs.Records.{threeBytes, fourBytes};
 ghost use Rattle.session_lines.specs.CommandLines.{emptyLine};
-ghost use Rattle.session_text.specs.TermsText.{lastDigit, inTwoDigits, inFourDigits, decimal, dayText, spaced};
+ghost use Rattle.session_text.specs.TermsText.{lastDigit, inTwoDigits, inFourDigits, decimal, dayText, monthText, nameText, spaced};
 ghost use Rattle.file_text_print.specs.Contents.{LineWith, coverText, markedText, idText, partText, productText, dayLine, placeLine, coverDays, lineText, lineCount, anotherLine, LinesIn};
 
 // The next line of the text, and how many bytes of it stand in the buffer.
@@ -81,6 +82,24 @@ pub fn with_day(line: Line, day: u16) -> Line
     let year = with_four(line, date.year);
     let month = with_two(session_lines::extend(year, b'-'), date.month);
     with_two(session_lines::extend(month, b'-'), date.day)
+}
+
+// A line with a month by its number more.
+fn with_month(line: Line, month: u16) -> Line
+    ensures { λ r. ⌜ LineWith line (monthText month) r ⌝ }
+{
+    let year = with_four(line, 2000 + month / 12);
+    with_two(session_lines::extend(year, b'-'), month % 12 + 1)
+}
+
+// A line with the name of a maturity more: its month, or the date of its Friday.
+pub fn with_name(line: Line, kind: Kind, key: u16) -> Line
+    ensures { λ r. ⌜ LineWith line (nameText kind key) r ⌝ }
+{
+    if product::is_weekly(kind) {
+        return with_day(line, key);
+    }
+    with_month(line, key)
 }
 
 // The line of a cover.

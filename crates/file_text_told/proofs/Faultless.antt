@@ -40,7 +40,7 @@ module _ (room question : ℕ) (P : List ℕ → Calendar → Bool → List ℕ 
   Of before c = P before (c .calendar) (c .seeded) (c .records)
 
   -- after the last line
-  pub record Kept (c : Content) : Type 0 where
+  pub record KeptToEnd (c : Content) : Type 0 where
     -- the id of the last product before the end
     pub before : List ℕ
     -- of that id and of what is then said, the property holds
@@ -80,7 +80,7 @@ module _ (room question : ℕ) (P : List ℕ → Calendar → Bool → List ℕ 
   -- what each line keeps holds after all lines, where none is bad and none is at fault for the question
   pub lines-keep : (before : List ℕ) (c : Content) (lines : List (List ℕ)) (n : ℕ) → Of before c → c .bad ≡ 0
       → linesTaken room c (numberedFrom n lines) .bad ≡ 0 → faultFrom question before (numberedFrom n lines) .line ≡ 0
-      → Kept (linesTaken room c (numberedFrom n lines))
+      → KeptToEnd (linesTaken room c (numberedFrom n lines))
   unfolding linesTaken numberedFrom faultFrom
   lines-keep before c [] n p z h f = record { before = before; holds = p }
   lines-keep before c (line ∷ lines) n p z h f =
@@ -105,7 +105,7 @@ module _ (room question : ℕ) (P : List ℕ → Calendar → Bool → List ℕ 
 
       go : (b : Bool) → atFault question before e ≡ b
           → cond b (record { line = nextLine n; id = fourBytes (e .«record») 0 }) (faultFrom question (idAfter before e) rest) .line ≡ 0
-          → ((b : List ℕ) → Of b next → next .bad ≡ 0 → faultFrom question b rest .line ≡ 0 → Kept (linesTaken room next rest))
-          → Kept (linesTaken room next rest)
+          → ((b : List ℕ) → Of b next → next .bad ≡ 0 → faultFrom question b rest .line ≡ 0 → KeptToEnd (linesTaken room next rest))
+          → KeptToEnd (linesTaken room next rest)
       go true a f ih = clash (eq-eqb (nextLine n) 0 f) (next-some n)
       go false a f ih = ih (idAfter before e) (line-keeps before c e (said-long (eqb n 0) line) a p z stays-good) stays-good f

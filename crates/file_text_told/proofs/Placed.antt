@@ -25,7 +25,7 @@ use Rattle.session_lines.specs.CommandLines.{noId, linesFrom}
 use Rattle.file_text_faults.specs.Faults.{firstFault, firstIdle}
 use Rattle.file_text_read.specs.Lists.{noContent, numberedLines, contentOf}
 use Rattle.file_text_told.specs.Whole.{textContent, textRefusal, SaysPlace}
-use Rattle.file_text_told.proofs.Faultless.{Keeps, Kept, lines-keep}
+use Rattle.file_text_told.proofs.Faultless.{Keeps, KeptToEnd, lines-keep}
 use Rattle.file_text_told.proofs.CleanDays.{zero-clean, zero-long, CleanOf, keeps-clean}
 use Rattle.file_text_told.proofs.ListRecords.{RightOf, keeps-right, RisesOf, keeps-rising}
 
@@ -140,7 +140,7 @@ found f none (suc n) d (suc j) h e = go (f d) refl (found f none n (suc d) j (om
 module _ (input : List ℕ) (good : textContent input .bad ≡ 0) where
   -- with no line at fault for a question, what each line keeps is kept
   faultless : (question : ℕ) (P : List ℕ → Calendar → Bool → List ℕ → Type 0) (step : Keeps 65536 question P) → P noId zeroCalendar false []
-      → firstFault question (numberedLines input) .line ≡ 0 → Kept 65536 question P step (textContent input)
+      → firstFault question (numberedLines input) .line ≡ 0 → KeptToEnd 65536 question P step (textContent input)
   unfolding textContent contentOf numberedLines noContent firstFault
   faultless question P step p z = lines-keep 65536 question P step noId noContent (linesFrom [] input) 0 p refl good z
 

@@ -28,7 +28,7 @@ use Rattle.file_text_read.specs.Lists.{nothingTaken, numberedLines, contentOf, 
 use Rattle.file_text_read.proofs.ListLines.{whole-list}
 use Rattle.file_text_read.proofs.Where.{says-where}
 use Rattle.file_text_told.specs.ComposeTexts.{badEntryText, atLineText, fromText, atProductText, whereText, refusedFileText, saidText}
-use Rattle.file_text_told.specs.Whole.{textContent, textRefusal, composeText, composeTold, ReadTo, OfInput, Ran}
+use Rattle.file_text_told.specs.Whole.{textContent, textRefusal, composeText, composeTold, ReadTo, OfInput, ComposeHandedOut}
 use Rattle.file_text_told.proofs.Lengths.{told-short}
 
 -- ---- part by part
@@ -186,6 +186,6 @@ module _ (t : ListTaken) (l : LongLine) (before after : List ℕ) (r : ListTaken
 -- what was handed out
 pub handed : (n : ℕ) (text told : List ℕ) → OfInput n text told → (taken : Bool) (bytes k : ℕ) → (taken ≡ true → bytes ≡ length text)
     → k % 2 ^ 64 ≡ length told % 2 ^ 64
-    → Ran n taken bytes k
+    → ComposeHandedOut n taken bytes k
 handed n text told o taken bytes k p q =
     record { input = o .input; count = o .count; file = λ e. p e ∙ ap length (o .file); said = q ∙ ap (λ t. length t % 2 ^ 64) (o .said) }

@@ -63,7 +63,7 @@ pub record OfInput (n : ℕ) (text told : List ℕ) : Type 0 where
 -- where standard output took all, it took as many bytes as the input's file has;
 -- as many bytes were told as there are to tell of it, modulo 2^64
 -- which bytes these were is not said here: the function that hands them out requires it (`OfInput`)
-pub record Ran (n : ℕ) (taken : Bool) (bytes told : ℕ) : Type 0 where
+pub record ComposeHandedOut (n : ℕ) (taken : Bool) (bytes told : ℕ) : Type 0 where
   pub input : List ℕ
   pub count : n ≡ length input % 2 ^ 64
   pub file : taken ≡ true → bytes ≡ length (composeText input)

@@ -86,7 +86,7 @@ module _ (f notices : List ℕ) (verdict : Answer Calendar) (own : verdict ≡ j
   module _ (yes : verdict .refusal ≡ 0) (calls ids : List ℕ) (t : NoticesTaken) (held : toldIn t calls ids ≡ toldHeld (textTold notices))
       (some : t .bad ≡ 0 → ⊥) where
     bad-own : t .bad ≡ textTold notices .bad
-    bad-own = ap (λ (x : notice.Told). x .bad) held
+    bad-own = ap (λ (x : notice.NoticesTold). x .bad) held
 
     bad-is : badNoticeText (t .bad) ≡ reconcileTold f notices []
     unfolding reconcileTold

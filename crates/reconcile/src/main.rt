@@ -2,9 +2,9 @@
 // and prints where they differ from the tables of all products after the notices.
 mod output;
 
-use delivery_judging::Printed;
+use delivery_judging::LinesPrinted;
 use delivery_notices::NoticesTaken;
-use delivery_reading::Reading;
+use delivery_reading::RowsKept;
 use file_calendar::FileCalendar;
 use streams::Input;
 use streams::Sent;
@@ -47,7 +47,7 @@ fn print_products(
     numbers: &[u16],
     backs: &[u16],
     places: &mut [u16],
-) -> Printed
+) -> LinesPrinted
     requires { ⌜ Runs (now file) (now text) (calendarAnswer judged) t (now calls) (now of) × (rows ≤ 65536) × (65536 ≤ length (now places)) × (headed .open ≡ true → Grew 0 (length differencesHeading) (headed .bytes)) ⌝ }
     ensures { λ r. ⌜ ProductsOut (now (file .entry)) (now (text .entry)) (record { ids = now (ids .entry); keys = now (keys .entry); days = now (days .entry); fulls = now (fulls .entry); numbers = now (numbers .entry); backs = now (backs .entry) }) rows r ⌝ }
 {
@@ -71,7 +71,7 @@ fn print_products(
 
 // The lines of the ids that are not in the file, which come after those of the products.
 fn print_others(
-    own: Printed,
+    own: LinesPrinted,
     file: &[u8],
     text: &[u8],
     rows: u32,
@@ -81,14 +81,14 @@ fn print_others(
     fulls: &[u8],
     numbers: &[u16],
     backs: &[u16],
-) -> Printed
+) -> LinesPrinted
     requires { ⌜ (length (now file) ≤ 65537) × (rows ≤ 65536) × ProductsOut (now file) (now text) (record { ids = now ids; keys = now keys; days = now days; fulls = now fulls; numbers = now numbers; backs = now backs }) rows own ⌝ }
     ensures { λ r. ⌜ DifferencesOut (now (file .entry)) (now (text .entry)) (record { ids = now (ids .entry); keys = now (keys .entry); days = now (days .entry); fulls = now (fulls .entry); numbers = now (numbers .entry); backs = now (backs .entry) }) rows r ⌝ }
 {
     let others = delivery_judging::print_strangers(own.sent, file, rows, ids);
     let sent = others.sent;
     let lines = own.lines + others.lines;
-    Printed { sent, lines }
+    LinesPrinted { sent, lines }
 }
 
 // The lines of differences under their heading.
@@ -107,7 +107,7 @@ fn print_all(
     numbers: &[u16],
     backs: &[u16],
     places: &mut [u16],
-) -> Printed
+) -> LinesPrinted
     requires { ⌜ Runs (now file) (now text) (calendarAnswer judged) t (now calls) (now of) × (rows ≤ 65536) × (65536 ≤ length (now places)) ⌝ }
     ensures { λ r. ⌜ DifferencesOut (now (file .entry)) (now (text .entry)) (record { ids = now (ids .entry); keys = now (keys .entry); days = now (days .entry); fulls = now (fulls .entry); numbers = now (numbers .entry); backs = now (backs .entry) }) rows r ⌝ }
 {
@@ -144,7 +144,7 @@ fn print_all(
 }
 
 // Tells the counts. Standard output is written before; where it does not take all, they are not told.
-fn tell_counts(kept: Reading, file: &[u8], p: Printed) -> Told
+fn tell_counts(kept: RowsKept, file: &[u8], p: LinesPrinted) -> Told
     requires { ⌜ (length (now file) ≤ 65537) × (kept .state .rows ≤ 65536) × (p .lines < 1000000000) × (kept .bad < 1000000000) ⌝ }
     ensures { λ r. ⌜ (p .sent .open ≡ true → Grew (kept .told .bytes) (length (summaryText (recordCount (now (file .entry))) (kept .state .rows) (p .lines) (kept .bad))) (r .bytes)) ⌝ }
 {

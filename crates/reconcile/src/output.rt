@@ -1,6 +1,6 @@
 // Writing to standard output, and telling on standard error.
-use delivery_judging::Printed;
-use delivery_reading::Reading;
+use delivery_judging::LinesPrinted;
+use delivery_reading::RowsKept;
 use session_lines::Line;
 use streams::Sent;
 use streams::Told;
@@ -28,7 +28,7 @@ pub(crate) fn write_heading(line: Line) -> Sent
 }
 
 // Tells a line after what was told, which has to be that of the counts.
-pub(crate) fn tell_last(kept: Reading, file: &[u8], p: Printed, line: Line) -> Told
+pub(crate) fn tell_last(kept: RowsKept, file: &[u8], p: LinesPrinted, line: Line) -> Told
     requires { ⌜ (length (summaryText (recordCount (now file)) (kept .state .rows) (p .lines) (kept .bad)) < 64) × LineWith emptyLine (summaryText (recordCount (now file)) (kept .state .rows) (p .lines) (kept .bad)) line ⌝ }
     ensures { λ r. ⌜ Grew (kept .told .bytes) (length (summaryText (recordCount (now (file .entry))) (kept .state .rows) (p .lines) (kept .bad))) (r .bytes) ⌝ }
 {

@@ -30,7 +30,7 @@ returns-3 c =
     let at-receiving = at-if1 .before in
     let fed = rw (at-from .before .empty-long-line .ensures) at (at-from .line-from .ensures) in
     line-taken _ _ _ _ _ (at-receiving .before .line-start .ensures) (at-if1 .if1 .left) _ fed _ (at-receiving .receiving-of .ensures) _
-    (at-place .place-after .ensures) (at-if2 .if2 .left) _ _ (at-take .take-line .ensures) _ (c .receipt-from3 .ensures)
+    (at-place .place-after .ensures) (at-if2 .if2 .left) _ _ (at-take .receive-line .ensures) _ (c .receipt-from3 .ensures)
 
 pub receive-spec : {M : Type 1} → statement M
 receive-spec =

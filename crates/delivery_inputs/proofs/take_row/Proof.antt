@@ -8,11 +8,11 @@ returns : tie.Need-returns
 returns c =
     let before-14 = c .before .before .before .before .before .before .before .before .before .before .before .before .before .before in
     record {
-      is = before-14 .take-line .ensures .is;
+      is = before-14 .receive-line .ensures .is;
       text = c .before .told-line .ensures;
       count = λ n e. count-is _ _ _ n (c .bad-count .ensures) e;
       lengths =
-          before-14 .take-line .ensures .lengths;
+          before-14 .receive-line .ensures .lengths;
     }
 
 pub take-row-spec : {M : Type 1} → statement M

@@ -4,7 +4,7 @@ use Prim.Native.Nat.{_-_}
 use native.Mathlib.Omega.{arith}
 use lib.ListN.{length, take}
 use Rattle.delivery_differences.specs.Differences.{rowsAt}
-use Rattle.delivery_judging.proofs.Keys.{Going, goes-first, more-few, goes-on, goes-all}
+use Rattle.delivery_judging.proofs.KeysWritten.{Going, goes-first, more-few, goes-on, goes-all}
 use borrow.Author.Needs.{needs}
 use Rattle.delivery_judging.proofs.print_keys.Statement.{statement}
 use Rattle.delivery_judging.proofs.print_keys.Tie as tie

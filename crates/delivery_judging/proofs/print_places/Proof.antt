@@ -6,7 +6,7 @@ use lib.ListN.{length}
 use Rattle.file_ids.specs.Ids.{placeCount}
 use Rattle.file_calendar.specs.Calendars.{calendarAnswer}
 use Rattle.table.specs.Table.{openIn}
-use Rattle.delivery_judging.specs.Judging.{PlacesOut}
+use Rattle.delivery_judging.specs.LinesOut.{PlacesOut}
 use Rattle.delivery_judging.proofs.Places.{places-none, places-more, places-at, place-at}
 use Rattle.delivery_judging.proofs.print_places.Statement.{statement}
 use Rattle.delivery_judging.proofs.print_places.Tie as tie

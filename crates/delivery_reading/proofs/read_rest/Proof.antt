@@ -6,7 +6,7 @@ use lib.ListN.{length}
 use lib.Seq.{length-take-le}
 use Rattle.delivery_receipts.specs.Receiving.{roomIn, SameLengths}
 use borrow.Author.Needs.{needs}
-use Rattle.delivery_reading.specs.Reading.{ReadTo}
+use Rattle.delivery_reading.specs.Reading.{RowsReadTo}
 use Rattle.delivery_reading.proofs.Comes.{same-lists, then-lists, room-same, read-on, goes, stops}
 use Rattle.delivery_reading.proofs.read_rest.Statement.{statement}
 use Rattle.delivery_reading.proofs.read_rest.Tie as tie
@@ -16,8 +16,8 @@ Inv-loop part₀ file ids₀ keys₀ days₀ fulls₀ numbers₀ backs₀ input�
     SameLengths (record { ids = ids₀; keys = keys₀; days = days₀; fulls = fulls₀; numbers = numbers₀; backs = backs₀ })
     (record { ids = ids; keys = keys; days = days; fulls = fulls; numbers = numbers; backs = backs }) × (length part ≡ length part₀)
     × ((told : ℕ) → roomIn (record { ids = ids₀; keys = keys₀; days = days₀; fulls = fulls₀; numbers = numbers₀; backs = backs₀ }) ≡ 65536
-    → ReadTo file told (record { ids = ids₀; keys = keys₀; days = days₀; fulls = fulls₀; numbers = numbers₀; backs = backs₀ }) (input₀ .left)
-    (input₀ .bytes) k₀ → ReadTo file told (record { ids = ids; keys = keys; days = days; fulls = fulls; numbers = numbers; backs = backs }) (input .left)
+    → RowsReadTo file told (record { ids = ids₀; keys = keys₀; days = days₀; fulls = fulls₀; numbers = numbers₀; backs = backs₀ }) (input₀ .left)
+    (input₀ .bytes) k₀ → RowsReadTo file told (record { ids = ids; keys = keys; days = days; fulls = fulls; numbers = numbers; backs = backs }) (input .left)
     (input .bytes) k)
 
 abbrev μ-loop : tie.MeasureT-loop
@@ -35,14 +35,14 @@ slice-aggregate-read-on-or-tell c = search needs
 read-on-or-tell-requires : tie.Need-read-on-or-tell-requires Inv-loop μ-loop
 read-on-or-tell-requires c κs = tt
 
-slice-reshare-prefix-take-part : tie.Need-slice-reshare-prefix-take-part Inv-loop μ-loop
-slice-reshare-prefix-take-part c = search needs
+slice-reshare-prefix-receive-part : tie.Need-slice-reshare-prefix-receive-part Inv-loop μ-loop
+slice-reshare-prefix-receive-part c = search needs
 
-slice-aggregate-take-part : tie.Need-slice-aggregate-take-part Inv-loop μ-loop
-slice-aggregate-take-part c = sym (length-take-le _ _ (c .before .before .before .before .read-on-or-tell .ensures .within .0))
+slice-aggregate-receive-part : tie.Need-slice-aggregate-receive-part Inv-loop μ-loop
+slice-aggregate-receive-part c = sym (length-take-le _ _ (c .before .before .before .before .read-on-or-tell .ensures .within .0))
 
-take-part-requires : tie.Need-take-part-requires Inv-loop μ-loop
-take-part-requires c κs = tt
+receive-part-requires : tie.Need-receive-part-requires Inv-loop μ-loop
+receive-part-requires c κs = tt
 
 loop-less : tie.Need-loop-less Inv-loop μ-loop
 loop-less c =
@@ -79,7 +79,7 @@ loop-again c =
     c .before .before .before .before .before .before .before .before .before .before .before .before .before .before .before .before .before .before
     .before .before .before .before .before in
     let v = before-28 .loop .inv in
-    let x = c .before .before .before .before .before .before .before .before .before .before .before .before .take-part .ensures in
+    let x = c .before .before .before .before .before .before .before .before .before .before .before .before .receive-part .ensures in
     let e = before-23 .read-on-or-tell .ensures in
     let some = goes (before-28 .loop .input .left) (before-28 .loop .k .kept .state .over) _
     (c .before .before .before .before .before .before .before .before .before .before .before .before .before .before .before .before .before .before
@@ -124,6 +124,6 @@ returns c = let v = c .before .before .loop .inv in (
 
 pub read-rest-spec : {M : Type 1} → statement M
 read-rest-spec =
-    tie.close (tie.spec Inv-loop μ-loop loop-holds goes-on-requires slice-aggregate-read-on-or-tell read-on-or-tell-requires slice-reshare-prefix-take-part
-    slice-aggregate-take-part take-part-requires loop-less loop-again same-length same-length-2 same-length-3 same-length-4 same-length-5 same-length-6
+    tie.close (tie.spec Inv-loop μ-loop loop-holds goes-on-requires slice-aggregate-read-on-or-tell read-on-or-tell-requires slice-reshare-prefix-receive-part
+    slice-aggregate-receive-part receive-part-requires loop-less loop-again same-length same-length-2 same-length-3 same-length-4 same-length-5 same-length-6
     same-length-7 returns)

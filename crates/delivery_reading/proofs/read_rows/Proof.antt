@@ -21,52 +21,52 @@ read-rest-requires c κs =
     )
 
 same-length : tie.Need-same-length
-same-length c = c .before .before .before .before .before .before .before .before .before .before .before .before .take-all .kept .1 .1 .0 ∙
+same-length c = c .before .before .before .before .before .before .before .before .before .before .before .before .receive-all .kept .1 .1 .0 ∙
     c .before .before .before .before .before .before .before .before .before .before .before .before .before .before .before .before .before .before .before
     .before .before .before .before .before .before .before .before .before .before .before .before .before .read-rest .ensures .0 .ids ∙
     c .before .before .before .before .before .before .before .before .before .before .before .before .before .before .before .before .before .before .before
     .before .before .before .before .before .before .before .before .before .before .before .before .before .before .before .before .before .before .before
-    .before .before .before .before .before .before .before .before .before .before .before .before .before .before .take-first .ensures .lengths .ids
+    .before .before .before .before .before .before .before .before .before .before .before .before .before .before .receive-first .ensures .lengths .ids
 
 same-length-2 : tie.Need-same-length-2
-same-length-2 c = c .before .before .before .before .before .before .before .before .before .before .before .before .take-all .kept .1 .1 .1 .0 ∙
+same-length-2 c = c .before .before .before .before .before .before .before .before .before .before .before .before .receive-all .kept .1 .1 .1 .0 ∙
     c .before .before .before .before .before .before .before .before .before .before .before .before .before .before .before .before .before .before .before
     .before .before .before .before .before .before .before .before .before .before .before .before .before .read-rest .ensures .0 .keys ∙
     c .before .before .before .before .before .before .before .before .before .before .before .before .before .before .before .before .before .before .before
     .before .before .before .before .before .before .before .before .before .before .before .before .before .before .before .before .before .before .before
-    .before .before .before .before .before .before .before .before .before .before .before .before .before .before .take-first .ensures .lengths .keys
+    .before .before .before .before .before .before .before .before .before .before .before .before .before .before .receive-first .ensures .lengths .keys
 
 same-length-3 : tie.Need-same-length-3
-same-length-3 c = c .before .before .before .before .before .before .before .before .before .before .before .before .take-all .kept .1 .1 .1 .1 .0 ∙
+same-length-3 c = c .before .before .before .before .before .before .before .before .before .before .before .before .receive-all .kept .1 .1 .1 .1 .0 ∙
     c .before .before .before .before .before .before .before .before .before .before .before .before .before .before .before .before .before .before .before
     .before .before .before .before .before .before .before .before .before .before .before .before .before .read-rest .ensures .0 .days ∙
     c .before .before .before .before .before .before .before .before .before .before .before .before .before .before .before .before .before .before .before
     .before .before .before .before .before .before .before .before .before .before .before .before .before .before .before .before .before .before .before
-    .before .before .before .before .before .before .before .before .before .before .before .before .before .before .take-first .ensures .lengths .days
+    .before .before .before .before .before .before .before .before .before .before .before .before .before .before .receive-first .ensures .lengths .days
 
 same-length-4 : tie.Need-same-length-4
-same-length-4 c = c .before .before .before .before .before .before .before .before .before .before .before .before .take-all .kept .1 .1 .1 .1 .1 .0 ∙
+same-length-4 c = c .before .before .before .before .before .before .before .before .before .before .before .before .receive-all .kept .1 .1 .1 .1 .1 .0 ∙
     c .before .before .before .before .before .before .before .before .before .before .before .before .before .before .before .before .before .before .before
     .before .before .before .before .before .before .before .before .before .before .before .before .before .read-rest .ensures .0 .fulls ∙
     c .before .before .before .before .before .before .before .before .before .before .before .before .before .before .before .before .before .before .before
     .before .before .before .before .before .before .before .before .before .before .before .before .before .before .before .before .before .before .before
-    .before .before .before .before .before .before .before .before .before .before .before .before .before .before .take-first .ensures .lengths .fulls
+    .before .before .before .before .before .before .before .before .before .before .before .before .before .before .receive-first .ensures .lengths .fulls
 
 same-length-5 : tie.Need-same-length-5
-same-length-5 c = c .before .before .before .before .before .before .before .before .before .before .before .before .take-all .kept .1 .1 .1 .1 .1 .1 .0 ∙
+same-length-5 c = c .before .before .before .before .before .before .before .before .before .before .before .before .receive-all .kept .1 .1 .1 .1 .1 .1 .0 ∙
     c .before .before .before .before .before .before .before .before .before .before .before .before .before .before .before .before .before .before .before
     .before .before .before .before .before .before .before .before .before .before .before .before .before .read-rest .ensures .0 .numbers ∙
     c .before .before .before .before .before .before .before .before .before .before .before .before .before .before .before .before .before .before .before
     .before .before .before .before .before .before .before .before .before .before .before .before .before .before .before .before .before .before .before
-    .before .before .before .before .before .before .before .before .before .before .before .before .before .before .take-first .ensures .lengths .numbers
+    .before .before .before .before .before .before .before .before .before .before .before .before .before .before .receive-first .ensures .lengths .numbers
 
 same-length-6 : tie.Need-same-length-6
-same-length-6 c = c .before .before .before .before .before .before .before .before .before .before .before .before .take-all .kept .1 .1 .1 .1 .1 .1 .1 .0 ∙
+same-length-6 c = c .before .before .before .before .before .before .before .before .before .before .before .before .receive-all .kept .1 .1 .1 .1 .1 .1 .1 .0 ∙
     c .before .before .before .before .before .before .before .before .before .before .before .before .before .before .before .before .before .before .before
     .before .before .before .before .before .before .before .before .before .before .before .before .before .read-rest .ensures .0 .backs ∙
     c .before .before .before .before .before .before .before .before .before .before .before .before .before .before .before .before .before .before .before
     .before .before .before .before .before .before .before .before .before .before .before .before .before .before .before .before .before .before .before
-    .before .before .before .before .before .before .before .before .before .before .before .before .before .before .take-first .ensures .lengths .backs
+    .before .before .before .before .before .before .before .before .before .before .before .before .before .before .receive-first .ensures .lengths .backs
 
 returns-2 : tie.Need-returns-2
 returns-2 c =
@@ -75,12 +75,12 @@ returns-2 c =
     .before .before .before .before .before .before .before .before .before .before .before .before .before .before .before .before .before .before .before
     .before .before .before .before .before .before .before .before .before .before .before .before .before .before .before in
     let at-read = at-first .before .before .before .before .before .before .before .before .before .before .before .before in
-    let first = at-first .take-first .ensures in
+    let first = at-first .receive-first .ensures in
     let e = at-read .read-on-or-tell .ensures in
     let rest =
     c .before .before .before .before .before .before .before .before .before .before .before .before .before .before .before .before .before .before
     .before .before .before .before .before .before .before .before .before .before .before .before .before .before .read-rest .ensures in
-    let all = c .before .before .before .before .before .before .before .before .before .before .before .before .take-all .ensures in
+    let all = c .before .before .before .before .before .before .before .before .before .before .before .before .receive-all .ensures in
     let nothing = at-read .before .before .before .nothing-read .ensures in
     let own = room-same _ _ (first .lengths) in (
       λ room n.

@@ -9,7 +9,7 @@ use Prim.Native.Nat.{_-_, _≤_}
 use Rattle.questions.specs.Search.{every}
 use Rattle.questions.proofs.Search.{every-none, every-more, every-not}
 use Rattle.file_load.specs.Products.{sameId}
-use Rattle.delivery_receipts.specs.Receiving.{idIn}
+use Rattle.delivery_products.specs.IdList.{idIn}
 use Rattle.delivery_receipts.proofs.stands_first.Statement.{statement}
 use Rattle.delivery_receipts.proofs.stands_first.Tie as tie
 

@@ -1,8 +1,8 @@
 -- What is told of the line is told after it is taken.
 use mathlib.Core.Path.{refl}
 use Rattle.delivery_reading.proofs.Comes.{row-told}
-use Rattle.delivery_reading.proofs.take_told.Statement.{statement}
-use Rattle.delivery_reading.proofs.take_told.Tie as tie
+use Rattle.delivery_reading.proofs.receive_told.Statement.{statement}
+use Rattle.delivery_reading.proofs.receive_told.Tie as tie
 
 tell-row-requires : tie.Need-tell-row-requires
 tell-row-requires c κs = c .before .before .before .before .before .before .before .before .before .before .before .before .before .take-row .ensures .text
@@ -39,5 +39,6 @@ returns c =
     .before .before .before .before .before .before .before .before .before .before .args .k) _ _ _ (before-14 .take-row .result)
     (before-14 .take-row .ensures) _ refl refl (c .tell-row .ensures)
 
-pub take-told-spec : {M : Type 1} → statement M
-take-told-spec = tie.close (tie.spec (λ c κs. tt) tell-row-requires same-length same-length-2 same-length-3 same-length-4 same-length-5 same-length-6 returns)
+pub receive-told-spec : {M : Type 1} → statement M
+receive-told-spec =
+    tie.close (tie.spec (λ c κs. tt) tell-row-requires same-length same-length-2 same-length-3 same-length-4 same-length-5 same-length-6 returns)

@@ -1,8 +1,8 @@
 -- The part after its mark, from nothing received on.
 use borrow.Author.Needs.{needs}
 use Rattle.delivery_reading.proofs.Comes.{first-told}
-use Rattle.delivery_reading.proofs.take_first.Statement.{statement}
-use Rattle.delivery_reading.proofs.take_first.Tie as tie
+use Rattle.delivery_reading.proofs.receive_first.Statement.{statement}
+use Rattle.delivery_reading.proofs.receive_first.Tie as tie
 
 returns : tie.Need-returns
 returns c =
@@ -13,9 +13,9 @@ returns c =
     first-told _ _ (before-21 .nothing-kept .result) (k .0) (k .1) (k .2) _ _
     (c .before .before .before .before .before .before .before .before .before .before .before .before .before .before .before .before .before .before
     .before .before .mark-length .ensures .0) _ _ _
-    (c .before .before .before .before .before .before .before .before .before .before .before .before .take-part .ensures)
+    (c .before .before .before .before .before .before .before .before .before .before .before .before .receive-part .ensures)
 
-pub take-first-spec : {M : Type 1} → statement M
-take-first-spec =
+pub receive-first-spec : {M : Type 1} → statement M
+receive-first-spec =
     tie.close (tie.spec (λ c κs. search needs) (λ c κs. search needs) (λ c. search needs) (λ c. search needs) (λ c. search needs) (λ c κs. search needs)
     (λ c. search needs) (λ c. search needs) (λ c. search needs) (λ c. search needs) (λ c. search needs) (λ c. search needs) returns)

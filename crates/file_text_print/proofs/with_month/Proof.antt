@@ -1,9 +1,9 @@
 -- `with_month` adds the year in four digits, a dash and the month in two, which are `monthText`; both numbers fit 16 bits.
 use borrow.Author.Needs.{needs}
 use Rattle.file_text_print.proofs.Building.{then, one}
 use Rattle.session_text.specs.TermsText.{yearMonth, monthText}
-use Rattle.delivery_rows.proofs.with_month.Statement.{statement}
-use Rattle.delivery_rows.proofs.with_month.Tie as tie
+use Rattle.file_text_print.proofs.with_month.Statement.{statement}
+use Rattle.file_text_print.proofs.with_month.Tie as tie
 
 returns : tie.Need-returns
 unfolding monthText yearMonth

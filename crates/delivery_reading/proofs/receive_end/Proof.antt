@@ -3,8 +3,8 @@ use borrow.Author.Needs.{needs}
 use mathlib.Core.Path.{refl}
 use borrow.Author.Tests.{not-true, not-false}
 use Rattle.questions.proofs.Bools.{clash}
-use Rattle.delivery_reading.proofs.take_end.Statement.{statement}
-use Rattle.delivery_reading.proofs.take_end.Tie as tie
+use Rattle.delivery_reading.proofs.receive_end.Statement.{statement}
+use Rattle.delivery_reading.proofs.receive_end.Tie as tie
 
 returns : tie.Need-returns
 returns c = record { ended = λ y. clash y (not-true _ (c .if1 .taken)); begun = λ n. (refl, (refl, refl)) }
@@ -13,7 +13,7 @@ returns-2 : tie.Need-returns-2
 returns-2 c =
     record {
       ended = λ y. (
-        c .before .before .before .before .before .before .before .before .before .before .before .before .before .take-told .ensures,
+        c .before .before .before .before .before .before .before .before .before .before .before .before .before .receive-told .ensures,
         c .empty-long-line .ensures,
       );
       begun =
@@ -24,7 +24,7 @@ returns-2 c =
           .before .before .if1 .left)) n;
     }
 
-pub take-end-spec : {M : Type 1} → statement M
-take-end-spec =
+pub receive-end-spec : {M : Type 1} → statement M
+receive-end-spec =
     tie.close (tie.spec returns (λ c κs. search needs) (λ c κs. search needs) (λ c. search needs) (λ c. search needs) (λ c. search needs) (λ c. search needs)
     (λ c. search needs) (λ c. search needs) returns-2)

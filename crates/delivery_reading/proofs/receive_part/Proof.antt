@@ -2,10 +2,11 @@
 use Prim.Native.Nat.{_-_}
 use native.Mathlib.Omega.{arith}
 use lib.ListN.{length, drop}
+use Rattle.delivery_items.proofs.LineEnds.{end-on}
 use Rattle.delivery_reading.specs.Reading.{PartTold}
 use Rattle.delivery_reading.proofs.Comes.{part-none, part-more, part-all}
-use Rattle.delivery_reading.proofs.take_part.Statement.{statement}
-use Rattle.delivery_reading.proofs.take_part.Tie as tie
+use Rattle.delivery_reading.proofs.receive_part.Statement.{statement}
+use Rattle.delivery_reading.proofs.receive_part.Tie as tie
 
 abbrev Inv-loop : tie.InvT-loop
 Inv-loop part file ids₀ keys₀ days₀ fulls₀ numbers₀ backs₀ s₀ at₀ ids keys days fulls numbers backs s at =
@@ -21,8 +22,8 @@ loop-holds c = part-none _ _ _ _
 line-from-requires : tie.Need-line-from-requires Inv-loop μ-loop
 line-from-requires c κs = tt
 
-take-end-requires : tie.Need-take-end-requires Inv-loop μ-loop
-take-end-requires c κs = tt
+receive-end-requires : tie.Need-receive-end-requires Inv-loop μ-loop
+receive-end-requires c κs = tt
 
 loop-less : tie.Need-loop-less Inv-loop μ-loop
 loop-less c =
@@ -31,18 +32,19 @@ loop-less c =
     .before .before in
     omega (
       arith,
-      c .before .before .before .before .before .before .before .before .before .before .before .before .before .before .before .before .before .before
-          .before .line-from .ensures .on (before-20 .loop-test .taken),
+      end-on _ _ _ _ (c .before .before .before .before .before .before .before .before .before .before .before .before .before .before .before .before
+          .before .before .before .line-from .ensures) (before-20 .loop-test .taken),
       before-20 .loop-test .taken,
     )
 
 loop-again : tie.Need-loop-again Inv-loop μ-loop
 loop-again c =
-    part-more _ _ _ _ _ _ _
-    (c .before .before .before .before .before .before .before .before .before .before .before .before .before .before .before .before .before .before .before
-    .before .before .loop .inv) _
-    (c .before .before .before .before .before .before .before .before .before .before .before .before .before .before .before .before .before .before
-    .before .line-from .ensures) _ _ (c .before .before .before .before .before .before .before .before .before .before .before .before .take-end .ensures)
+    let at-line-from =
+    c .before .before .before .before .before .before .before .before .before .before .before .before .before .before .before .before .before .before
+    .before in
+    let at-loop = at-line-from .before .before in
+    part-more _ _ _ _ _ _ (at-loop .loop .at) (at-loop .loop .inv) _ (at-line-from .line-from .ensures) _ _
+    (c .before .before .before .before .before .before .before .before .before .before .before .before .receive-end .ensures)
 
 same-length : tie.Need-same-length Inv-loop μ-loop
 same-length c = c .before .loop .inv .lengths .ids
@@ -65,7 +67,7 @@ same-length-6 c = c .before .loop .inv .lengths .backs
 returns : tie.Need-returns Inv-loop μ-loop
 returns c = part-all _ _ _ _ _ _ _ (c .before .loop .inv) (c .loop-test .left)
 
-pub take-part-spec : {M : Type 1} → statement M
-take-part-spec =
-    tie.close (tie.spec Inv-loop μ-loop loop-holds line-from-requires take-end-requires loop-less loop-again same-length same-length-2 same-length-3
+pub receive-part-spec : {M : Type 1} → statement M
+receive-part-spec =
+    tie.close (tie.spec Inv-loop μ-loop loop-holds line-from-requires receive-end-requires loop-less loop-again same-length same-length-2 same-length-3
     same-length-4 same-length-5 same-length-6 returns)

@@ -1,8 +1,8 @@
 -- A last line with bytes is taken.
 use borrow.Author.Needs.{needs}
 use Rattle.delivery_reading.proofs.Comes.{last-none, last-some}
-use Rattle.delivery_reading.proofs.take_last.Statement.{statement}
-use Rattle.delivery_reading.proofs.take_last.Tie as tie
+use Rattle.delivery_reading.proofs.receive_last.Statement.{statement}
+use Rattle.delivery_reading.proofs.receive_last.Tie as tie
 
 returns : tie.Need-returns
 returns c = last-none _ (c .before .before .before .before .before .before .before .before .before .before .before .args .k) _ (c .if1 .taken)
@@ -13,9 +13,9 @@ returns-2 c =
     (c .before .before .before .before .before .before .before .before .before .before .before .before .before .before .before .before .before .before .before
     .before .before .before .before .before .before .before .before .before .before .before .args .k) _ _ _
     (c .before .before .before .before .before .before .before .before .before .before .before .before .before .before .before .before .before .before
-    .before .if1 .left) (c .before .before .before .before .before .before .before .before .before .before .before .before .take-told .ensures)
+    .before .if1 .left) (c .before .before .before .before .before .before .before .before .before .before .before .before .receive-told .ensures)
 
-pub take-last-spec : {M : Type 1} → statement M
-take-last-spec =
+pub receive-last-spec : {M : Type 1} → statement M
+receive-last-spec =
     tie.close (tie.spec returns (λ c κs. search needs) (λ c. search needs) (λ c. search needs) (λ c. search needs) (λ c. search needs) (λ c. search needs)
     (λ c. search needs) returns-2)

@@ -14,7 +14,7 @@ use Rattle.delivery_differences.specs.declared.DeliveredRow.{DeliveredRow}
 use Rattle.delivery_differences.specs.Differences.{differsIn, differing}
 use Rattle.delivery_reports.specs.declared.ReportProgress.{ReportProgress}
 use Rattle.delivery_reports.specs.Reports.{keysText, differingFrom, reportFrom, ReportLinesIn}
-use Rattle.delivery_judging.specs.Judging.{Wrote, KeysOut}
+use Rattle.delivery_judging.specs.LinesOut.{Wrote, KeysOut}
 
 -- among n keys at most n differ
 pub keys-few : (listed : List Maturity) (rows : List DeliveredRow) (n from : ℕ) → length (differing listed rows n from) ≤ n

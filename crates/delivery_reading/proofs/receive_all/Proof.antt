@@ -2,13 +2,13 @@
 use borrow.Author.Needs.{needs}
 use mathlib.Core.Path.{refl, sym, _∙_}
 use Rattle.questions.proofs.Bools.{clash}
-use Rattle.delivery_reading.proofs.take_all.Statement.{statement}
-use Rattle.delivery_reading.proofs.take_all.Tie as tie
+use Rattle.delivery_reading.proofs.receive_all.Statement.{statement}
+use Rattle.delivery_reading.proofs.receive_all.Tie as tie
 
 returns : tie.Need-returns
 returns c = (refl, λ n. clash (sym (c .before .before .has-failed .ensures) ∙ c .before .if1 .taken) n)
 
-pub take-all-spec : {M : Type 1} → statement M
-take-all-spec =
+pub receive-all-spec : {M : Type 1} → statement M
+receive-all-spec =
     tie.close (tie.spec (λ c κs. search needs) returns (λ c κs. search needs) (λ c. search needs) (λ c. search needs) (λ c. search needs) (λ c. search needs)
     (λ c. search needs) (λ c. search needs) (λ c. search needs))

@@ -7,8 +7,8 @@ use denote.Ref.{now}
 use Rattle.delivery_receipts.specs.Receiving.{Lists, receiving}
 use Rattle.delivery_receipts.proofs.RowsSoFar.{none-stored, has-room, one-stored, held-four, room-is}
 use borrow.Author.Needs.{needs}
-use Rattle.delivery_receipts.proofs.take_line.Statement.{statement}
-use Rattle.delivery_receipts.proofs.take_line.Tie as tie
+use Rattle.delivery_receipts.proofs.receive_line.Statement.{statement}
+use Rattle.delivery_receipts.proofs.receive_line.Tie as tie
 
 -- ---- no row
 returns : tie.Need-returns
@@ -83,7 +83,7 @@ returns-2 c =
     (c .before .before .before .before .before .before .before .before .before .before .before .before .store-row .ensures)
     (held-four (args .line) _ (before-25 .read-held .ensures))
 
-pub take-line-spec : {M : Type 1} → statement M
-take-line-spec =
+pub receive-line-spec : {M : Type 1} → statement M
+receive-line-spec =
     tie.close (tie.spec (λ c κs. search needs) (λ c κs. search needs) (λ c κs. search needs) returns (λ c. search needs) store-row-requires (λ c. search needs)
     (λ c. search needs) (λ c. search needs) (λ c. search needs) (λ c. search needs) (λ c. search needs) returns-2)
