@@ -2,7 +2,7 @@
 -- Assumes nothing.
 use Prim.Native.Nat.{ℕ, zero, suc, _+_, _≤_}
 use mathlib.Core.Path.{_≡_}
-use mathlib.Core.Bool.{Bool, true, false, _&&_, cond}
+use mathlib.Core.Bool.{Bool, true, false, not, _&&_, cond}
 use mathlib.Core.List.{List, [], _++_, map}
 use lib.Dec.{eqb, leb}
 use lib.ListN.{length, take, replicate}
@@ -34,6 +34,10 @@ deliverRefusals f notices =
     cond (eqb (firstNo (loadAsks f)) 0)
     (cond (eqb (t .bad) 0) (refusalsTo f t (placeCount f) ++ unknownMeasures f (t .notices)) (badNoticeText (t .bad)))
     (masterText (firstNo (loadAsks f)))
+
+-- '1 something was refused, bad or differs': something is told
+unfoldable pub deliverRefused : List ℕ → List ℕ → Bool
+deliverRefused f notices = not (eqb (length (deliverRefusals f notices)) 0)
 
 -- n parts one after the other
 unfoldable pub partsText : (ℕ → List ℕ) → ℕ → List ℕ
