@@ -123,7 +123,7 @@ fn goes_on(part: &[u8], at: usize, out: &[u8], n: usize) -> bool
     n <= out.len() - 512
 }
 
-// The answers to the lines that end in a part of the input from a place on,
+// The answers to the lines that end in a part of the input from a line begun and a place on,
 // in a lent buffer from its start, as long as it has room for another answer of 512 bytes.
 // A buffer of fewer bytes, and a place past the part, leave all as it is. The verdict on the file and the notices of two lists are at hand.
 pub fn answer_part(
@@ -133,20 +133,14 @@ pub fn answer_part(
     calls: &[u32],
     ids: &[u8],
     refusals: &mut [u8],
-    number: u64,
-    line: LongLine,
+    from: QueryProgress,
     part: &[u8],
-    from: usize,
     out: &mut [u8],
 ) -> QueryProgress
-    ensures { λ r. ⌜ QueryAnswers (standingIn judged (now (file .entry)) t (now (calls .entry)) (now (ids .entry)) (length (now (refusals .entry)))) number line (now (part .entry)) from (now (out .entry)) (now (out .exit)) r ⌝ }
+    ensures { λ r. ⌜ QueryAnswers (standingIn judged (now (file .entry)) t (now (calls .entry)) (now (ids .entry)) (length (now (refusals .entry)))) (from .number) (from .line) (now (part .entry)) (from .at) (now (out .entry)) (now (out .exit)) r ⌝ }
 {
-    let mut s = QueryProgress {
-        number,
-        line,
-        at: from,
-        length: 0,
-    };
+    let mut s = from;
+    s.length = 0;
     while goes_on(part, s.at, out, s.length) {
         s = answer_next(file, judged, t, calls, ids, refusals, s, part, out);
     }
@@ -162,12 +156,13 @@ pub fn answer_last(
     calls: &[u32],
     ids: &[u8],
     refusals: &mut [u8],
-    number: u64,
-    line: LongLine,
+    s: QueryProgress,
     out: &mut [u8],
 ) -> usize
-    ensures { λ r. ⌜ QueryLastAnswer (standingIn judged (now (file .entry)) t (now (calls .entry)) (now (ids .entry)) (length (now (refusals .entry)))) number line (now (out .entry)) (now (out .exit)) r ⌝ }
+    ensures { λ r. ⌜ QueryLastAnswer (standingIn judged (now (file .entry)) t (now (calls .entry)) (now (ids .entry)) (length (now (refusals .entry)))) (s .number) (s .line) (now (out .entry)) (now (out .exit)) r ⌝ }
 {
+    let number = s.number;
+    let line = s.line;
     if line.length == 0 {
         return 0;
     }

@@ -10,11 +10,11 @@ use Rattle.delivery_sessions.proofs.answer_part.Statement.{statement}
 use Rattle.delivery_sessions.proofs.answer_part.Tie as tie
 
 abbrev Inv-loop : tie.InvT-loop
-Inv-loop file judged t calls ids refusals₀ number part from out₀ s₀ refusals out s =
-    Going (standingIn judged file t calls ids (length refusals₀)) number (s₀ .line) part from out₀ out s × (length refusals ≡ length refusals₀)
+Inv-loop file judged t calls ids refusals₀ part out₀ s₀ refusals out s =
+    Going (standingIn judged file t calls ids (length refusals₀)) (s₀ .number) (s₀ .line) part (s₀ .at) out₀ out s × (length refusals ≡ length refusals₀)
 
 abbrev μ-loop : tie.MeasureT-loop
-μ-loop file judged t calls ids refusals₀ number part from out₀ s₀ refusals out s = length part - s .at
+μ-loop file judged t calls ids refusals₀ part out₀ s₀ refusals out s = length part - s .at
 
 loop-holds : tie.Need-loop-holds Inv-loop μ-loop
 loop-holds c = (begins _ _ _ _ _ _, refl)
