@@ -1,7 +1,7 @@
 -- The lines of an input, byte by byte.
 -- Assumes nothing.
 use mathlib.Core.Path.{_≡_, refl, _∙_, sym, ap}
-use mathlib.Core.Bool.{Bool, true, false, cond}
+use mathlib.Core.Bool.{Bool, true, false, _||_, cond}
 use mathlib.Core.List.{List, [], _∷_, _++_}
 use Prim.Native.Nat.{ℕ, _+_, _≤_, _<_}
 use native.Mathlib.Numerals.{add-one}
@@ -17,10 +17,11 @@ use Rattle.delivery_items.specs.declared.LongLine.{LongLine}
 use Rattle.delivery_items.specs.Items.{emptyLong, lengthened, fedLong}
 use Rattle.delivery_items.proofs.LongItems.{any-empty, fed-more}
 use Rattle.delivery_answers.specs.declared.Standing.{Standing}
-use Rattle.delivery_answers.specs.Replies.{questionAnswer}
-use Rattle.delivery_queries.specs.Queries.{nextNumber, repliesText, longText}
-use Rattle.delivery_queries.proofs.LongQuestions.{any-length}
-use Rattle.delivery_sessions.specs.QueryParts.{queryRest, LineFed}
+use Rattle.delivery_answers.specs.Replies.{questionAnswer, askedRefused}
+use Rattle.delivery_questions.specs.QuestionLines.{askedBy}
+use Rattle.delivery_queries.specs.Queries.{nextNumber, repliesText, longText, someRefused, longRefused}
+use Rattle.delivery_queries.proofs.LongQuestions.{any-length, any-refused}
+use Rattle.delivery_sessions.specs.QueryParts.{queryRest, refusedRest, LineFed}
 
 -- the byte at i comes next
 module _ (of : List ℕ → Standing) (k : ℕ) (l : LongLine) (part : List ℕ) (i : ℕ) (h : i < length part) (rest : List ℕ) where
@@ -32,10 +33,23 @@ module _ (of : List ℕ → Standing) (k : ℕ) (l : LongLine) (part : List ℕ)
   unfolding queryRest restOver
   feed-more e = rw (drop-cons part i 0 h, ne-eqb (getD part i 0) 10 e, add-one i) refl
 
+module _ (of : List ℕ → Standing) (b : Bool) (l : LongLine) (part : List ℕ) (i : ℕ) (h : i < length part) (rest : List ℕ) where
+  refused-ends : getD part i 0 ≡ 10
+      → refusedRest of b l (drop i part ++ rest) ≡ refusedRest of (b || longRefused of l) emptyLong (drop (i + 1) part ++ rest)
+  unfolding refusedRest restOver
+  refused-ends e = rw (drop-cons part i 0 h, eq-eqb (getD part i 0) 10 e, add-one i) refl
+
+  refused-more : (getD part i 0 ≡ 10 → ⊥)
+      → refusedRest of b l (drop i part ++ rest) ≡ refusedRest of b (lengthened l (getD part i 0)) (drop (i + 1) part ++ rest)
+  unfolding refusedRest restOver
+  refused-more e = rw (drop-cons part i 0 h, ne-eqb (getD part i 0) 10 e, add-one i) refl
+
 -- bytes so far, no line feed among them
 pub record Fed (l₀ : LongLine) (part : List ℕ) (from : ℕ) (l : LongLine) (i : ℕ) : Type 0 where
   -- what is still answered from the line begun and the first place is what is still answered from the bytes fed so far
   pub same : (of : List ℕ → Standing) (k : ℕ) (rest : List ℕ) → queryRest of k l₀ (drop from part ++ rest) ≡ queryRest of k l (drop i part ++ rest)
+  -- and so is what is refused
+  pub refused : (of : List ℕ → Standing) (b : Bool) (rest : List ℕ) → refusedRest of b l₀ (drop from part ++ rest) ≡ refusedRest of b l (drop i part ++ rest)
   -- the place does not go back
   pub on : from ≤ i
   -- a place that begins in the part stays in the part
@@ -43,7 +57,7 @@ pub record Fed (l₀ : LongLine) (part : List ℕ) (from : ℕ) (l : LongLine) (
 
 -- before the first byte nothing is fed
 pub feeds-none : (l : LongLine) (part : List ℕ) (from : ℕ) → Fed l part from l from
-feeds-none l part from = record { same = λ of k rest. refl; on = omega arith; within = λ h. h }
+feeds-none l part from = record { same = λ of k rest. refl; refused = λ of b rest. refl; on = omega arith; within = λ h. h }
 
 module _ (l₀ : LongLine) (part : List ℕ) (from : ℕ) (l : LongLine) (i : ℕ) (g : Fed l₀ part from l i) where
   -- a byte that is no line feed is fed to the line
@@ -51,6 +65,8 @@ module _ (l₀ : LongLine) (part : List ℕ) (from : ℕ) (l : LongLine) (i : �
   feeds h e m q =
       record {
         same = λ of k rest. g .same of k rest ∙ feed-more of k l part i h rest e ∙ ap (λ (x : LongLine). queryRest of k x (drop (i + 1) part ++ rest)) (sym q);
+        refused = λ of b rest.
+            g .refused of b rest ∙ refused-more of b l part i h rest e ∙ ap (λ (x : LongLine). refusedRest of b x (drop (i + 1) part ++ rest)) (sym q);
         on = omega (arith, g .on);
         within = λ w. omega arith;
       }
@@ -61,6 +77,8 @@ module _ (l₀ : LongLine) (part : List ℕ) (from : ℕ) (l : LongLine) (i : �
       record {
         ended = λ t of k rest. g .same of k rest ∙ feed-ends of k l part i h rest e;
         begun = λ t. clash refl t;
+        ended-refused = λ t of b rest. g .refused of b rest ∙ refused-ends of b l part i h rest e;
+        begun-refused = λ t. clash refl t;
         on = λ w. omega (arith, g .on);
         within = λ w. omega arith;
       }
@@ -71,6 +89,8 @@ module _ (l₀ : LongLine) (part : List ℕ) (from : ℕ) (l : LongLine) (i : �
       record {
         ended = λ t. clash t refl;
         begun = λ t of k rest. g .same of k rest;
+        ended-refused = λ t. clash t refl;
+        begun-refused = λ t of b rest. g .refused of b rest;
         on = λ w. omega arith;
         within = g .within;
       }
@@ -102,3 +122,37 @@ whole of k begun (byte ∷ rest) = rw (any-length of k begun) (go (eqb byte 10) 
 -- the answers to all lines of an input
 pub whole-input : (of : List ℕ → Standing) (input : List ℕ) → queryRest of 1 emptyLong input ≡ repliesText of 1 (linesFrom [] input)
 whole-input of input = ap (λ (x : LongLine). queryRest of 1 x input) (sym no-bytes) ∙ whole of 1 [] input
+
+or-none : (b : Bool) → b ≡ (b || false)
+or-none true = refl
+or-none false = refl
+
+or-next : (a b c : Bool) → ((a || b) || c) ≡ (a || (b || c))
+or-next true b c = refl
+or-next false b c = refl
+
+whole-from : (of : List ℕ → Standing) (b : Bool) (begun input : List ℕ)
+    → refusedRest of b (fedLong emptyLong begun) input ≡ (b || someRefused of (linesFrom begun input))
+unfolding refusedRest restOver someRefused linesFrom
+whole-from of b begun [] = rw (any-empty begun, any-refused of begun) (go (eqb (length begun) 0))
+  where
+    go : (c : Bool) → cond c b (b || askedRefused of (askedBy begun)) ≡ (b || someRefused of (cond c [] (begun ∷ [])))
+    go true = or-none b
+    go false = ap (λ (x : Bool). b || x) (or-none (askedRefused of (askedBy begun)))
+whole-from of b begun (byte ∷ rest) =
+    rw (any-refused of begun) (go (eqb byte 10) (ap (λ (x : LongLine). refusedRest of (b || askedRefused of (askedBy begun)) x rest)
+    (sym no-bytes) ∙ whole-from of (b || askedRefused of (askedBy begun)) [] rest ∙ or-next b (askedRefused of (askedBy begun)) (someRefused of
+    (linesFrom [] rest)))
+    (ap (λ (x : LongLine). refusedRest of b x rest) (sym (fed-more emptyLong begun byte)) ∙ whole-from of b (begun ++ (byte ∷ [])) rest))
+  where
+    go : (c : Bool)
+        → refusedRest of (b || askedRefused of (askedBy begun)) emptyLong rest ≡ (b || (askedRefused of (askedBy begun) || someRefused of (linesFrom [] rest)))
+        → refusedRest of b (lengthened (fedLong emptyLong begun) byte) rest ≡ (b || someRefused of (linesFrom (begun ++ (byte ∷ [])) rest))
+        → cond c (refusedRest of (b || askedRefused of (askedBy begun)) emptyLong rest) (refusedRest of b (lengthened (fedLong emptyLong begun) byte) rest)
+        ≡ (b || someRefused of (cond c (begun ∷ linesFrom [] rest) (linesFrom (begun ++ (byte ∷ [])) rest)))
+    go true p q = p
+    go false p q = q
+
+-- whether the answer to some line of an input is refused
+pub whole-refused : (of : List ℕ → Standing) (input : List ℕ) → refusedRest of false emptyLong input ≡ someRefused of (linesFrom [] input)
+whole-refused of input = ap (λ (x : LongLine). refusedRest of false x input) (sym no-bytes) ∙ whole-from of false [] input

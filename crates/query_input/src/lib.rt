@@ -16,19 +16,21 @@ ghost use Rattle.session_parts.specs.TermsParts.{counted};
 ghost use Rattle.delivery_items.specs.Items.{emptyLong};
 ghost use Rattle.delivery_lines.specs.NoticeLines.{unmarked};
 ghost use Rattle.delivery_queries.specs.Queries.{standingIn};
-ghost use Rattle.delivery_sessions.specs.QueryParts.{queryRest};
+ghost use Rattle.delivery_sessions.specs.QueryParts.{queryRest, refusedRest};
 ghost use Rattle.delivery_sessions.specs.QueryRuns.{QueryHanded, Came, QueryRan};
 
-// What is kept from one part of the input to the next: the number of the line that is begun and its bytes so far, and what has been written.
+// What is kept from one part of the input to the next: the number of the line that is begun, its bytes so far, whether an answer was refused,
+// and what has been written.
 pub struct Carried {
     pub progress: QueryProgress,
     pub sent: Sent,
 }
 
-// How far the input was read, and what has been written.
+// How far the input was read, what has been written, and whether an answer is `NO n` or `BAD K`.
 pub struct QueryEnded {
     pub input: Input,
     pub sent: Sent,
+    pub refused: bool,
 }
 
 // Writes the answers to all lines that end in a part of the input. A write that fails ends the run.
@@ -44,7 +46,7 @@ fn write_part(
     out: &mut [u8],
 ) -> Carried
     requires { ⌜ 512 ≤ length (now out) ⌝ }
-    ensures { λ r. ⌜ (r .sent .open ≡ true → QueryHanded (standingIn judged (now (file .entry)) t (now (calls .entry)) (now (ids .entry)) (length (now (refusals .entry)))) (k .progress .number) (k .progress .line) (now (part .entry)) (k .sent .bytes) (r .progress .number) (r .progress .line) [] (r .sent .bytes)) ⌝ }
+    ensures { λ r. ⌜ (r .sent .open ≡ true → QueryHanded (standingIn judged (now (file .entry)) t (now (calls .entry)) (now (ids .entry)) (length (now (refusals .entry)))) (k .progress .number) (k .progress .refused) (k .progress .line) (now (part .entry)) (k .sent .bytes) (r .progress .number) (r .progress .refused) (r .progress .line) [] (r .sent .bytes)) ⌝ }
 {
     let room = refusals.len();
     let mut sent = k.sent;
@@ -73,7 +75,7 @@ fn write_first(
     out: &mut [u8],
 ) -> Carried
     requires { ⌜ 512 ≤ length (now out) ⌝ }
-    ensures { λ r. ⌜ (r .sent .open ≡ true → QueryHanded (standingIn judged (now (file .entry)) t (now (calls .entry)) (now (ids .entry)) (length (now (refusals .entry)))) 1 emptyLong (unmarked (now (part .entry))) 0 (r .progress .number) (r .progress .line) [] (r .sent .bytes)) ⌝ }
+    ensures { λ r. ⌜ (r .sent .open ≡ true → QueryHanded (standingIn judged (now (file .entry)) t (now (calls .entry)) (now (ids .entry)) (length (now (refusals .entry)))) 1 false emptyLong (unmarked (now (part .entry))) 0 (r .progress .number) (r .progress .refused) (r .progress .line) [] (r .sent .bytes)) ⌝ }
 {
     let line = delivery_items::empty_long_line();
     let sent = streams::nothing_sent();
@@ -82,6 +84,7 @@ fn write_first(
         line,
         at: 0,
         length: 0,
+        refused: false,
     };
     let k = Carried { progress, sent };
     let mark = delivery_lines::mark_length(part);
@@ -99,16 +102,21 @@ fn write_last(
     k: Carried,
     input: Input,
     out: &mut [u8],
-) -> Sent
+) -> QueryEnded
     requires { ⌜ (512 ≤ length (now out)) × (input .left ≡ 0) × (input .failed ≡ false) ⌝ }
-    ensures { λ r. ⌜ (r .open ≡ true → r .bytes ≡ counted (k .sent .bytes) (length (queryRest (standingIn judged (now (file .entry)) t (now (calls .entry)) (now (ids .entry)) (length (now (refusals .entry)))) (k .progress .number) (k .progress .line) []))) ⌝ }
+    ensures { λ r. ⌜ (r .input ≡ input) × (r .sent .open ≡ true → r .sent .bytes ≡ counted (k .sent .bytes) (length (queryRest (standingIn judged (now (file .entry)) t (now (calls .entry)) (now (ids .entry)) (length (now (refusals .entry)))) (k .progress .number) (k .progress .line) []))) × (refusedRest (standingIn judged (now (file .entry)) t (now (calls .entry)) (now (ids .entry)) (length (now (refusals .entry)))) (k .progress .refused) (k .progress .line) [] ≡ r .refused) ⌝ }
 {
     let room = refusals.len();
     let s = k.progress;
-    let n = delivery_sessions::answer_last(file, judged, t, calls, ids, refusals, s, out);
+    let a = delivery_sessions::answer_last(file, judged, t, calls, ids, refusals, s, out);
     let mut p = s;
-    p.length = n;
-    output::write_out(k.sent, file, judged, t, calls, ids, room, file, s, p, out)
+    p.length = a.next;
+    let sent = output::write_out(k.sent, file, judged, t, calls, ids, room, file, s, p, out);
+    QueryEnded {
+        input,
+        sent,
+        refused: a.refused,
+    }
 }
 
 // Reads the input part by part, up to its end. What is answered is written before the next read.
@@ -123,8 +131,8 @@ fn write_rest(
     begun: Input,
     out: &mut [u8],
 ) -> QueryEnded
-    requires { ⌜ (512 ≤ length (now out)) × Came (standingIn judged (now file) t (now calls) (now ids) (length (now refusals))) (first .progress .number) (first .progress .line) (first .sent .bytes) (begun .bytes) ⌝ }
-    ensures { λ r. ⌜ (r .sent .open ≡ true → r .input .failed ≡ false → (r .input .left ≡ 0) × QueryRan (standingIn judged (now (file .entry)) t (now (calls .entry)) (now (ids .entry)) (length (now (refusals .entry)))) (r .sent .bytes) (r .input .bytes)) ⌝ }
+    requires { ⌜ (512 ≤ length (now out)) × Came (standingIn judged (now file) t (now calls) (now ids) (length (now refusals))) (first .progress .number) (first .progress .refused) (first .progress .line) (first .sent .bytes) (begun .bytes) ⌝ }
+    ensures { λ r. ⌜ (r .sent .open ≡ true → r .input .failed ≡ false → (r .input .left ≡ 0) × QueryRan (standingIn judged (now (file .entry)) t (now (calls .entry)) (now (ids .entry)) (length (now (refusals .entry)))) (r .sent .bytes) (r .refused) (r .input .bytes)) ⌝ }
 {
     let mut part = io::large_buffer();
     let mut k = first;
@@ -141,16 +149,20 @@ fn write_rest(
     if streams::has_failed(input) {
         return ended(k, input);
     }
-    let sent = write_last(file, judged, t, calls, ids, refusals, k, input, out);
-    QueryEnded { input, sent }
+    write_last(file, judged, t, calls, ids, refusals, k, input, out)
 }
 
 // A run that ends here.
 fn ended(k: Carried, input: Input) -> QueryEnded
     ensures { λ r. ⌜ (r .input ≡ input) × (r .sent ≡ k .sent) ⌝ }
 {
+    let s = k.progress;
     let sent = k.sent;
-    QueryEnded { input, sent }
+    QueryEnded {
+        input,
+        sent,
+        refused: s.refused,
+    }
 }
 
 // A run that answers nothing.
@@ -158,7 +170,11 @@ fn nothing_answered(input: Input) -> QueryEnded
     ensures { λ r. ⌜ (r .input ≡ input) × (r .sent .bytes ≡ 0) ⌝ }
 {
     let sent = streams::nothing_sent();
-    QueryEnded { input, sent }
+    QueryEnded {
+        input,
+        sent,
+        refused: false,
+    }
 }
 
 // Answers the questions of standard input by a file with its verdict and the notices of two lists.
@@ -171,7 +187,7 @@ pub fn answer_input(
     ids: &[u8],
     refusals: &mut [u8],
 ) -> QueryEnded
-    ensures { λ r. ⌜ (r .sent .open ≡ true → r .input .failed ≡ false → (r .input .left ≡ 0) × QueryRan (standingIn judged (now (file .entry)) t (now (calls .entry)) (now (ids .entry)) (length (now (refusals .entry)))) (r .sent .bytes) (r .input .bytes)) ⌝ }
+    ensures { λ r. ⌜ (r .sent .open ≡ true → r .input .failed ≡ false → (r .input .left ≡ 0) × QueryRan (standingIn judged (now (file .entry)) t (now (calls .entry)) (now (ids .entry)) (length (now (refusals .entry)))) (r .sent .bytes) (r .refused) (r .input .bytes)) ⌝ }
 {
     let mut part = io::large_buffer();
     let mut out = io::large_buffer();
@@ -186,8 +202,7 @@ pub fn answer_input(
         return ended(k, begun);
     }
     if n < 3 {
-        let sent = write_last(file, judged, t, calls, ids, refusals, k, begun, &mut out);
-        return QueryEnded { input: begun, sent };
+        return write_last(file, judged, t, calls, ids, refusals, k, begun, &mut out);
     }
     write_rest(file, judged, t, calls, ids, refusals, k, begun, &mut out)
 }

@@ -16,20 +16,23 @@ ghost use Rattle.file_calendar.specs.Calendars.{calendarAnswer};
 ghost use Rattle.file_load.specs.Load.{judgeCall};
 ghost use Rattle.streams.specs.Transfers.{Within};
 ghost use Rattle.delivery_queries.specs.Queries.{queryTold};
-ghost use Rattle.query_run.specs.QueryOutcomes.{NothingAnswered, QueryAnswered, QueryRunEnds};
+ghost use Rattle.query_run.specs.QueryOutcomes.{NothingAnswered, QueryAnswered, outcomeOf, QueryRunEnds};
 
-// How far standard input was read, what has been written, and how much was told of the two files.
+// How far standard input was read, what has been written, how much was told of the two files,
+// and whether the file or a notice is refused or an answer is `NO n` or `BAD K`.
 pub struct Answered {
     pub input: Input,
     pub sent: Sent,
     pub told: Told,
+    pub refused: bool,
 }
 
-// A run: what was read of master.bin and of notices.txt, and what was answered.
+// A run: what was read of master.bin and of notices.txt, what was answered, and the status.
 pub struct QueryOutcome {
     pub file: Transfer,
     pub notices: Transfer,
     pub answered: Answered,
+    pub status: u8,
 }
 
 // What was read of the notices, and what was answered.
@@ -49,22 +52,32 @@ fn tell(file: &[u8], text: &[u8], line: Line) -> Told
 }
 
 // A run that reads nothing of standard input and writes nothing.
-fn nothing_answered(told: Told) -> Answered
-    ensures { λ r. ⌜ NothingAnswered r × (r .told ≡ told) ⌝ }
+fn nothing_answered(told: Told, refused: bool) -> Answered
+    ensures { λ r. ⌜ NothingAnswered r × (r .told ≡ told) × (r .refused ≡ refused) ⌝ }
 {
     let input = streams::nothing_read();
     let sent = streams::nothing_sent();
-    Answered { input, sent, told }
+    Answered {
+        input,
+        sent,
+        told,
+        refused,
+    }
 }
 
 // A run that answers the questions, and tells nothing of the two files.
 fn questions_answered(ended: QueryEnded) -> Answered
-    ensures { λ r. ⌜ (r .input ≡ ended .input) × (r .sent ≡ ended .sent) × (r .told .bytes ≡ 0) ⌝ }
+    ensures { λ r. ⌜ (r .input ≡ ended .input) × (r .sent ≡ ended .sent) × (r .told .bytes ≡ 0) × (r .refused ≡ ended .refused) ⌝ }
 {
     let input = ended.input;
     let sent = ended.sent;
     let told = streams::nothing_told();
-    Answered { input, sent, told }
+    Answered {
+        input,
+        sent,
+        told,
+        refused: ended.refused,
+    }
 }
 
 // What a file with its verdict and a text of notices give: a refused file and a bad line are told; without them the questions are answered.
@@ -81,12 +94,12 @@ fn answer(
 {
     if judged.refusal != 0 {
         let line = delivery_refusals::master_line(judged.refusal);
-        return nothing_answered(tell(file, text, line));
+        return nothing_answered(tell(file, text, line), true);
     }
     let t = delivery_notices::read_notices(text, calls, ids);
     if t.bad != 0 {
         let line = delivery_refusals::bad_notice_line(t.bad);
-        return nothing_answered(tell(file, text, line));
+        return nothing_answered(tell(file, text, line), true);
     }
     let ended = query_input::answer_input(file, judged, t, calls, ids, refusals);
     questions_answered(ended)
@@ -126,12 +139,29 @@ fn judged(
     let judged = file_load::judge(file);
     let notices = notices_of(judged.refusal, text);
     if notices.failed {
-        let answered = nothing_answered(streams::nothing_told());
+        let answered = nothing_answered(streams::nothing_told(), false);
         return NoticesRun { notices, answered };
     }
     let n = notices.length;
     let answered = answer(file, judged, &text[..n], calls, ids, refusals);
     NoticesRun { notices, answered }
+}
+
+// A run with its status: whether a file or standard input could not be read or the output did not take all, and whether something is refused or bad.
+fn outcome(file: Transfer, notices: Transfer, answered: Answered) -> QueryOutcome
+    ensures { λ r. ⌜ r ≡ outcomeOf file notices answered ⌝ }
+{
+    let input = answered.input;
+    let sent = answered.sent;
+    let failed = file.failed
+        | (notices.failed | (streams::has_failed(input) | !streams::is_open(sent)));
+    let status = program_status::status(failed, answered.refused);
+    QueryOutcome {
+        file,
+        notices,
+        answered,
+        status,
+    }
 }
 
 // A run of the program. A file that cannot be read is told, with the system's reason, and ends it.
@@ -146,20 +176,10 @@ pub fn run() -> QueryOutcome
     let file = streams::read_file_or_tell(b"query: master.bin", b"master.bin", &mut bytes);
     if file.failed {
         let notices = nothing_moved();
-        let answered = nothing_answered(streams::nothing_told());
-        return QueryOutcome {
-            file,
-            notices,
-            answered,
-        };
+        let answered = nothing_answered(streams::nothing_told(), false);
+        return outcome(file, notices, answered);
     }
     let n = file.length;
     let j = judged(&bytes[..n], &mut text, &mut calls, &mut ids, &mut refusals);
-    let notices = j.notices;
-    let answered = j.answered;
-    QueryOutcome {
-        file,
-        notices,
-        answered,
-    }
+    outcome(file, j.notices, j.answered)
 }

@@ -52,11 +52,12 @@ returns-3 c = λ e f.
     let at-part2 = at-write-first .before .before .before .before .before .before .before in
     let at-read = at-part2 .before in
     let w = at-read .read-first .ensures in
-    let none = at-read .before .before .nothing-read .ensures in (
+    let none = at-read .before .before .nothing-read .ensures in
+    let x = rw (at-refusals .refusals .given) at (at-write-last .write-last .ensures) in
+    rw (x .0) (
       w .ended (at-if3 .if3 .taken) (omega (arith, at-if3 .if3 .taken, at-part2 .part2 .given)),
-      came-short _ _ _ _ _ _ _ (omega (arith, w .count, w .within .1, none .1))
-          (at-write-first .write-first .ensures (said-yes (at-is-open .is-open .ensures) (at-if2 .if2 .left)))
-          (rw (at-refusals .refusals .given) at (at-write-last .write-last .ensures e)),
+      came-short _ _ _ _ _ _ _ _ _ (omega (arith, w .count, w .within .1, none .1))
+          (at-write-first .write-first .ensures (said-yes (at-is-open .is-open .ensures) (at-if2 .if2 .left))) (x .1 e) (x .2),
     )
 
 write-rest-requires : tie.Need-write-rest-requires
@@ -72,7 +73,7 @@ write-rest-requires c κs =
     let none = at-read .before .before .nothing-read .ensures in (
       omega (arith, at-out2 .out2 .given),
       rw (at-refusals .refusals .given)
-          (came-first _ _ _ _ _ _ (three _ _ (at-if3 .if3 .left) (w .within .0)) (omega (arith, w .count, w .within .1, none .1))
+          (came-first _ _ _ _ _ _ _ (three _ _ (at-if3 .if3 .left) (w .within .0)) (omega (arith, w .count, w .within .1, none .1))
           (at-write-first .write-first .ensures (said-yes (at-is-open .is-open .ensures) (at-if2 .if2 .left)))),
     )
 

@@ -24,7 +24,7 @@ returns c = λ e.
     let at-mark-length = at-write-part .before .before .before .before in
     let at-nothing-sent = at-mark-length .before in
     let at-empty-long-line = at-nothing-sent .before in
-    first-handed _ _ _ _ _ _ _ _ (at-empty-long-line .empty-long-line .ensures) (at-nothing-sent .nothing-sent .ensures .1)
+    first-handed _ _ _ _ _ _ _ _ _ (at-empty-long-line .empty-long-line .ensures) (at-nothing-sent .nothing-sent .ensures .1)
     (at-mark-length .mark-length .ensures .0) (at-write-part .write-part .ensures e)
 
 pub write-first-spec : {M : Type 1} → statement M

@@ -1,4 +1,5 @@
--- What stands in the buffer is the answer to the last line, and the count grows by it.
+-- What stands in the buffer is the answer to the last line, the count grows by it, and it may be refused.
+use mathlib.Core.Path.{refl}
 use native.Mathlib.Omega.{arith}
 use Rattle.delivery_sessions.specs.QueryRuns.{last}
 use Rattle.delivery_sessions.proofs.QueryRuns.{last-count}
@@ -14,10 +15,11 @@ write-out-requires c κs =
     (omega (arith, a .fits), last (a .text (start .pre .0)))
 
 returns : tie.Need-returns
-returns c = λ e.
+returns c =
     let at-answer-last = c .before .before .before .before .before .before in
     let start = at-answer-last .before .before .before .before .before .before .before .before .before in
-    last-count _ _ _ _ _ _ _ _ (start .pre .0) (at-answer-last .answer-last .ensures) (c .write-out .ensures e)
+    let a = at-answer-last .answer-last .ensures in
+    (refl, (λ e. last-count _ _ _ _ _ _ _ _ _ _ (start .pre .0) a (c .write-out .ensures e)), a .refused (start .pre .0))
 
 pub write-last-spec : {M : Type 1} → statement M
 write-last-spec = tie.close (tie.spec (λ c κs. tt) write-out-requires (λ c. search needs) (λ c. search needs) returns)

@@ -15,14 +15,14 @@ use Rattle.query_input.proofs.write_part.Tie as tie
 abbrev Inv-loop : tie.InvT-loop
 Inv-loop file judged t calls ids refusals₀ part out₀ room sent₀ s₀ refusals out sent s =
     (512 ≤ length out₀) × (length out ≡ length out₀) × (length refusals ≡ length refusals₀)
-    × QueryHanded (standingIn judged file t calls ids (length refusals₀)) (s₀ .number) (s₀ .line) part (sent₀ .bytes) (s .number) (s .line)
-    (drop (s .at) part) (sent .bytes)
+    × QueryHanded (standingIn judged file t calls ids (length refusals₀)) (s₀ .number) (s₀ .refused) (s₀ .line) part (sent₀ .bytes) (s .number)
+    (s .refused) (s .line) (drop (s .at) part) (sent .bytes)
 
 abbrev μ-loop : tie.MeasureT-loop
 μ-loop file judged t calls ids refusals₀ part out₀ room sent₀ s₀ refusals out sent s = length part - s .at
 
 loop-holds : tie.Need-loop-holds Inv-loop μ-loop
-loop-holds c = let start = c .before .before .before .before .before .before .before .before in (start .pre, refl, refl, handed-none _ _ _ _ _ (search needs))
+loop-holds c = let start = c .before .before .before .before .before .before .before .before in (start .pre, refl, refl, handed-none _ _ _ _ _ _ (search needs))
 
 write-out-requires : tie.Need-write-out-requires Inv-loop μ-loop
 write-out-requires c κs =
@@ -63,7 +63,7 @@ loop-again c =
     let v = at-answer-part .before .before .before .before .before .loop .inv in
     let a = rw (v .2) at (at-answer-part .answer-part .ensures) in
     let w = at-write-out .write-out .ensures (said-yes (at-is-open .is-open .ensures) (c .if2 .left)) in
-    (v .0, a .long ∙ v .1, omega (arith, v .2, at-refusals .refusals .given), handed-more _ _ _ _ _ _ _ _ _ _ _ _ _ (v .3) a w)
+    (v .0, a .long ∙ v .1, omega (arith, v .2, at-refusals .refusals .given), handed-more _ _ _ _ _ _ _ _ _ _ _ _ _ _ _ (v .3) a w)
 
 same-length-3 : tie.Need-same-length-3 Inv-loop μ-loop
 same-length-3 c = c .before .before .loop .inv .2
@@ -72,7 +72,7 @@ same-length-4 : tie.Need-same-length-4 Inv-loop μ-loop
 same-length-4 c = c .before .before .loop .inv .1
 
 returns-2 : tie.Need-returns-2 Inv-loop μ-loop
-returns-2 c = λ e. handed-all _ _ _ _ _ _ _ _ _ (c .if1 .left) (c .before .before .loop .inv .3)
+returns-2 c = λ e. handed-all _ _ _ _ _ _ _ _ _ _ _ (c .if1 .left) (c .before .before .loop .inv .3)
 
 pub write-part-spec : {M : Type 1} → statement M
 write-part-spec =

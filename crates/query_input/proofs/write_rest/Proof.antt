@@ -18,7 +18,8 @@ use Rattle.query_input.proofs.write_rest.Tie as tie
 abbrev Inv-loop : tie.InvT-loop
 Inv-loop file judged t calls ids refusals₀ out₀ part₀ k₀ input₀ refusals out part k input =
     (512 ≤ length out₀) × (length out ≡ length out₀) × (length refusals ≡ length refusals₀) × (length part ≡ 65536)
-    × Came (standingIn judged file t calls ids (length refusals₀)) (k .progress .number) (k .progress .line) (k .sent .bytes) (input .bytes)
+    × Came (standingIn judged file t calls ids (length refusals₀)) (k .progress .number) (k .progress .refused) (k .progress .line)
+    (k .sent .bytes) (input .bytes)
 
 abbrev μ-loop : tie.MeasureT-loop
 μ-loop file judged t calls ids refusals₀ out₀ part₀ k₀ input₀ refusals out part k input = input .left
@@ -74,7 +75,7 @@ loop-again c =
       omega (arith, v .1),
       omega (arith, v .2, at-refusals .refusals .given),
       at-part2 .part2 .given,
-      came-more _ _ _ _ _ _ _ _ _ _ (v .4) d (omega (arith, w .count, w .within .1)),
+      came-more _ _ _ _ _ _ _ _ _ _ _ _ (v .4) d (omega (arith, w .count, w .within .1)),
     )
 
 same-length-3 : tie.Need-same-length-3 Inv-loop μ-loop
@@ -111,10 +112,9 @@ returns-3 c = λ e f.
     let at-write-last = c .before .before .before .before in
     let at-end = at-write-last .before .before .before .before .before in
     let at-left = at-end .before in
-    let v = at-left .before .loop .inv in (
-      omega (arith, at-left .reads-left .ensures, at-end .if1 .left),
-      came-all _ _ _ _ _ _ (v .4) (rw (v .2) at (at-write-last .write-last .ensures e)),
-    )
+    let v = at-left .before .loop .inv in
+    let w = rw (v .2) at (at-write-last .write-last .ensures) in
+    rw (w .0) (omega (arith, at-left .reads-left .ensures, at-end .if1 .left), came-all _ _ _ _ _ _ _ _ (v .4) (w .1 e) (w .2))
 
 pub write-rest-spec : {M : Type 1} → statement M
 write-rest-spec =

@@ -14,8 +14,7 @@ returns : tie.Need-returns
 returns c =
     let at-then = c .before .before .before in
     let start = at-then .before .before .before .before .before .before .before in
-    let n = c .nothing-answered .ensures in
-    master-refused _ _ _ (start .pre .0) (at-then .if1 .taken) _ _ (n .0) (n .1) (c .before .tell .ensures)
+    master-refused _ _ _ (start .pre .0) (at-then .if1 .taken) _ _ (c .nothing-answered .ensures) (c .before .tell .ensures)
 
 tell-requires-2 : tie.Need-tell-requires-2
 tell-requires-2 c κs =
@@ -32,9 +31,8 @@ returns-2 c =
     let at-read = at-then .before .before .before .before .before .before in
     let at-else = at-read .before .before .before in
     let pre = at-else .before .before .before .before .before .before .before .pre in
-    let n = c .nothing-answered2 .ensures in
     line-refused _ _ _ _ _ _ _ _ (at-read .read-notices .ensures) (pre .0) (at-else .if1 .left) (pre .1) (pre .2) (at-then .if2 .taken) _ _
-    (n .0) (n .1) (c .before .tell2 .ensures)
+    (c .nothing-answered2 .ensures) (c .before .tell2 .ensures)
 
 returns-3 : tie.Need-returns-3
 returns-3 c =

@@ -9,9 +9,12 @@ use Rattle.query_run.proofs.run.Tie as tie
 
 returns : tie.Need-returns
 returns c =
-    let n = c .nothing-answered .ensures in
-    file-failed _ (c .before .before .before .if1 .taken) (c .before .before .nothing-moved .ensures .1) (n .0)
-    (ap (λ (t : Told). t .bytes) (n .1) ∙ c .before .nothing-told .ensures)
+    let at-none = c .before in
+    let at-told = at-none .before in
+    let at-moved = at-told .before in
+    let n = at-none .nothing-answered .ensures in
+    file-failed _ _ _ _ (c .outcome .ensures) (at-moved .before .if1 .taken) (at-moved .nothing-moved .ensures .1) (n .0)
+    (ap (λ (t : Told). t .bytes) (n .1) ∙ at-told .nothing-told .ensures)
 
 slice-aggregate-judged : tie.Need-slice-aggregate-judged
 slice-aggregate-judged c = sym (length-take-le _ _ (c .before .before .before .read-file-or-tell .ensures .0 .0))
@@ -21,12 +24,12 @@ judged-requires c κs = (search needs, search needs, search needs)
 
 returns-2 : tie.Need-returns-2
 returns-2 c =
-    let at-judged = c .before .before .before .before .before .before in
+    let at-judged = c .before .before .before .before .before in
     let at-else = at-judged .before .before .before .before .before .before in
     let j = at-judged .judged .ensures in
-    file-read _ _ _ (at-else .if1 .left) (at-else .before .before .read-file-or-tell .ensures .0 .0) (j .0) (j .1) (j .2)
+    file-read _ _ _ _ (c .outcome2 .ensures) _ _ (at-else .if1 .left) (at-else .before .before .read-file-or-tell .ensures .0 .0) (j .0) (j .1) (j .2)
 
 pub run-spec : {M : Type 1} → statement M
 run-spec =
-    tie.close (tie.spec (λ c. search needs) (λ c. search needs) (λ c. search needs) (λ c κs. tt) (λ c κs. tt) (λ c κs. tt) (λ c κs. tt) returns
-    (λ c. search needs) slice-aggregate-judged (λ c. search needs) (λ c. search needs) (λ c. search needs) (λ c. search needs) judged-requires returns-2)
+    tie.close (tie.spec (λ c. search needs) (λ c. search needs) (λ c. search needs) (λ c κs. tt) (λ c κs. tt) (λ c κs. tt) (λ c κs. tt) (λ c κs. tt) returns
+    (λ c. search needs) slice-aggregate-judged (λ c. search needs) (λ c. search needs) (λ c. search needs) (λ c. search needs) judged-requires (λ c κs. tt) returns-2)
