@@ -1,3 +1,4 @@
 pub mod ReplyTexts
 pub mod QuestionHeld
 pub mod ReplyLengths
+pub mod ReplyRefusals

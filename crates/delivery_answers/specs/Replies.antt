@@ -2,7 +2,7 @@
 -- Assumes nothing.
 use Prim.Native.Nat.{ℕ, _/_, _%_}
 use mathlib.Core.Path.{_≡_}
-use mathlib.Core.Bool.{Bool, false, not, _&&_, cond}
+use mathlib.Core.Bool.{Bool, true, false, not, _&&_, cond}
 use mathlib.Core.List.{List, [], _∷_, _++_}
 use lib.Dec.{eqb}
 use Rattle.questions.specs.Questions.{Answer}
@@ -99,6 +99,25 @@ askedText of k line (asks id q) = cond (misfits (of id) q) (badQuestionText k) (
 -- what is answered to a line
 unfoldable pub questionAnswer : (List ℕ → Standing) → ℕ → List ℕ → List ℕ
 questionAnswer of k line = askedText of k (trimmed line) (askedBy line)
+
+-- 'else the call's' number:
+-- whether a question of a table is refused; the size is not
+unfoldable pub questionRefused : Table → Question → Bool
+questionRefused t (last friday key) = not (eqb (lastDayCall t key .refusal) 0)
+questionRefused t (due day) = not (eqb (dueCall t day .refusal) 0)
+questionRefused t (tick price) = not (eqb (tickCall t price) 0)
+questionRefused t (cash contracts agreed final) = not (eqb (cashCall t contracts agreed final .refusal) 0)
+questionRefused t size = false
+
+-- whether the answer to a question is '`NO n`'
+unfoldable pub replyRefused : Standing → Question → Bool
+replyRefused s q = cond (s .known) (cond (eqb (s .refusal) 0) (questionRefused (s .table) q) true) true
+
+-- whether the answer to a line is '`NO n`' or '`BAD K`'
+unfoldable pub askedRefused : (List ℕ → Standing) → Asked → Bool
+askedRefused of nothing = false
+askedRefused of bad = true
+askedRefused of (asks id q) = cond (misfits (of id) q) true (replyRefused (of id) q)
 
 -- only the code needs it: what is answered to a question as it is held, by its letter
 unfoldable pub heldText : Table → QuestionLine → List ℕ

@@ -1,13 +1,14 @@
 -- The answer to a line by what it asks, as the code writes it into a lent buffer.
 -- Assumes nothing.
 use mathlib.Core.Path.{_≡_, refl, _∙_, sym, ap}
-use mathlib.Core.Bool.{true, false}
+use mathlib.Core.Bool.{Bool, true, false, _&&_}
 use mathlib.Core.List.{List, [], _∷_, _++_}
 use Prim.Native.Nat.{ℕ, _+_, _≤_, _<_}
 use native.Mathlib.Numerals.{add-one}
 use native.Mathlib.Omega.{arith}
-use lib.ListN.{length, getD, take, set}
-use lib.Seq.{take-suc, take-take, length-take-le}
+use lib.Dec.{eqb}
+use lib.ListN.{length, getD, take, set, length-append}
+use lib.Seq.{take-suc, take-take, length-take-le, getD-take}
 use borrow.Author.Tests.{eq-eqb, ne-eqb}
 use Rattle.session_lines.specs.declared.Line.{Line}
 use Rattle.session_lines.specs.CommandLines.{emptyLine}
@@ -20,10 +21,11 @@ use Rattle.delivery_items.specs.declared.LongLine.{LongLine}
 use Rattle.delivery_questions.specs.declared.QuestionLine.{QuestionLine}
 use Rattle.delivery_questions.specs.QuestionLines.{Question, last, due, tick, cash, size, Asked, nothing, bad, asks, askedBy, bareHeld, askedHeld}
 use Rattle.delivery_answers.specs.declared.Standing.{Standing}
-use Rattle.delivery_answers.specs.Replies.{badQuestionText, replyLine, heldMisfits, askedText}
+use Rattle.delivery_answers.specs.Replies.{badQuestionText, heldReply, replyLine, heldMisfits, askedText, askedRefused}
 use Rattle.delivery_answers.proofs.QuestionHeld.{reply-text, misfit-text}
 use Rattle.delivery_answers.proofs.ReplyLengths.{reply-short}
-use Rattle.delivery_queries.specs.Queries.{longAsked, longText, heldAnswer}
+use Rattle.delivery_answers.proofs.ReplyRefusals.{reply-refused}
+use Rattle.delivery_queries.specs.Queries.{longAsked, longText, heldAnswer, longRefused, heldRefused}
 
 -- ---- what a line asks
 
@@ -87,6 +89,40 @@ module _ (of : List ℕ → Standing) (k : ℕ) (line : List ℕ) where
   text-answer bad m n = absurd (n refl)
   text-answer (asks id q) m n = ap (λ (x : List ℕ). heldAnswer (of x) k line (askedHeld (asks id q))) (held-id id q) ∙ text-asks id q
 
+-- ---- whether it is `NO n` or `BAD K`
+
+module _ (of : List ℕ → Standing) where
+  refused-nothing : (a : Asked) → askedHeld a .letter ≡ 35 → false ≡ askedRefused of a
+  unfolding askedHeld askedRefused
+  refused-nothing nothing e = refl
+  refused-nothing bad e = absurd (omega (arith, e))
+  refused-nothing (asks id (last friday key)) e = absurd (omega (arith, e))
+  refused-nothing (asks id (due day)) e = absurd (omega (arith, e))
+  refused-nothing (asks id (tick price)) e = absurd (omega (arith, e))
+  refused-nothing (asks id (cash contracts agreed final)) e = absurd (omega (arith, e))
+  refused-nothing (asks id size) e = absurd (omega (arith, e))
+
+  refused-bad : (a : Asked) → askedHeld a .letter ≡ 0 → true ≡ askedRefused of a
+  unfolding askedHeld askedRefused
+  refused-bad nothing e = absurd (omega (arith, e))
+  refused-bad bad e = refl
+  refused-bad (asks id (last friday key)) e = absurd (omega (arith, e))
+  refused-bad (asks id (due day)) e = absurd (omega (arith, e))
+  refused-bad (asks id (tick price)) e = absurd (omega (arith, e))
+  refused-bad (asks id (cash contracts agreed final)) e = absurd (omega (arith, e))
+  refused-bad (asks id size) e = absurd (omega (arith, e))
+
+  refused-asks : (id : List ℕ) (q : Question) → heldRefused (of id) (askedHeld (asks id q)) ≡ askedRefused of (asks id q)
+  unfolding heldRefused askedRefused
+  refused-asks id q = rw (misfit-text (of id) id q, reply-refused (of id) id q) refl
+
+  refused-answer : (a : Asked) → (askedHeld a .letter ≡ 35 → ⊥) → (askedHeld a .letter ≡ 0 → ⊥)
+      → heldRefused (of (askedHeld a .id)) (askedHeld a) ≡ askedRefused of a
+  unfolding askedHeld
+  refused-answer nothing m n = absurd (m refl)
+  refused-answer bad m n = absurd (n refl)
+  refused-answer (asks id q) m n = ap (λ (x : List ℕ). heldRefused (of x) (askedHeld (asks id q))) (held-id id q) ∙ refused-asks id q
+
 -- ---- in a buffer
 
 -- nothing
@@ -115,6 +151,30 @@ module _ (of : List ℕ → Standing) (k : ℕ) (l : LongLine) (q : QuestionLine
   unfolding longText
   printed-answer m n s e after next w h =
       rw (← text-answer of k (trimmed (take (l .length) (l .bytes))) (longAsked l) (λ z. m (rw is z)) (λ z. n (rw is z))) (printed room (rw (e, is) at w) h)
+
+-- whether it is `NO n` or `BAD K`
+module _ (of : List ℕ → Standing) (l : LongLine) (q : QuestionLine) (is : q ≡ askedHeld (longAsked l)) (out : List ℕ) (at : ℕ)
+    (room : roomy out at ≡ true) where
+  -- a line that asks nothing is not refused
+  pub said-nothing : q .letter ≡ 35 → false ≡ (roomy out at && longRefused of l)
+  unfolding longRefused
+  said-nothing e = rw room (refused-nothing of (longAsked l) (rw is at e))
+
+  -- a bad line is refused
+  pub said-bad : q .letter ≡ 0 → true ≡ (roomy out at && longRefused of l)
+  unfolding longRefused
+  said-bad e = rw room (refused-bad of (longAsked l) (rw is at e))
+
+  -- a line with a question is refused where its answer is
+  pub said-answer : (q .letter ≡ 35 → ⊥) → (q .letter ≡ 0 → ⊥) → (s : Standing) → s ≡ of (q .id) → (r : Bool) → r ≡ heldRefused s q
+      → r ≡ (roomy out at && longRefused of l)
+  unfolding longRefused
+  said-answer m n s e r h =
+      h ∙ rw (room, e, is) (refused-answer of (longAsked l) (λ z. m (rw is z)) (λ z. n (rw is z)))
+
+-- without room nothing is refused
+pub said-none : (out : List ℕ) (at : ℕ) (b : Bool) → roomy out at ≡ false → false ≡ (roomy out at && b)
+said-none out at b e = rw e refl
 
 -- a buffer with room for an answer has room for 64 bytes
 pub room-64 : (out : List ℕ) (at : ℕ) → roomy out at ≡ true → at + 64 ≤ length out
@@ -166,6 +226,27 @@ module _ (s : Standing) (k : ℕ) (line : List ℕ) (q : QuestionLine) (out afte
   answer-reply e middle from w l made v =
       let p = put-short (replyLine s q) l made (reply-short s q) middle after from next v in
       (rw e (then (w .0) (p .0)), omega (arith, w .1, p .1))
+
+-- whether the answer to a question as it is held is `NO n` or `BAD K`
+module _ (s : Standing) (q : QuestionLine) where
+  -- a question of the wrong form is refused
+  pub refused-misfit : heldMisfits s q ≡ true → true ≡ heldRefused s q
+  unfolding heldRefused
+  refused-misfit e = rw e refl
+
+  two-bytes : 2 ≤ length (replyLine s q)
+  unfolding replyLine
+  two-bytes = omega (arith, length-append (heldReply s q) (10 ∷ []))
+
+  -- any other where the second byte of its reply is an N
+  pub refused-reply : heldMisfits s q ≡ false → (l : Line) → LineWith emptyLine (replyLine s q) l → eqb (getD (l .bytes) 1 0) 78 ≡ heldRefused s q
+  unfolding heldRefused
+  refused-reply e l made =
+      let c : l .length ≡ length (replyLine s q) = rw (made .is) (fed-is (replyLine s q) (reply-short s q) .0) in
+      let t : take (l .length) (l .bytes) ≡ replyLine s q = rw (made .is) (fed-is (replyLine s q) (reply-short s q) .1) in
+      let b : getD (l .bytes) 1 0 ≡ getD (replyLine s q) 1 0 = sym (getD-take (l .length) (l .bytes) 1 0 (omega (arith, c, two-bytes)))
+      ∙ ap (λ (x : List ℕ). getD x 1 0) t in
+      rw (e, b) refl
 
 -- ---- byte by byte
 

@@ -17,8 +17,8 @@ use Rattle.delivery_items.specs.Items.{emptyLong, fedLong}
 use Rattle.delivery_items.proofs.LongItems.{Holds, all, none}
 use Rattle.delivery_questions.specs.QuestionLines.{nothing, bad, trimmedAsked, askedBy}
 use Rattle.delivery_answers.specs.declared.Standing.{Standing}
-use Rattle.delivery_answers.specs.Replies.{askedText, questionAnswer}
-use Rattle.delivery_queries.specs.Queries.{longAsked, longText}
+use Rattle.delivery_answers.specs.Replies.{askedText, questionAnswer, askedRefused}
+use Rattle.delivery_queries.specs.Queries.{longAsked, longText, longRefused}
 
 -- a line of more than 255 bytes is a comment, or bad
 long-asked : (line : List ℕ) → 255 < length (trimmed line) → askedBy line ≡ cond (eqb (getD (trimmed line) 0 0) 35) nothing bad
@@ -61,3 +61,17 @@ held-is of k l line h = go (l .over) refl
 -- a line of any length, fed byte by byte to an empty line, is answered as the definition says
 pub any-length : (of : List ℕ → Standing) (k : ℕ) (line : List ℕ) → longText of k (fedLong emptyLong line) ≡ questionAnswer of k line
 any-length of k line = held-is of k (fedLong emptyLong line) line (all emptyLong [] line none)
+
+-- what a line as it is held asks is what the line asks
+asked-is : (l : LongLine) (line : List ℕ) → Holds l line → longAsked l ≡ askedBy line
+unfolding longAsked
+asked-is l line h = go (l .over) refl
+  where
+    go : (b : Bool) → l .over ≡ b → cond b (cond (eqb (getD (l .bytes) 0 0) 35) nothing bad) (askedBy (take (l .length) (l .bytes))) ≡ askedBy line
+    go true o = ap (λ (n : ℕ). cond (eqb n 35) nothing bad) (first-byte l line h o) ∙ sym (long-asked line (h .past o .0))
+    go false o = ap trimmedAsked (ap trimmed (h .bytes) ∙ h .whole o)
+
+-- a line of any length, fed byte by byte to an empty line, is refused as the definition says
+pub any-refused : (of : List ℕ → Standing) (line : List ℕ) → longRefused of (fedLong emptyLong line) ≡ askedRefused of (askedBy line)
+unfolding longRefused
+any-refused of line = ap (askedRefused of) (asked-is (fedLong emptyLong line) line (all emptyLong [] line none))

@@ -1,7 +1,7 @@
 -- What `query` answers to the questions of its input (docs/DELIVERY.md, `query`, from which the quotations are; docs/DECISIONS.md, The delivery).
 -- Assumes nothing.
 use Prim.Native.Nat.{ℕ, _+_}
-use mathlib.Core.Bool.{_&&_, cond}
+use mathlib.Core.Bool.{Bool, true, false, _&&_, _||_, cond}
 use mathlib.Core.List.{List, [], _∷_, _++_}
 use lib.Dec.{eqb, leb, ltb}
 use lib.ListN.{getD, take}
@@ -54,6 +54,17 @@ queryText f notices input =
     let t = textTold notices in
     cond (eqb (firstNo (loadAsks f)) 0 && eqb (t .bad) 0) (repliesText (standingOf f (t .date) (t .notices)) 1 (linesFrom [] (unmarked input))) []
 
+-- whether the answer to some of these lines is '`NO n`' or '`BAD K`'
+unfoldable pub someRefused : (List ℕ → Standing) → List (List ℕ) → Bool
+someRefused of [] = false
+someRefused of (line ∷ lines) = replies.askedRefused of (askedBy line) || someRefused of lines
+
+-- something is refused or bad: the file, a notice, or a line of the input
+unfoldable pub queryRefused : List ℕ → List ℕ → List ℕ → Bool
+queryRefused f notices input =
+    let t = textTold notices in
+    cond (eqb (firstNo (loadAsks f)) 0 && eqb (t .bad) 0) (someRefused (standingOf f (t .date) (t .notices)) (linesFrom [] (unmarked input))) true
+
 -- 'A `master.bin` that is refused: .. it is judged before the notices are read'; 'Refused notices are not told here':
 -- standard error, `master.bin: NO n`, or the first bad line
 unfoldable pub queryTold : List ℕ → List ℕ → List ℕ
@@ -88,3 +99,11 @@ longText of k l = replies.askedText of k (trimmed (take (l .length) (l .bytes)))
 -- only the code needs it: the answer to a line with a question as it is held
 unfoldable pub heldAnswer : Standing → ℕ → List ℕ → QuestionLine → List ℕ
 heldAnswer s k line q = cond (replies.heldMisfits s q) (replies.badQuestionText k) (line ++ replies.replyLine s q)
+
+-- only the code needs it: whether the answer to a line, as it is held, is '`NO n`' or '`BAD K`'
+unfoldable pub longRefused : (List ℕ → Standing) → LongLine → Bool
+longRefused of l = replies.askedRefused of (longAsked l)
+
+-- only the code needs it: the same of a question as it is held. After the line stand a space and the answer, which begins with an N, 78, where it is '`NO n`'
+unfoldable pub heldRefused : Standing → QuestionLine → Bool
+heldRefused s q = cond (replies.heldMisfits s q) true (eqb (getD (replies.replyLine s q) 1 0) 78)

@@ -16,12 +16,18 @@ ghost use Rattle.session_text.specs.Buffer.{Written, Printed, roomy};
 ghost use Rattle.delivery_lines.specs.NoticeLines.{trimmed};
 ghost use Rattle.delivery_questions.specs.QuestionLines.{askedHeld};
 ghost use Rattle.delivery_answers.specs.Replies.{badQuestionText};
-ghost use Rattle.delivery_queries.specs.Queries.{standingIn, longAsked, longText, heldAnswer};
+ghost use Rattle.delivery_queries.specs.Queries.{standingIn, longAsked, longText, heldAnswer, longRefused, heldRefused};
 
 // Whether the file has a product with an id, and whether that is a weekly one.
 struct KnownId {
     known: bool,
     weekly: bool,
+}
+
+// The place after an answer in a buffer, and whether the answer is `NO n` or `BAD K`.
+pub struct LineAnswer {
+    pub next: usize,
+    pub refused: bool,
 }
 
 // Looks for the product with an id.
@@ -134,15 +140,23 @@ fn put_answer(
     line: LongLine,
     s: Standing,
     q: QuestionLine,
-) -> usize
+) -> LineAnswer
     requires { ⌜ at + 512 ≤ length (now out) ⌝ }
-    ensures { λ r. ⌜ Written (now (out .entry)) (now (out .exit)) at r (heldAnswer s number (trimmed (take (line .length) (line .bytes))) q) × (r ≤ at + 512) ⌝ }
+    ensures { λ r. ⌜ Written (now (out .entry)) (now (out .exit)) at (r .next) (heldAnswer s number (trimmed (take (line .length) (line .bytes))) q) × (r .next ≤ at + 512) × (r .refused ≡ heldRefused s q) ⌝ }
 {
     if delivery_answers::is_misfit(s, q) {
-        return put_bad(out, at, number);
+        let next = put_bad(out, at, number);
+        return LineAnswer {
+            next,
+            refused: true,
+        };
     }
-    let next = put_held(out, at, line);
-    put_line(out, next, delivery_answers::reply_line(s, q))
+    let held = put_held(out, at, line);
+    let reply = delivery_answers::reply_line(s, q);
+    let bytes = reply.bytes;
+    let refused = bytes[1] == b'N';
+    let next = put_line(out, held, reply);
+    LineAnswer { next, refused }
 }
 
 // Whether a buffer has room for any answer.
@@ -155,7 +169,7 @@ fn has_room(out: &[u8], at: usize) -> bool
     at <= out.len() - 512
 }
 
-// The answer to a line with a number, as it is held, from a place of a lent buffer on, and the place after it. Without room for 512 bytes nothing is written.
+// The answer to a line with a number, as it is held, from a place of a lent buffer on. Without room for 512 bytes nothing is written.
 pub fn answer_line(
     file: &[u8],
     judged: FileCalendar,
@@ -167,18 +181,28 @@ pub fn answer_line(
     line: LongLine,
     out: &mut [u8],
     at: usize,
-) -> usize
-    ensures { λ r. ⌜ Printed (now (out .entry)) (now (out .exit)) at r (longText (standingIn judged (now (file .entry)) t (now (calls .entry)) (now (ids .entry)) (length (now (refusals .entry)))) number line) ⌝ }
+) -> LineAnswer
+    ensures { λ r. ⌜ Printed (now (out .entry)) (now (out .exit)) at (r .next) (longText (standingIn judged (now (file .entry)) t (now (calls .entry)) (now (ids .entry)) (length (now (refusals .entry)))) number line) × (r .refused ≡ (roomy (now (out .entry)) at && longRefused (standingIn judged (now (file .entry)) t (now (calls .entry)) (now (ids .entry)) (length (now (refusals .entry)))) line)) ⌝ }
 {
     if !has_room(out, at) {
-        return at;
+        return LineAnswer {
+            next: at,
+            refused: false,
+        };
     }
     let q = held_asks(line);
     if q.letter == b'#' {
-        return at;
+        return LineAnswer {
+            next: at,
+            refused: false,
+        };
     }
     if q.letter == 0 {
-        return put_bad(out, at, number);
+        let next = put_bad(out, at, number);
+        return LineAnswer {
+            next,
+            refused: true,
+        };
     }
     let id = q.id;
     let s = standing(file, judged, t, calls, ids, refusals, id);

@@ -1,6 +1,7 @@
 // The answers of `query` to all lines that end in a part of its input, and to a last line that no line feed ends.
 use delivery_items::LongLine;
 use delivery_notices::NoticesTaken;
+use delivery_queries::LineAnswer;
 use file_calendar::FileCalendar;
 ghost use mathlib.Core.Path.{_≡_};
 ghost use mathlib.Core.Bool.{true};
@@ -11,12 +12,14 @@ ghost use Rattle.session_parts.specs.TermsParts.{another};
 ghost use Rattle.delivery_queries.specs.Queries.{nextNumber, standingIn};
 ghost use Rattle.delivery_sessions.specs.QueryParts.{QueryNext, QueryAnswers, QueryLastAnswer};
 
-// The number of the line that is begun, its bytes so far, the place in the part of the input, and how many bytes of answers stand in the buffer.
+// The number of the line that is begun, its bytes so far, the place in the part of the input, how many bytes of answers stand in the buffer,
+// and whether an answer so far is `NO n` or `BAD K`.
 pub struct QueryProgress {
     pub number: u64,
     pub line: LongLine,
     pub at: usize,
     pub length: usize,
+    pub refused: bool,
 }
 
 // The number of the next line.
@@ -54,9 +57,10 @@ fn answer_next(
             line,
             at: e.next,
             length: s.length,
+            refused: s.refused,
         };
     }
-    let length = delivery_queries::answer_line(
+    let a = delivery_queries::answer_line(
         file,
         judged,
         t,
@@ -74,7 +78,8 @@ fn answer_next(
         number: next,
         line: empty,
         at: e.next,
-        length,
+        length: a.next,
+        refused: s.refused | a.refused,
     }
 }
 
@@ -91,7 +96,7 @@ fn goes_on(part: &[u8], at: usize, out: &[u8], n: usize) -> bool
     n <= out.len() - 512
 }
 
-// The answers to the lines that end in a part of the input from a place on,
+// The answers to the lines that end in a part of the input from a line begun and a place on,
 // in a lent buffer from its start, as long as it has room for another answer of 512 bytes.
 // A buffer of fewer bytes, and a place past the part, leave all as it is. The verdict on the file and the notices of two lists are at hand.
 pub fn answer_part(
@@ -101,27 +106,21 @@ pub fn answer_part(
     calls: &[u32],
     ids: &[u8],
     refusals: &mut [u8],
-    number: u64,
-    line: LongLine,
+    from: QueryProgress,
     part: &[u8],
-    from: usize,
     out: &mut [u8],
 ) -> QueryProgress
-    ensures { λ r. ⌜ QueryAnswers (standingIn judged (now (file .entry)) t (now (calls .entry)) (now (ids .entry)) (length (now (refusals .entry)))) number line (now (part .entry)) from (now (out .entry)) (now (out .exit)) r ⌝ }
+    ensures { λ r. ⌜ QueryAnswers (standingIn judged (now (file .entry)) t (now (calls .entry)) (now (ids .entry)) (length (now (refusals .entry)))) (from .number) (from .refused) (from .line) (now (part .entry)) (from .at) (now (out .entry)) (now (out .exit)) r ⌝ }
 {
-    let mut s = QueryProgress {
-        number,
-        line,
-        at: from,
-        length: 0,
-    };
+    let mut s = from;
+    s.length = 0;
     while goes_on(part, s.at, out, s.length) {
         s = answer_next(file, judged, t, calls, ids, refusals, s, part, out);
     }
     s
 }
 
-// The answer to a last line that no line feed ends, in a lent buffer from its start, and its length.
+// The answer to a last line that no line feed ends, in a lent buffer from its start, its length, and whether it or one before it is `NO n` or `BAD K`.
 // A line with no bytes has none, and a buffer of fewer than 512 bytes stays as it is.
 pub fn answer_last(
     file: &[u8],
@@ -130,14 +129,33 @@ pub fn answer_last(
     calls: &[u32],
     ids: &[u8],
     refusals: &mut [u8],
-    number: u64,
-    line: LongLine,
+    s: QueryProgress,
     out: &mut [u8],
-) -> usize
-    ensures { λ r. ⌜ QueryLastAnswer (standingIn judged (now (file .entry)) t (now (calls .entry)) (now (ids .entry)) (length (now (refusals .entry)))) number line (now (out .entry)) (now (out .exit)) r ⌝ }
+) -> LineAnswer
+    ensures { λ r. ⌜ QueryLastAnswer (standingIn judged (now (file .entry)) t (now (calls .entry)) (now (ids .entry)) (length (now (refusals .entry)))) (s .number) (s .refused) (s .line) (now (out .entry)) (now (out .exit)) (r .next) (r .refused) ⌝ }
 {
+    let number = s.number;
+    let line = s.line;
     if line.length == 0 {
-        return 0;
+        return LineAnswer {
+            next: 0,
+            refused: s.refused,
+        };
     }
-    delivery_queries::answer_line(file, judged, t, calls, ids, refusals, number, line, out, 0)
+    let a = delivery_queries::answer_line(
+        file,
+        judged,
+        t,
+        calls,
+        ids,
+        refusals,
+        number,
+        line,
+        out,
+        0,
+    );
+    LineAnswer {
+        next: a.next,
+        refused: s.refused | a.refused,
+    }
 }

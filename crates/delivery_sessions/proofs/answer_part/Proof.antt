@@ -10,14 +10,14 @@ use Rattle.delivery_sessions.proofs.answer_part.Statement.{statement}
 use Rattle.delivery_sessions.proofs.answer_part.Tie as tie
 
 abbrev Inv-loop : tie.InvT-loop
-Inv-loop file judged t calls ids refusals₀ number part from out₀ s₀ refusals out s =
-    Going (standingIn judged file t calls ids (length refusals₀)) number (s₀ .line) part from out₀ out s × (length refusals ≡ length refusals₀)
+Inv-loop file judged t calls ids refusals₀ part out₀ s₀ refusals out s =
+    Going (standingIn judged file t calls ids (length refusals₀)) (s₀ .number) (s₀ .refused) (s₀ .line) part (s₀ .at) out₀ out s × (length refusals ≡ length refusals₀)
 
 abbrev μ-loop : tie.MeasureT-loop
-μ-loop file judged t calls ids refusals₀ number part from out₀ s₀ refusals out s = length part - s .at
+μ-loop file judged t calls ids refusals₀ part out₀ s₀ refusals out s = length part - s .at
 
 loop-holds : tie.Need-loop-holds Inv-loop μ-loop
-loop-holds c = (begins _ _ _ _ _ _, refl)
+loop-holds c = (begins _ _ _ _ _ _ _, refl)
 
 goes-on-requires : tie.Need-goes-on-requires Inv-loop μ-loop
 goes-on-requires c κs = tt
@@ -35,7 +35,7 @@ loop-again c =
     let at-goes-on = at-if1 .before in
     let at-loop = at-goes-on .before .before in
     let v = at-loop .loop .inv in (
-      goes _ _ _ _ _ _ _ _ (v .0) _ _ (at-goes-on .goes-on .ensures) (at-if1 .if1 .taken)
+      goes _ _ _ _ _ _ _ _ _ (v .0) _ _ (at-goes-on .goes-on .ensures) (at-if1 .if1 .taken)
           (rw (v .1) at (at-answer-next .answer-next .ensures)),
       omega (arith, v .1),
     )
@@ -47,7 +47,7 @@ same-length-2 : tie.Need-same-length-2 Inv-loop μ-loop
 same-length-2 c = c .before .before .before .loop .inv .0 .long
 
 returns : tie.Need-returns Inv-loop μ-loop
-returns c = finishes _ _ _ _ _ _ _ _ (c .before .before .before .loop .inv .0) (c .before .goes-on .ensures) (c .if1 .left)
+returns c = finishes _ _ _ _ _ _ _ _ _ (c .before .before .before .loop .inv .0) (c .before .goes-on .ensures) (c .if1 .left)
 
 pub answer-part-spec : {M : Type 1} → statement M
 answer-part-spec = tie.close (tie.spec Inv-loop μ-loop loop-holds goes-on-requires answer-next-requires loop-less loop-again same-length same-length-2 returns)
