@@ -1,17 +1,16 @@
 -- The first 65,537 bytes of an input decide its line: whatever follows them changes nothing.
 -- Assumes nothing.
-use mathlib.Core.Path.{_≡_, refl, sym, ap, _∙_}
+use mathlib.Core.Path.{_≡_, refl, ap, _∙_}
 use mathlib.Core.Bool.{Bool, not}
 use mathlib.Core.List.{List, [], _++_, append-nil}
 use mathlib.Core.Logic.{_⊎_, inl, inr}
 use Prim.Native.Nat.{ℕ, _≤_, _<_}
 use native.Mathlib.Omega.{arith}
-use lib.Dec.{ltb}
-use lib.ListN.{length, take, length-append}
+use lib.ListN.{length, length-append}
 use lib.Seq.{take-append-le}
 use borrow.Author.Tests.{lt-ltb}
 use Rattle.questions.proofs.Bools.{lt-or-ge}
-use Rattle.confirm_inputs.specs.ConfirmInputs.{inputLinesText, confirmText, isYes, confirmRefused}
+use Rattle.confirm_inputs.specs.ConfirmInputs.{confirmText, isYes, confirmRefused}
 
 module _ (file input rest : List ℕ) where
   long : 65537 ≤ length input → confirmText file (input ++ rest) ≡ confirmText file input

@@ -3,3 +3,4 @@ pub mod EntryLines
 pub mod InputLines
 pub mod VerdictLength
 pub mod FirstBytes
+pub mod YesText

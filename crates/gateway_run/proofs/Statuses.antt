@@ -2,7 +2,7 @@
 -- Assumes nothing.
 use Prim.Native.Nat.{ℕ}
 use native.Mathlib.Omega.{arith}
-use mathlib.Core.Path.{_≡_, refl, sym, ap, _∙_}
+use mathlib.Core.Path.{_≡_, refl, ap, _∙_}
 use mathlib.Core.Bool.{Bool, true, false, not, _||_, cond}
 use mathlib.Core.List.{List, _++_}
 use lib.Dec.{eqb}
@@ -40,16 +40,16 @@ taken-first t = go (eqb (t .refusal) 0) refl
     go true e = result-first (finishCall (t .state))
     go false e = rw e refl
 
-same-test : (a b : Bool) (x y : ℕ) → x ≡ cond a 79 78 → y ≡ cond b 79 78 → x ≡ y → a ≡ b
-same-test true true x y p q e = refl
-same-test true false x y p q e = absurd (omega (arith, p, q, e))
-same-test false true x y p q e = absurd (omega (arith, p, q, e))
-same-test false false x y p q e = refl
+same-letter : (a b : Bool) (x y : ℕ) → x ≡ cond a 79 78 → y ≡ cond b 79 78 → x ≡ y → a ≡ b
+same-letter true true x y p q e = refl
+same-letter true false x y p q e = absurd (omega (arith, p, q, e))
+same-letter false true x y p q e = absurd (omega (arith, p, q, e))
+same-letter false false x y p q e = refl
 
 refused-is : (n : ℕ) (e : Ended) (input : List ℕ) → endedText e ≡ gatewayText n input → not (eqb (e .refusal) 0) ≡ gatewayRefused n input
 unfolding endedText gatewayText gatewayRefused
 refused-is n e input q =
-    ap not (same-test (eqb (e .refusal) 0) (eqb (takenRefusal (handedOver n input (pieceCount input))) 0) _ _
+    ap not (same-letter (eqb (e .refusal) 0) (eqb (takenRefusal (handedOver n input (pieceCount input))) 0) _ _
     (result-first (endedAnswer e)) (taken-first (handedOver n input (pieceCount input))) (ap (λ (t : List ℕ). getD t 0 0) q))
 
 -- ---- the status

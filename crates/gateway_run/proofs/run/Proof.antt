@@ -1,7 +1,4 @@
 -- The line that is written is what is said after the reads, and its bytes are counted; the status is by the same end.
-use mathlib.Core.Path.{_≡_, ap, ap₂, sym, _∙_}
-use mathlib.Core.Bool.{Bool, not, _||_}
-use Rattle.program_status.specs.Statuses.{statusOf}
 use Rattle.gateway_run.proofs.Statuses.{gateway-ended}
 use Rattle.gateway_run.proofs.run.Statement.{statement}
 use Rattle.gateway_run.proofs.run.Tie as tie

@@ -1,5 +1,5 @@
 -- Shown: the status is by what was read and written, and both are handed back as they came.
-use mathlib.Core.Path.{_≡_, refl, ap, _∙_}
+use mathlib.Core.Path.{refl, ap, _∙_}
 use mathlib.Core.Bool.{Bool}
 use Rattle.program_status.specs.Statuses.{statusOf}
 use Rattle.program_runs.proofs.ended.Statement.{statement}

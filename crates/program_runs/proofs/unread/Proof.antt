@@ -1,5 +1,5 @@
 -- Shown: nothing was sent, and the status is that of the end of such a run.
-use mathlib.Core.Path.{_≡_, ap, sym, _∙_}
+use mathlib.Core.Path.{ap, sym, _∙_}
 use mathlib.Core.Bool.{false}
 use Rattle.streams.specs.declared.output.Sent.{Sent}
 use Rattle.program_status.specs.Statuses.{statusOf}
