@@ -3,4 +3,4 @@ pub mod RisingIds
 pub mod LoadAnswers
 pub mod Accepting
 pub mod Halving
-pub mod ReaderOwns
+pub mod ReaderWalks

@@ -19,7 +19,7 @@ use contract.Monad.{Fun}
 use contract.Running.{givenOf, tables, tablesOf}
 use types.Kit.{Given, ‵, raw, _⊛_, _$_, _∵_, !, qed, by, move, use1, split, fsplit, fjoin, suffices, frame}
 use types.Part.{agg}
-use types.Run.{look, init, forget, stop, from, load, lit, and-then, no-more, assigns, returns, enter, alloc1, alloc0, params1, pass1, pass0, free1, free0}
+use types.Run.{look, init, forget, lit, and-then, no-more, assigns, returns, enter, alloc1, alloc0, params1, pass1, pass0, free1, free0}
 use sound.WpLaws.{WpFn-mono}
 use denote.RattleType.{owns}
 use denote.Laws.{Is}
@@ -34,7 +34,7 @@ use denote.Triple.Table.{entered}
 use denote.Triple.Walked.{says, Stays, stay-none, stay-none-slice, walkOf, goes-none, goes-none-slice, Walks, ends-at, walked, walk-meets}
 use denote.Exit.{yes}
 use Rattle.file_load.specs.declared.Reader.{Reader}
-use Rattle.file_load.proofs.ReaderOwns.{sliceAt, SliceOwns, slice-twice, reader-made}
+use Rattle.file_load.proofs.ReaderWalks.{sliceAt, SliceOwns, slice-twice, reader-made, local, held}
 use Rattle.file_load.proofs.Reader.Laws as T′
 use Rattle.file_load.proofs.at_block.Key.{name as #at-block}
 use Rattle.file_load.proofs.at_block as at-block
@@ -72,8 +72,8 @@ module _ {M : Type 1} (𝓤 : URA M) (H : Heap 𝓤) (A : Atoms 𝓤) (W : Given
         alloc1 ! (λ l₀. alloc1 ! (λ l₁. alloc1 !
         (λ l₂. alloc0 ! $ params1 ! $ pass1 ! (init ! 2 refl (shr-slice-lawful 𝓤 H A W (named 0) κ u8 .typed s (sliceAt s ∷ []) p .0)) $
         pass1 ! (init ! 0 refl (uint-lawful 𝓤 H A W w64 .typed b _ okb .0)) $ pass0 ! $
-        assigns ! (agg ! (and-then ! (load ! (from ! (stop !)) (look ! 2 refl))
-        (and-then ! (load ! (from ! (stop !)) (look ! 0 refl)) (and-then ! (lit ! tt) (no-more !))))) (from ! (stop !))
+        assigns ! (agg ! (and-then ! (held ! (look ! 2 refl))
+        (and-then ! (held ! (look ! 0 refl)) (and-then ! (lit ! tt) (no-more !))))) (local !)
         (init ! 4 refl (
           tt,
           (

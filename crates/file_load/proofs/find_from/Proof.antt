@@ -20,7 +20,7 @@ use ghost.Atoms.{Atoms, sem}
 use contract.Monad.{Fun, fact}
 use contract.Running.{givenOf, tables, tablesOf}
 use types.Kit.{Given, ‵, raw, _⊛_, ⋆, some, later, _$_, _∵_, !, qed, by, move, drop, use1, use2, split, join, pick, fsplit, fjoin, suffices, frame, await, done}
-use types.Run.{look, init, forget, stop, from, load, and-then, no-more, land, returns, enter, alloc1, alloc0, params1, pass1, pass0, free1, free0}
+use types.Run.{look, init, forget, and-then, no-more, land, returns, enter, alloc1, alloc0, params1, pass1, pass0, free1, free0}
 use sound.WpLaws.{FmC, fmOf, WpFn-mono}
 use denote.RattleType.{owns}
 use denote.Laws.{Is, shows}
@@ -47,7 +47,7 @@ use Rattle.file_load.specs.Halves.{findFrom}
 use Rattle.file_load.specs.declared.Found.{Found}
 use Rattle.file_load.specs.declared.Reader.{Reader}
 use Rattle.file_load.proofs.LoadAnswers.{found-answer}
-use Rattle.file_load.proofs.ReaderOwns.{ReaderAt, Four, sliceAt, SliceOwns, slice-twice}
+use Rattle.file_load.proofs.ReaderWalks.{ReaderAt, Four, sliceAt, SliceOwns, slice-twice, local, held}
 use Rattle.file_load.proofs.Found as S
 use Rattle.file_load.proofs.Found.Laws as S′
 use Rattle.file_load.proofs.Reader as T
@@ -189,30 +189,30 @@ module _ {M : Type 1} (𝓤 : URA M) (H : Heap 𝓤) (A : Atoms 𝓤) (W : Given
         pass1 ! (init ! 4 refl (array-typed u8 (uint-lawful 𝓤 H A W w8 .typed) 4 id _ okid .0)) $ pass0 ! $
         move ! (12 ∷ []) $ use1 W (raw (Begin 𝓤 H A mem run .pre to-begin) ⊛ ‵ (SliceOwns κ s)) goes-begin $ split ! $
         calls-at ! fm (Begin 𝓤 H A mem run) known-begin to-begin
-        (and-then ! (load ! (from ! (stop !)) (look ! 10 refl)) (and-then ! (load ! (from ! (stop !)) (look ! 8 refl)) (no-more !))) (λ u.
+        (and-then ! (held ! (look ! 10 refl)) (and-then ! (held ! (look ! 8 refl)) (no-more !))) (λ u.
         use1 W (later (some (λ (r : Reader). ((‵ (flft κ q) ⊛ ‵ ftrue) ⊛ ‵ (ReaderAt (κ, tt) .own r (u ∷ [])))
         ⊛ raw (ensured 𝓤 H A at-block.ended (at-block.clauses 𝓤 H A mem run) (κ, tt) (s, (b, tt)) tt r)))) (id⊢ 𝓤 _) $ await ! tt $ pick ! (λ r.
         split ! $ move ! (1 ∷ []) $ use1 W (raw (fact 𝓤 (Made r))) (begin-said r) $ heard ! (Made r) (λ e. split ! $ move ! (1 ∷ []) $
         -- [what the struct owns; the token; what s owns; room for _5; …; room for _4; …; _3; …; _2; …; _1; …; room for _0; …]
         peeks ! (ReaderAt (κ, tt)) (Is (ReaderAt (κ, tt))) (shows 𝓤 H A (ReaderAt (κ, tt))) r (u ∷ []) (λ is.
-        land ! (from ! (stop !)) (init ! 3 refl (LL.lawful (T.the-type αᵉ) (T′.the-laws αᵉ) 𝓤 H A W .typed r _ is .0)) $
+        land ! (local !) (init ! 3 refl (LL.lawful (T.the-type αᵉ) (T′.the-laws αᵉ) 𝓤 H A W .typed r _ is .0)) $
         use2 W (raw (Seek 𝓤 H A mem run .pre (to-seek r u))) (goes-seek r u pre e) $
         calls-at ! fm (Seek 𝓤 H A mem run) known-seek (to-seek r u)
-        (and-then ! (load ! (from ! (stop !)) (look ! 2 refl)) (and-then ! (load ! (from ! (stop !)) (look ! 6 refl)) (no-more !))) (λ u′.
+        (and-then ! (held ! (look ! 2 refl)) (and-then ! (held ! (look ! 6 refl)) (no-more !))) (λ u′.
         use1 W (later (some (λ (m : Reader). ((‵ (flft κ q) ⊛ ‵ ftrue) ⊛ ‵ (ReaderAt (κ, tt) .own m (u′ ∷ [])))
         ⊛ raw (ensured 𝓤 H A seek.ended (seek.clauses 𝓤 H A mem run) (κ, tt) (r, (id, tt)) tt m)))) (id⊢ 𝓤 _) $ await ! tt $ pick ! (λ m.
         split ! $ move ! (1 ∷ []) $ use1 W (raw (fact 𝓤 (Moved r m))) (seek-said r m) $ heard ! (Moved r m) (λ e′. split ! $ move ! (1 ∷ []) $
         -- [what the struct owns; the token; what s owns; _5; …; room for _4; …; _3; …; _2; …; _1; …; room for _0; …]
         peeks ! (ReaderAt (κ, tt)) (Is (ReaderAt (κ, tt))) (shows 𝓤 H A (ReaderAt (κ, tt))) m (u′ ∷ []) (λ is′.
-        land ! (from ! (stop !)) (init ! 5 refl (LL.lawful (T.the-type αᵉ) (T′.the-laws αᵉ) 𝓤 H A W .typed m _ is′ .0)) $
+        land ! (local !) (init ! 5 refl (LL.lawful (T.the-type αᵉ) (T′.the-laws αᵉ) 𝓤 H A W .typed m _ is′ .0)) $
         use2 W (raw (Here 𝓤 H A mem run .pre (to-here m u′))) (goes-here m u′) $
-        calls-at ! fm (Here 𝓤 H A mem run) known-here (to-here m u′) (and-then ! (load ! (from ! (stop !)) (look ! 4 refl)) (no-more !)) (λ u″.
+        calls-at ! fm (Here 𝓤 H A mem run) known-here (to-here m u′) (and-then ! (held ! (look ! 4 refl)) (no-more !)) (λ u″.
         use1 W (later (some (λ (t : Found). ((‵ (flft κ q) ⊛ ‵ ftrue) ⊛ ‵ (S.the-row .own t (u″ ∷ [])))
         ⊛ raw (ensured 𝓤 H A here.ended (here.clauses 𝓤 H A mem run) (κ, tt) (m, tt) tt t)))) (id⊢ 𝓤 _) $ await ! tt $ pick ! (λ t.
         split ! $ move ! (1 ∷ []) $ use1 W (raw (fact 𝓤 (Said m t))) (here-said m t) $ heard ! (Said m t) (λ e″. split ! $ move ! (1 ∷ []) $
         -- [the result; the token; what s owns; _5; …; _4; …; _3; …; _2; …; _1; …; room for _0; …]
         peeks ! S.the-row (Is S.the-row) (shows 𝓤 H A S.the-row) t (u″ ∷ []) (λ is″.
-        land ! (from ! (stop !)) (init ! 13 refl (EL.lawful S.the-type S′.the-laws 𝓤 H A W tt .typed t _ is″ .0)) $
+        land ! (local !) (init ! 13 refl (EL.lawful S.the-type S′.the-laws 𝓤 H A W tt .typed t _ is″ .0)) $
         returns ! (look ! 13 refl) $ forget ! 3 refl $ forget ! 5 refl $ forget ! 7 refl $ forget ! 9 refl $ forget ! 11 refl $ forget ! 13 refl $
         move ! (13 ∷ 14 ∷ []) $ free1 ! $ move ! (11 ∷ 12 ∷ []) $ free1 ! $ move ! (9 ∷ 10 ∷ []) $ free1 ! $ move ! (7 ∷ 8 ∷ []) $ free1 ! $
         move ! (5 ∷ 6 ∷ []) $ free1 ! $ move ! (3 ∷ 4 ∷ []) $ free1 ! $ free0 ! $

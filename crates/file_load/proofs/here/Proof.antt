@@ -1,6 +1,6 @@
 -- `file_load::here` meets its contract: a walk of its MIR, by hand. The struct is taken apart, and `found_at` is called on the slice and the numbers
 -- (`apart`, `said`). All that the proof knows of `found_at` is its contract.
--- What the struct owns is kept for the exit; what its slice owns is had beside it (ReaderOwns), for the callee.
+-- What the struct owns is kept for the exit; what its slice owns is had beside it (ReaderWalks), for the callee.
 -- Assumes nothing.
 use mathlib.Core.Path.{_≡_, refl}
 use Prim.Native.Nat.{_<_, _^_}
@@ -19,8 +19,7 @@ use contract.Monad.{Fun, fact}
 use contract.Running.{givenOf, tables, tablesOf}
 use types.Kit.{Given, ‵, raw, _⊛_, ⋆, some, later, _$_, _∵_, !, qed, by, move, drop, use1, use2, split, join, pick, fsplit, fjoin, suffices, frame, await, done}
 use types.Part.{whole, sub, look-in}
-use types.Run.{look, init, forget, stop, fld, from, load, of-opd, and-then, no-more, assigns, land, returns, enter, alloc1, alloc0, params1, pass1, pass0}
-use types.Run.{free1, free0}
+use types.Run.{look, init, forget, of-opd, and-then, no-more, assigns, land, returns, enter, alloc1, alloc0, params1, pass1, pass0, free1, free0}
 use sound.WpLaws.{FmC, fmOf, WpFn-mono}
 use denote.RattleType.{owns}
 use denote.Laws.{Is, shows}
@@ -43,7 +42,7 @@ use denote.Enum.Laws as EL
 use Rattle.file_load.specs.Load.{foundAt}
 use Rattle.file_load.specs.declared.Reader.{Reader}
 use Rattle.file_load.specs.declared.Found.{Found}
-use Rattle.file_load.proofs.ReaderOwns.{ReaderAt, sliceAt, SliceOwns, ReaderOwns, slice-beside}
+use Rattle.file_load.proofs.ReaderWalks.{ReaderAt, sliceAt, SliceOwns, ReaderOwns, slice-beside, local, held, held-in}
 use Rattle.file_load.proofs.Reader as T
 use Rattle.file_load.proofs.Reader.Laws as T′
 use Rattle.file_load.proofs.Found as S
@@ -121,22 +120,19 @@ module _ {M : Type 1} (𝓤 : URA M) (H : Heap 𝓤) (A : Atoms 𝓤) (W : Given
         -- locals 0 (result), 1 (reader), 2 (file), 3 (block), 4 (record) stand at 8, 6, 4, 2, 0
         alloc1 ! (λ l₀. alloc1 ! (λ l₁. alloc1 ! (λ l₂. alloc1 ! (λ l₃. alloc1 ! (λ l₄. alloc0 ! $ params1 ! $ pass1 ! (init ! 6 refl wt) $ pass0 ! $
         -- the fields of the struct are read: _2 = _1.file, _3 = _1.block, _4 = _1.record
-        assigns ! (of-opd ! (load ! (from ! (fld ! refl (stop !))) (look-in ! 6 (sub ! 0 refl (whole !))))) (from ! (stop !)) (init ! 4 refl (tt, wt .1 .0)) $
-        assigns ! (of-opd ! (load ! (from ! (fld ! refl (stop !))) (look-in ! 6 (sub ! 1 refl (whole !))))) (from ! (stop !))
-        (init ! 2 refl (tt, wt .1 .1 .0)) $
-        assigns ! (of-opd ! (load ! (from ! (fld ! refl (stop !))) (look-in ! 6 (sub ! 2 refl (whole !))))) (from ! (stop !))
-        (init ! 0 refl (tt, wt .1 .1 .1 .0)) $
+        assigns ! (of-opd ! (held-in ! refl (look-in ! 6 (sub ! 0 refl (whole !))))) (local !) (init ! 4 refl (tt, wt .1 .0)) $
+        assigns ! (of-opd ! (held-in ! refl (look-in ! 6 (sub ! 1 refl (whole !))))) (local !) (init ! 2 refl (tt, wt .1 .1 .0)) $
+        assigns ! (of-opd ! (held-in ! refl (look-in ! 6 (sub ! 2 refl (whole !))))) (local !) (init ! 0 refl (tt, wt .1 .1 .1 .0)) $
         -- the call: _0 = found_at(_2, _3, _4)
         move ! (10 ∷ []) $ use1 W (raw (FoundAt 𝓤 H A mem run .pre to) ⊛ ‵ (ReaderOwns κ d)) (apart (wt .1 .1 .0 .fits) (wt .1 .1 .1 .0 .fits)) $ split ! $
         calls-at ! fm (FoundAt 𝓤 H A mem run) known to
-        (and-then ! (load ! (from ! (stop !)) (look ! 6 refl))
-        (and-then ! (load ! (from ! (stop !)) (look ! 4 refl)) (and-then ! (load ! (from ! (stop !)) (look ! 2 refl)) (no-more !)))) (λ u.
+        (and-then ! (held ! (look ! 6 refl)) (and-then ! (held ! (look ! 4 refl)) (and-then ! (held ! (look ! 2 refl)) (no-more !)))) (λ u.
         use1 W (later (some (λ (r : Found). ((‵ (flft κ q) ⊛ ‵ ftrue) ⊛ ‵ (S.the-row .own r (u ∷ [])))
         ⊛ raw (ensured 𝓤 H A found-at.ended (found-at.clauses 𝓤 H A mem run) (κ, tt) args tt r)))) (id⊢ 𝓤 _) $ await ! tt $ pick ! (λ r.
         split ! $ move ! (1 ∷ []) $ use1 W (raw (fact 𝓤 (r ≡ found))) (said r) $ heard ! (r ≡ found) (λ e. split ! $ move ! (1 ∷ []) $
         -- [the result; the token; what the struct owns; _4; …; _3; …; _2; …; _1; …; room for _0; …]
         peeks ! S.the-row (Is S.the-row) (shows 𝓤 H A S.the-row) r (u ∷ []) (λ is.
-        land ! (from ! (stop !)) (init ! 11 refl (EL.lawful S.the-type S′.the-laws 𝓤 H A W tt .typed r _ is .0)) $
+        land ! (local !) (init ! 11 refl (EL.lawful S.the-type S′.the-laws 𝓤 H A W tt .typed r _ is .0)) $
         -- the result is read, and the locals are freed, _0 first
         returns ! (look ! 11 refl) $ forget ! 3 refl $ forget ! 5 refl $ forget ! 7 refl $ forget ! 9 refl $ forget ! 11 refl $
         move ! (11 ∷ 12 ∷ []) $ free1 ! $ move ! (9 ∷ 10 ∷ []) $ free1 ! $ move ! (7 ∷ 8 ∷ []) $ free1 ! $ move ! (5 ∷ 6 ∷ []) $ free1 ! $ move ! (3 ∷ 4 ∷ []) $

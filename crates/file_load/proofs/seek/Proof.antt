@@ -1,6 +1,6 @@
 -- `file_load::seek` meets its contract: a walk of its MIR, by hand. The struct is taken apart, `seek_at` is called on the slice, the numbers and the
 -- id (`apart`, `said`), and the struct is made anew with the place that it answers (`exits`). All that the proof knows of `seek_at` is its contract.
--- What the struct owns is kept for the exit; what its slice owns is had beside it (ReaderOwns), for the callee and for the struct that is made.
+-- What the struct owns is kept for the exit; what its slice owns is had beside it (ReaderWalks), for the callee and for the struct that is made.
 -- Assumes nothing.
 use mathlib.Core.Path.{_≡_, refl, ap}
 use Prim.Native.Nat.{ℕ, _+_, _*_, _≤_, _<_, _^_}
@@ -21,8 +21,7 @@ use contract.Running.{givenOf, tables, tablesOf}
 use types.Kit.{Given, ‵, raw, _⊛_, ⋆, some, later, _$_, _∵_, !, qed, by, move, drop, use1, use2, split, pick, rewrite, fsplit, fjoin, suffices}
 use types.Kit.{frame, await, done}
 use types.Part.{whole, sub, look-in, agg}
-use types.Run.{look, init, forget, stop, fld, from, load, of-opd, and-then, no-more, assigns, land, returns, enter, alloc1, alloc0, params1, pass1, pass0}
-use types.Run.{free1, free0}
+use types.Run.{look, init, forget, of-opd, and-then, no-more, assigns, land, returns, enter, alloc1, alloc0, params1, pass1, pass0, free1, free0}
 use sound.WpLaws.{FmC, fmOf, WpFn-mono}
 use denote.RattleType.{owns}
 use denote.Laws.{Is, shows}
@@ -46,7 +45,7 @@ use Rattle.file_blocks.specs.Blocks.{blockCount}
 use Rattle.file_load.specs.Load.{placeFrom, placeOf}
 use Rattle.file_load.specs.declared.Reader.{Reader}
 use Rattle.file_load.specs.declared.Place.{Place}
-use Rattle.file_load.proofs.ReaderOwns.{ReaderAt, Four, sliceAt, SliceOwns, ReaderOwns, slice-beside, reader-made}
+use Rattle.file_load.proofs.ReaderWalks.{ReaderAt, Four, sliceAt, SliceOwns, ReaderOwns, slice-beside, reader-made, local, held, held-in}
 use Rattle.file_load.proofs.Place as P
 use Rattle.file_load.proofs.Place.Laws as P′
 use Rattle.file_load.proofs.Reader as T
@@ -157,31 +156,26 @@ module _ {M : Type 1} (𝓤 : URA M) (H : Heap 𝓤) (A : Atoms 𝓤) (W : Given
         alloc1 ! (λ l₀. alloc1 ! (λ l₁. alloc1 ! (λ l₂. alloc1 ! (λ l₃. alloc1 ! (λ l₄. alloc1 ! (λ l₅. alloc1 ! (λ l₆. alloc1 ! (λ l₇. alloc0 ! $
         params1 ! $ pass1 ! (init ! 12 refl wt) $ pass1 ! (init ! 10 refl (array-typed u8 (uint-lawful 𝓤 H A W w8 .typed) 4 id _ okid .0)) $ pass0 ! $
         -- the fields of the struct are read: _4 = _1.file, _5 = _1.block, _6 = _1.record
-        assigns ! (of-opd ! (load ! (from ! (fld ! refl (stop !))) (look-in ! 12 (sub ! 0 refl (whole !))))) (from ! (stop !)) (init ! 6 refl (tt, wt .1 .0)) $
-        assigns ! (of-opd ! (load ! (from ! (fld ! refl (stop !))) (look-in ! 12 (sub ! 1 refl (whole !))))) (from ! (stop !))
-        (init ! 4 refl (tt, wt .1 .1 .0)) $
-        assigns ! (of-opd ! (load ! (from ! (fld ! refl (stop !))) (look-in ! 12 (sub ! 2 refl (whole !))))) (from ! (stop !))
-        (init ! 2 refl (tt, wt .1 .1 .1 .0)) $
+        assigns ! (of-opd ! (held-in ! refl (look-in ! 12 (sub ! 0 refl (whole !))))) (local !) (init ! 6 refl (tt, wt .1 .0)) $
+        assigns ! (of-opd ! (held-in ! refl (look-in ! 12 (sub ! 1 refl (whole !))))) (local !) (init ! 4 refl (tt, wt .1 .1 .0)) $
+        assigns ! (of-opd ! (held-in ! refl (look-in ! 12 (sub ! 2 refl (whole !))))) (local !) (init ! 2 refl (tt, wt .1 .1 .1 .0)) $
         -- the call: _3 = seek_at(_4, _5, _6, _2)
         move ! (16 ∷ []) $ use1 W (raw (SeekAt 𝓤 H A mem run .pre to) ⊛ ‵ (ReaderOwns κ d)) (apart pre (wt .1 .1 .0 .fits) (wt .1 .1 .1 .0 .fits)) $ split ! $
-        calls-at ! fm (SeekAt 𝓤 H A mem run) known to
-        (and-then ! (load ! (from ! (stop !)) (look ! 8 refl))
-        (and-then ! (load ! (from ! (stop !)) (look ! 6 refl))
-        (and-then ! (load ! (from ! (stop !)) (look ! 4 refl)) (and-then ! (load ! (from ! (stop !)) (look ! 12 refl)) (no-more !))))) (λ u.
+        calls-at ! fm (SeekAt 𝓤 H A mem run) known to (and-then ! (held ! (look ! 8 refl)) (and-then ! (held ! (look ! 6 refl))
+        (and-then ! (held ! (look ! 4 refl)) (and-then ! (held ! (look ! 12 refl)) (no-more !))))) (λ u.
         use1 W (later (some (λ (r : Place). ((‵ (flft κ q) ⊛ ‵ ftrue) ⊛ ‵ (P.the-row .own r (u ∷ [])))
         ⊛ raw (ensured 𝓤 H A seek-at.ended (seek-at.clauses 𝓤 H A mem run) (κ, tt) args tt r)))) (id⊢ 𝓤 _) $ await ! tt $ pick ! (λ r.
         split ! $ move ! (1 ∷ []) $ use1 W (raw (fact 𝓤 (r ≡ found))) (said r) $ heard ! (r ≡ found) (λ e. split ! $ move ! (1 ∷ []) $
         -- [the place; the token; what the struct owns; room for _7; …; _6; …; _5; …; _4; …; room for _3; …; _2; …; _1; …; room for _0; …]
         peeks ! P.the-row (Is P.the-row) (shows 𝓤 H A P.the-row) r (u ∷ []) (λ is.
         let fits = LL.owed P.the-type P′.the-laws r (u ∷ []) is in
-        land ! (from ! (stop !)) (init ! 11 refl (LL.lawful P.the-type P′.the-laws 𝓤 H A W .typed r _ is .0)) $
+        land ! (local !) (init ! 11 refl (LL.lawful P.the-type P′.the-laws 𝓤 H A W .typed r _ is .0)) $
         -- the machine value of the place is known by its fields
         rewrite ! 11 (λ (x : Val). ‵ (fat fullShare P′.mir l₃ 0 x)) (ap (λ (l : List Val). headOf l u) (P′.lowers .val-is r (u ∷ []) is)) refl $
         -- the struct is made: _7 = _1.file, _0 = Reader { _7, _3.block, _3.record }
-        assigns ! (of-opd ! (load ! (from ! (fld ! refl (stop !))) (look-in ! 15 (sub ! 0 refl (whole !))))) (from ! (stop !)) (init ! 3 refl (tt, wt .1 .0)) $
-        assigns ! (agg ! (and-then ! (load ! (from ! (stop !)) (look ! 3 refl))
-        (and-then ! (load ! (from ! (fld ! refl (stop !))) (look-in ! 11 (sub ! 0 refl (whole !))))
-        (and-then ! (load ! (from ! (fld ! refl (stop !))) (look-in ! 11 (sub ! 1 refl (whole !)))) (no-more !))))) (from ! (stop !))
+        assigns ! (of-opd ! (held-in ! refl (look-in ! 15 (sub ! 0 refl (whole !))))) (local !) (init ! 3 refl (tt, wt .1 .0)) $
+        assigns ! (agg ! (and-then ! (held ! (look ! 3 refl)) (and-then ! (held-in ! refl (look-in ! 11 (sub ! 0 refl (whole !))))
+        (and-then ! (held-in ! refl (look-in ! 11 (sub ! 1 refl (whole !)))) (no-more !))))) (local !)
         (init ! 17 refl (made-typed wt r (fits .0 .1) (fits .1 .0 .1))) $
         -- the result is read, and the locals are freed, _0 first
         returns ! (look ! 17 refl) $
