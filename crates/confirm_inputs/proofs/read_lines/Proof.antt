@@ -14,11 +14,11 @@ Inv-loop file text long list₀ s₀ from₀ count₀ number₀ list s from coun
 abbrev μ-loop : tie.MeasureT-loop
 μ-loop file text long list₀ s₀ from₀ count₀ number₀ list s from count number = length text - from
 
-nothing-read-requires : tie.Need-nothing-read-requires Inv-loop μ-loop
-nothing-read-requires c κs = tt
+no-listing-requires : tie.Need-no-listing-requires Inv-loop μ-loop
+no-listing-requires c κs = tt
 
 loop-holds : tie.Need-loop-holds Inv-loop μ-loop
-loop-holds c = begins _ _ _ _ _ (c .nothing-read .ensures)
+loop-holds c = begins _ _ _ _ _ (c .no-listing .ensures)
 
 add-cut : tie.Need-add-cut Inv-loop μ-loop
 add-cut c =
@@ -125,6 +125,6 @@ returns-3 c =
 
 pub read-lines-spec : {M : Type 1} → statement M
 read-lines-spec =
-    tie.close (tie.spec Inv-loop μ-loop nothing-read-requires loop-holds (λ c κs. tt) add-cut add-number sub-read-listing-line part-read-listing-line-start
+    tie.close (tie.spec Inv-loop μ-loop no-listing-requires loop-holds (λ c κs. tt) add-cut add-number sub-read-listing-line part-read-listing-line-start
     part-read-listing-line-end read-listing-line-requires bad-input-line-requires same-length returns refused-line-requires same-length-2 returns-2
     put-entry-requires add-from loop-less loop-again end-line-requires same-length-3 returns-3)
