@@ -21,7 +21,7 @@ use Rattle.calendar.specs.Trading.{validCover, coverStart, coverEnd, inCover, s
 use Rattle.calendar.proofs.Covered.{years, cover-facts}
 use Rattle.calendar_words.specs.DayWords.{dayBit, Shows, Weekends, noSeven}
 use Rattle.calendar_words.proofs.DayWords.{or-day, shr-day, wider-day}
-use Rattle.calendar_words.proofs.Equations.{never-seven, Moved}
+use Rattle.calendar_words.proofs.Equations.{never-seven, WordMoved}
 
 -- the last m days of a window, those before day e: a day of the cover has the bit of its slot
 abbrev pub Ends : Calendar → ℕ → ℕ → ℕ → Type 0
@@ -77,7 +77,7 @@ module _ (cal : Calendar) where
         go (inr k) = u s g k
 
   -- the window moved on by w days
-  pub moves : (e m w x next r : ℕ) → m + w ≤ 64 → Ends cal e m x → Moved x next w r
+  pub moves : (e m w x next r : ℕ) → m + w ≤ 64 → Ends cal e m x → WordMoved x next w r
       → ((q : ℕ) → q < w → inCover (cal .cover) (e + q) ≡ true → dayBit w next q ≡ bitAt (cal .closed) (slotOf (cal .cover) (e + q)))
       → Ends cal (e + w) (m + w) r
   moves e m w x next r l f v n d a b i = go (lt-or-ge d e)
@@ -212,7 +212,7 @@ module _ (cal : Calendar) (k : ℕ) (v : validCover (cal .cover) ≡ true) (h : 
   start = yearStart (cal .cover .«first_year» + k)
 
   -- eight weeks on
-  pub next-weeks : (j x next r idle : ℕ) → j < 6 → Next cal k j x → Shows (cal .closed) (368 * k + 56 * j) 56 next → Moved x next 56 r
+  pub next-weeks : (j x next r idle : ℕ) → j < 6 → Next cal k j x → Shows (cal .closed) (368 * k + 56 * j) 56 next → WordMoved x next 56 r
       → Weekends (start + 6) idle → noSeven (bitOr r idle) ≡ true → Next cal k (j + 1) r
   next-weeks j x next r idle l w s m i free =
       let t = year-in-cover (cal .cover) k v h in
@@ -231,7 +231,7 @@ module _ (cal : Calendar) (k : ℕ) (v : validCover (cal .cover) ≡ true) (h : 
 
   -- the window moved on to the year's end
   pub next-year : (w x next r idle : ℕ) → yearStart (cal .cover .«first_year» + k + 1) ≡ start + 336 + w → w ≤ 30 → Ends cal (start + 336) 8 x
-      → Shows (cal .closed) (368 * k + 336) w next → Moved x next w r → Weekends (yearStart (cal .cover .«first_year» + k + 1) + 6) idle
+      → Shows (cal .closed) (368 * k + 336) w next → WordMoved x next w r → Weekends (yearStart (cal .cover .«first_year» + k + 1) + 6) idle
       → noSeven (bitOr r idle) ≡ true → TradesUntil cal (start + 336) → TradesUntil cal (yearStart (cal .cover .«first_year» + k + 1))
   next-year w x next r idle e l f s m i free u =
       let t = year-in-cover (cal .cover) k v h in
