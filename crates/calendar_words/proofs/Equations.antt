@@ -217,7 +217,7 @@ seven-is x l = same-test (eqb left 0) (not (some 58 (sevenFrom x))) (λ z. ap no
         zero-of (inr p) q = absurd (q p)
 
 -- the same of a word r, day by day
-pub record Moved (x next w r : ℕ) : Type 0 where
+pub record WordMoved (x next w r : ℕ) : Type 0 where
   -- the first 64 − w days of r are the days of x from day w on
   pub kept : (p : ℕ) → p < 64 - w → dayBit 64 r p ≡ dayBit 64 x (w + p)
   -- the last w days of r are the days of `next`
@@ -263,7 +263,7 @@ module _ (x next w : ℕ) where
             ap (λ (n : ℕ). dayBit 64 (bitOr (x * 2 ^ w % 2 ^ 64) next) n) e ∙ moved-new x next w b l (p - (64 - w)) (omega arith) ∙ rw (le-ltb p (64 - w) k)
 
     -- a number equal to the moved word has its days, day by day
-    pub moved : (r : ℕ) → r ≡ movedOn x next w → Moved x next w r
+    pub moved : (r : ℕ) → r ≡ movedOn x next w → WordMoved x next w r
     moved r e =
         let q : r ≡ bitOr (x * 2 ^ w % 2 ^ 64) next = e ∙ sym moved-is in
         record {

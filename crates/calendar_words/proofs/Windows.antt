@@ -23,7 +23,7 @@ use Rattle.calendar.specs.Trading.{validCover, coverStart, coverEnd, inCover, s
 use Rattle.calendar.proofs.Covered.{years, cover-facts}
 use Rattle.calendar_words.specs.DayWords.{dayBit, Shows, Weekends, noSeven}
 use Rattle.calendar_words.proofs.DayWords.{or-day, shr-day, wider-day}
-use Rattle.calendar_words.proofs.Equations.{never-seven, Moved}
+use Rattle.calendar_words.proofs.Equations.{never-seven, WordMoved}
 
 -- ---- what a window shows, and what is shown by it
 -- the bit of a day in the first map
@@ -88,7 +88,7 @@ module _ (cal : Calendar) (e m x idle : ℕ) (l : m ≤ 64) (w : Ends cal e m x)
       go (inr k) = u s g k
 
 -- ---- a window that moves on by w days, those of the next word
-moves : (cal : Calendar) (e m w x next r : ℕ) → m + w ≤ 64 → Ends cal e m x → Moved x next w r
+moves : (cal : Calendar) (e m w x next r : ℕ) → m + w ≤ 64 → Ends cal e m x → WordMoved x next w r
     → ((q : ℕ) → q < w → inCover (cal .cover) (e + q) ≡ true → dayBit w next q ≡ closedBit cal (e + q)) → Ends cal (e + w) (m + w) r
 moves cal e m w x next r l f v n d a b i = go (lt-or-ge d e)
   where
@@ -220,7 +220,7 @@ module _ (cal : Calendar) (k : ℕ) (v : validCover (cal .cover) ≡ true) (h : 
   end = yearEnd (cal .cover) k
 
   -- eight weeks on
-  pub next-weeks : (j x next r idle : ℕ) → j < 6 → Next cal k j x → Shows (cal .closed) (368 * k + 56 * j) 56 next → Moved x next 56 r
+  pub next-weeks : (j x next r idle : ℕ) → j < 6 → Next cal k j x → Shows (cal .closed) (368 * k + 56 * j) 56 next → WordMoved x next 56 r
       → Weekends (start + 6) idle → noSeven (bitOr r idle) ≡ true → Next cal k (j + 1) r
   next-weeks j x next r idle l w s m i free =
       let t = year-in-cover (cal .cover) k v h in
@@ -236,7 +236,7 @@ module _ (cal : Calendar) (k : ℕ) (v : validCover (cal .cover) ≡ true) (h : 
 
   -- the window moved on to the year's end
   pub next-year : (w x next r idle : ℕ) → end ≡ start + 336 + w → w ≤ 30 → Ends cal (start + 336) 8 x → Shows (cal .closed) (368 * k + 336) w next
-      → Moved x next w r → Weekends (end + 6) idle → noSeven (bitOr r idle) ≡ true → TradesUntil cal (start + 336) → TradesUntil cal end
+      → WordMoved x next w r → Weekends (end + 6) idle → noSeven (bitOr r idle) ≡ true → TradesUntil cal (start + 336) → TradesUntil cal end
   next-year w x next r idle e l f s m i free u =
       let t = year-in-cover (cal .cover) k v h in
       let a : Ends cal end (8 + w) r =

@@ -11,7 +11,7 @@ use lib.ListN.{length, take, drop}
 use Rattle.session_lines.specs.CommandLines.{linesFrom}
 use Rattle.session_lines.specs.BytePlaces.{ByteFrom}
 use Rattle.confirm_lines.specs.declared.ListingSoFar.{ListingSoFar}
-use Rattle.confirm_lines.specs.ListingLines.{nothingRead, readListingLine}
+use Rattle.confirm_lines.specs.ListingLines.{noListing, readListingLine}
 use Rattle.delivery_notices.proofs.NoticeEnds.{lines-none, line-more, line-length, is-last}
 use Rattle.confirm_inputs.specs.ConfirmInputs.{badInputText, refusedText, endText, entryNumbers, afterLine, inputLinesText}
 use Rattle.confirm_inputs.specs.InputReading.{EntryPut}
@@ -21,7 +21,7 @@ use Rattle.confirm_inputs.proofs.EntryLines.{entry-long, some-byte, num
 -- after some lines of a text: it goes on at `from`, `number` lines are behind, and the first `count` numbers of the list are the listing's
 pub record Going (long : Bool) (file text first list : List ℕ) (s : ListingSoFar) (from count number : ℕ) : Type 0 where
   -- the text for the lines left, from here, is the text for the whole input
-  pub rest : inputLinesText long file number s (take count list) (linesFrom [] (drop from text)) ≡ inputLinesText long file 0 nothingRead [] (linesFrom [] text)
+  pub rest : inputLinesText long file number s (take count list) (linesFrom [] (drop from text)) ≡ inputLinesText long file 0 noListing [] (linesFrom [] text)
   -- the list keeps its length
   pub long-list : length list ≡ length first
   -- the place is at most one past the end of the text
@@ -32,7 +32,7 @@ pub record Going (long : Bool) (file text first list : List ℕ) (s : ListingSoF
   pub lines : 2 * number ≤ from
 
 -- the state before the first line
-pub begins : (long : Bool) (file text list : List ℕ) (s : ListingSoFar) → s ≡ nothingRead → Going long file text list list s 0 0 0
+pub begins : (long : Bool) (file text list : List ℕ) (s : ListingSoFar) → s ≡ noListing → Going long file text list list s 0 0 0
 begins long file text list s e = record { rest = rw e refl; long-list = refl; within = omega arith; few = omega arith; lines = omega arith }
 
 module _ (long : Bool) (file text first list : List ℕ) (s : ListingSoFar) (from count number : ℕ)
@@ -42,7 +42,7 @@ module _ (long : Bool) (file text first list : List ℕ) (s : ListingSoFar) (fro
   room h l r = omega (arith, g .few, g .long-list)
 
   -- all lines are read
-  pub all-read : length text ≤ from → endText s (take count list) ≡ inputLinesText long file 0 nothingRead [] (linesFrom [] text)
+  pub all-read : length text ≤ from → endText s (take count list) ≡ inputLinesText long file 0 noListing [] (linesFrom [] text)
   unfolding inputLinesText
   all-read h = sym (rw (lines-none from text h) refl) ∙ g .rest
 
@@ -61,12 +61,12 @@ module _ (long : Bool) (file text first list : List ℕ) (s : ListingSoFar) (fro
         rw (line-more text from end h e, add-one number, q, c, is-last text (end + 1)) refl
 
     -- a line that is bad or cut off ends the reading with the text of a bad line and its number
-    pub ends-bad : (r .bad || cut) ≡ true → badInputText (number + 1) ≡ inputLinesText long file 0 nothingRead [] (linesFrom [] text)
+    pub ends-bad : (r .bad || cut) ≡ true → badInputText (number + 1) ≡ inputLinesText long file 0 noListing [] (linesFrom [] text)
     ends-bad b = sym (one-line ∙ after-bad r cut (number + 1) onward b) ∙ g .rest
 
     module _ (good : (r .bad || cut) ≡ false) where
       -- a refused call ends the reading with the text of its refusal
-      pub ends-refused : (r .refusal ≡ 0 → ⊥) → refusedText (r .refusal) ≡ inputLinesText long file 0 nothingRead [] (linesFrom [] text)
+      pub ends-refused : (r .refusal ≡ 0 → ⊥) → refusedText (r .refusal) ≡ inputLinesText long file 0 noListing [] (linesFrom [] text)
       ends-refused n = sym (one-line ∙ after-refused r cut (number + 1) onward good n) ∙ g .rest
 
       not-bad : (b : Bool) → (b || cut) ≡ false → b ≡ false

@@ -18,7 +18,7 @@ use Rattle.file_text_print.specs.Contents.{LineWith}
 use Rattle.file_text_print.proofs.TextLengths.{decimal-short, day-long}
 use Rattle.table_vendor.specs.Vendor.{Judgement, vendorCall}
 use Rattle.confirm_lines.specs.declared.ListingSoFar.{ListingSoFar}
-use Rattle.confirm_lines.specs.ListingLines.{nothingRead, readListingLine}
+use Rattle.confirm_lines.specs.ListingLines.{noListing, readListingLine}
 use Rattle.confirm_inputs.specs.ConfirmInputs.{yesText, differsText, refusedText, badInputText, judgedText, endText, entryNumbers, afterLine}
 use Rattle.confirm_inputs.specs.ConfirmInputs.{inputLinesText, confirmText}
 use Rattle.confirm_inputs.specs.InputReading.{saidIn}
@@ -86,7 +86,7 @@ lines-short long file n s list (line ∷ lines) =
 -- the verdict is shorter than 64 bytes
 pub confirm-short : (file input : List ℕ) → length (confirmText file input) < 64
 unfolding confirmText
-confirm-short file input = lines-short (ltb 65536 (length input)) file 0 nothingRead [] (linesFrom [] (take 65537 input))
+confirm-short file input = lines-short (ltb 65536 (length input)) file 0 noListing [] (linesFrom [] (take 65537 input))
 
 -- a line with what is said, with room for the listing
 module _ (file input : List ℕ) (places : ℕ) (h : 6900 ≤ places) (l : Line) (made : LineWith emptyLine (saidIn places file input) l) where

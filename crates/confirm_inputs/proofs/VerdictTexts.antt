@@ -16,7 +16,7 @@ use Rattle.session_lines.specs.declared.Line.{Line}
 use Rattle.session_lines.specs.CommandLines.{emptyLine, fed, linesFrom}
 use Rattle.table_vendor.specs.Vendor.{Judgement, vendorCall}
 use Rattle.confirm_lines.specs.declared.ListingSoFar.{ListingSoFar}
-use Rattle.confirm_lines.specs.ListingLines.{nothingRead}
+use Rattle.confirm_lines.specs.ListingLines.{noListing}
 use Rattle.file_text_print.specs.Contents.{LineWith}
 use Rattle.delivery_notices.specs.NoticeReading.{readLength}
 use Rattle.delivery_notices.proofs.NoticesSoFar.{read-all, read-most, read-within}
@@ -91,6 +91,6 @@ module _ (input : List ℕ) (n : ℕ) (e : n ≡ readLength (length input)) wher
 
   -- with 6900 places or more, what is said is the text for the lines of the part that is read
   pub said-part : (places : ℕ) (file : List ℕ) → 6900 ≤ places
-      → inputLinesText (ltb 65536 (length input)) file 0 nothingRead [] (linesFrom [] (take n input)) ≡ saidIn places file input
+      → inputLinesText (ltb 65536 (length input)) file 0 noListing [] (linesFrom [] (take n input)) ≡ saidIn places file input
   unfolding confirmText
   said-part places file h = rw read-part (said-all places file input h)

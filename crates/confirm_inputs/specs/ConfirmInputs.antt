@@ -13,7 +13,7 @@ use Rattle.session_lines.specs.CommandLines.{linesFrom}
 use Rattle.table_vendor.specs.Vendor.{Judgement, vendorCall}
 use Rattle.confirm_lines.specs.declared.EntryRead.{EntryRead}
 use Rattle.confirm_lines.specs.declared.ListingSoFar.{ListingSoFar}
-use Rattle.confirm_lines.specs.ListingLines.{nothingRead, readListingLine}
+use Rattle.confirm_lines.specs.ListingLines.{noListing, readListingLine}
 
 -- 'YES', and a line feed, 10
 abbrev pub yesText : List ℕ
@@ -62,7 +62,7 @@ inputLinesText long file n s list (line ∷ lines) =
 -- 'at most 65,536 bytes in all; a line that does not end within them is bad':
 -- of a longer one, that is the line that holds byte 65,537, the last of the lines of the first 65,537 bytes
 unfoldable pub confirmText : List ℕ → List ℕ → List ℕ
-confirmText file input = inputLinesText (ltb 65536 (length input)) file 0 nothingRead [] (linesFrom [] (take 65537 input))
+confirmText file input = inputLinesText (ltb 65536 (length input)) file 0 noListing [] (linesFrom [] (take 65537 input))
 
 -- a text is 'YES' and its line feed
 unfoldable pub isYes : List ℕ → Bool

@@ -10,7 +10,7 @@ ghost use Prim.Native.Nat.{_+_, _≤_};
 ghost use lib.ListN.{length, take};
 ghost use Rattle.session_lines.specs.CommandLines.{emptyLine, linesFrom};
 ghost use Rattle.table_vendor.specs.Vendor.{verdictAnswer};
-ghost use Rattle.confirm_lines.specs.ListingLines.{nothingRead};
+ghost use Rattle.confirm_lines.specs.ListingLines.{noListing};
 ghost use Rattle.file_text_print.specs.Contents.{LineWith};
 ghost use Rattle.confirm_inputs.specs.ConfirmInputs.{yesText, differsText, refusedText, badInputText, judgedText, endText, inputLinesText, isYes};
 ghost use Rattle.confirm_inputs.specs.InputReading.{saidIn, EntryPut};
@@ -87,9 +87,9 @@ fn put_entry(list: &mut [u16], at: usize, entry: EntryRead) -> usize
 // All lines of a text, up to the first that is bad or refused; where it is too long, its last line is bad.
 fn read_lines(file: &[u8], text: &[u8], long: bool, list: &mut [u16]) -> Line
     requires { ⌜ (length (now text) ≤ 65537) × (6900 ≤ length (now list)) ⌝ }
-    ensures { λ r. ⌜ LineWith emptyLine (inputLinesText long (now (file .entry)) 0 nothingRead [] (linesFrom [] (now (text .entry)))) r ⌝ }
+    ensures { λ r. ⌜ LineWith emptyLine (inputLinesText long (now (file .entry)) 0 noListing [] (linesFrom [] (now (text .entry)))) r ⌝ }
 {
-    let mut s = confirm_lines::nothing_read();
+    let mut s = confirm_lines::no_listing();
     let mut from: usize = 0;
     let mut count: usize = 0;
     let mut number: u16 = 0;

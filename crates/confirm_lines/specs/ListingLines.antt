@@ -58,8 +58,8 @@ unfoldable pub entryIn : Kind → List ℕ → EntryRead
 entryIn kind line = cond (isWeekly kind) (fridayEntry line) (monthEntry line)
 
 -- before the first line of an input
-unfoldable pub nothingRead : ListingSoFar
-nothingRead = record { bad = false; refusal = 0; opened = false; begun = false; table = zeroTable; entry = noEntry }
+unfoldable pub noListing : ListingSoFar
+noListing = record { bad = false; refusal = 0; opened = false; begun = false; table = zeroTable; entry = noEntry }
 
 -- after a call, with its refusal, 0 where it is accepted
 unfoldable pub afterCall : Outcome → ListingSoFar

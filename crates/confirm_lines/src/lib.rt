@@ -7,7 +7,7 @@ use table::Table;
 ghost use mathlib.Core.Path.{_≡_};
 ghost use Rattle.session_lines.specs.CommandLines.{commandOf};
 ghost use Rattle.session_text.specs.TermsText.{lastDigit, monthText, dayText};
-ghost use Rattle.confirm_lines.specs.ListingLines.{rollBegun, dateIn, monthIn, noEntry, entryFrom, monthEntry, fridayEntry, entryIn, nothingRead, afterCall, afterEntry, readFirst, readListingLine};
+ghost use Rattle.confirm_lines.specs.ListingLines.{rollBegun, dateIn, monthIn, noEntry, entryFrom, monthEntry, fridayEntry, entryIn, noListing, afterCall, afterEntry, readFirst, readListingLine};
 
 // Whether a line is one of a listing, the key in it and the last trading day.
 pub struct EntryRead {
@@ -173,8 +173,8 @@ pub struct ListingSoFar {
 }
 
 // Before the first line.
-pub fn nothing_read() -> ListingSoFar
-    ensures { λ r. ⌜ r ≡ nothingRead ⌝ }
+pub fn no_listing() -> ListingSoFar
+    ensures { λ r. ⌜ r ≡ noListing ⌝ }
 {
     let table = table::zero_table();
     ListingSoFar {

@@ -1,7 +1,6 @@
 // The products of a master file, place by place.
 use product::Product;
 ghost use mathlib.Core.Path.{_≡_};
-ghost use Rattle.file_load.specs.Products.{sameId};
 ghost use Rattle.delivery_products.specs.IdList.{idIn};
 ghost use Rattle.delivery_products.specs.ProductsByPlace.{noProduct, placeCall, placeAnswer};
 
@@ -52,11 +51,4 @@ pub fn id_in(ids: &[u8], i: u32) -> file_records::FourBytes
         file_blocks::byte_at(ids, at + 2),
         file_blocks::byte_at(ids, at + 3),
     ]
-}
-
-// Whether two ids are the same.
-pub fn same_id(a: [u8; 4], b: [u8; 4]) -> bool
-    ensures { λ r. ⌜ r ≡ sameId a b ⌝ }
-{
-    (a[0] == b[0]) & (a[1] == b[1]) & (a[2] == b[2]) & (a[3] == b[3])
 }

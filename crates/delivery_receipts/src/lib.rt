@@ -224,7 +224,7 @@ pub fn places_of(id: [u8; 4], ids: &[u8], n: u32, places: &mut [u16]) -> usize
     let mut size: usize = 0;
     let mut i: u32 = 0;
     while i < n {
-        let own = delivery_products::same_id(delivery_products::id_in(ids, i), id);
+        let own = file_load::same_id(delivery_products::id_in(ids, i), id);
         size = put_place(places, size, i, own);
         i += 1;
     }
@@ -238,7 +238,7 @@ fn stands_first(ids: &[u8], i: u32) -> bool
     let id = delivery_products::id_in(ids, i);
     let mut j: u32 = 0;
     while j < i {
-        if delivery_products::same_id(delivery_products::id_in(ids, j), id) {
+        if file_load::same_id(delivery_products::id_in(ids, j), id) {
             return false;
         }
         j += 1;

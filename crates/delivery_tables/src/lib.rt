@@ -42,7 +42,7 @@ fn concerns(kind: u32, of: [u8; 4], id: [u8; 4]) -> bool
     if kind != 3 {
         return true;
     }
-    delivery_products::same_id(of, id)
+    file_load::same_id(of, id)
 }
 
 // Call i of a list, on a table apart from its maps, where the answer to question 10 is at hand.

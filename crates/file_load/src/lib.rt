@@ -138,7 +138,8 @@ pub fn product_at(file: &[u8], n: usize, k: usize) -> Product
     product_from(file_records::record_at(file, n, k))
 }
 
-fn same_id(a: [u8; 4], b: [u8; 4]) -> bool
+// Whether two ids are the same.
+pub fn same_id(a: [u8; 4], b: [u8; 4]) -> bool
     ensures { λ r. ⌜ r ≡ sameId a b ⌝ }
 {
     (a[0] == b[0]) & (a[1] == b[1]) & (a[2] == b[2]) & (a[3] == b[3])

@@ -26,7 +26,7 @@ use Rattle.history.specs.Book.{Call, roll, close, reopen, measure, Book,
 use Rattle.history.specs.Book.{bookAccepted, bookAfter, bookRun}
 use Rattle.history.proofs.ListingNumbers.{one-append, listed-one}
 use Rattle.history.proofs.Gone.{once, once-append, once-months}
-use Rattle.history.proofs.Moves.{fresh, Numbered, numbersNext, numbersFirst, Moved, moves, first-length, first-numbered}
+use Rattle.history.proofs.Moves.{fresh, Numbered, numbersNext, numbersFirst, ListingReplaced, moves, first-length, first-numbered}
 use Rattle.history.proofs.Soundness.{Opened}
 use Rattle.history.proofs.AcceptedCalls.{Accepted, rule-stays, after-opened, size-opened, forward}
 
@@ -106,7 +106,7 @@ module _ (p : Product) where
       abbrev left : List Maturity
       left = missing (b .maturities) (fresh (ruleIn p b) cal date)
 
-      moved-on : Moved (ruleIn p b) (b .calendar) (b .date) (b .maturities) (b .given) nu cal date
+      moved-on : ListingReplaced (ruleIn p b) (b .calendar) (b .date) (b .maturities) (b .given) nu cal date
       moved-on = moves (ruleIn p b) (lawful b) (b .calendar) (b .date) (b .maturities) (b .given) nu (I .numbered) cal date later
 
       -- 'Numbers given = months listed + months that left'

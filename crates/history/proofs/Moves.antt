@@ -57,7 +57,7 @@ pub record Numbered (r : Rule) (cal : Calendar) (date : ℕ) (ms : List Maturity
 
 -- what holds once the listing of another calendar and date replaces it: it is numbered again, numbers once given stay, entered + old = left + new,
 -- its months are the fresh ones, and those that left lie from the old front on, before the new
-pub record Moved (r : Rule) (cal : Calendar) (date : ℕ) (ms : List Maturity) (given : ℕ) (nu : ℕ → ℕ) (cal′ : Calendar) (date′ : ℕ) : Type 0 where
+pub record ListingReplaced (r : Rule) (cal : Calendar) (date : ℕ) (ms : List Maturity) (given : ℕ) (nu : ℕ → ℕ) (cal′ : Calendar) (date′ : ℕ) : Type 0 where
   -- the listing that replaces the old one is numbered
   pub numbered : Numbered r cal′ date′ (renumbered ms given (fresh r cal′ date′)) (given + length (missing (fresh r cal′ date′) ms))
       (numbersNext r cal date given nu cal′ date′)
@@ -249,7 +249,7 @@ module _ (r : Rule) (w : Lawful r) where
       }
 
       -- a numbered listing, replaced by that of a calendar and date whose front is not before the old one, is numbered again
-      pub moves : Moved r cal date ms given nu cal′ date′
+      pub moves : ListingReplaced r cal date ms given nu cal′ date′
       moves = record { numbered = moved-numbered; grows = moved-keeps; balance = balance; listed = listed-then; left = left-law; between = left-between }
 
   -- the first listing

@@ -36,7 +36,7 @@ use Rattle.table.specs.declared.Table.{Table}
 use Rattle.table.specs.declared.Outcome.{Outcome}
 use Rattle.table.specs.Table.{listedIn, sound, moved, refusedWith, answered, closeAsks, closeCall, ruleIn, coveredIn}
 use Rattle.table.proofs.TableQuestions.{close-16}
-use Rattle.history.proofs.Moves.{fresh, now, numbersNext, Numbered, Moved, present-is, moves}
+use Rattle.history.proofs.Moves.{fresh, now, numbersNext, Numbered, ListingReplaced, present-is, moves}
 use Rattle.history.proofs.Soundness.{Opened, tableOf, holds}
 use Rattle.history.proofs.SoundTables.{sound-numbered, sound-opened, last-right, key-right, number-right, key-listed, close-sound}
 use Rattle.history_reach.specs.Reach.{Closes, maturityAt, UsedPlace, anchorIn, lastDayIn, Reached, Exchanged, Spaced}
@@ -171,7 +171,7 @@ module _ (t : Table) (e : sound t ≡ true) where
     moved-as = rw same-rule
 
     module _ (a : front r cal date ≤ front r cal′ date) where
-      replaced : Moved r cal date (listedIn t) (t .given) (numberOf (listedIn t)) cal′ date
+      replaced : ListingReplaced r cal date (listedIn t) (t .given) (numberOf (listedIn t)) cal′ date
       replaced = moves r w cal date (listedIn t) (t .given) (numberOf (listedIn t)) I cal′ date a
 
       -- it holds them

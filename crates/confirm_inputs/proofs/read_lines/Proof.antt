@@ -15,7 +15,7 @@ abbrev μ-loop : tie.MeasureT-loop
 μ-loop file text long list₀ s₀ from₀ count₀ number₀ list s from count number = length text - from
 
 loop-holds : tie.Need-loop-holds Inv-loop μ-loop
-loop-holds c = begins _ _ _ _ _ (c .nothing-read .ensures)
+loop-holds c = begins _ _ _ _ _ (c .no-listing .ensures)
 
 add-cut : tie.Need-add-cut Inv-loop μ-loop
 add-cut c =
