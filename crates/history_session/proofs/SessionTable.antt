@@ -1,7 +1,7 @@
 -- What is kept after a session is the table of demand 3.
 -- Assumes nothing.
 use Prim.Native.Nat.{ℕ, _+_, _-_}
-use mathlib.Core.Path.{_≡_, refl, sym, ap, _∙_}
+use mathlib.Core.Path.{_≡_, refl, sym, ap, _∙_, subst}
 use mathlib.Core.Bool.{Bool, true, false, cond, not, _&&_, _||_}
 use mathlib.Core.List.{List, [], _∷_, _++_}
 use mathlib.Core.Logic.{_⊎_, inl, inr}
@@ -25,8 +25,15 @@ use Rattle.history.specs.History.{tableCall, tableRun, FromFile}
 use Rattle.history.proofs.FromFile.{from-file}
 use Rattle.history_session.specs.SessionCalls.{isOpening, noOpening, isMove, moveOf, movesOf, KeptHistory}
 
-abbrev withTable : Table → Kept
-withTable t = record { opened = true; table = t }
+abbrev withTable : Bool → Table → Kept
+withTable b t = record { opened = true; table = t; refused = b }
+
+-- a table is kept; what was refused before plays no part
+abbrev Keeps : Kept → Table → Type 0
+Keeps h t = (h .opened ≡ true) × (h .table ≡ t)
+
+kept-as : (a : Bool) (t t′ : Table) (b : Bool) → a ≡ true → t ≡ t′ → record { opened = a; table = t; refused = b } ≡ withTable b t′
+kept-as a t t′ b e d = rw (e, d) refl
 
 -- ---- the letters of a line's command
 
@@ -84,38 +91,38 @@ refused-keeps t asks o z = go (eqb (firstNo asks) 0)
     go false n = refl
 
 -- so a call's table is kept, accepted or refused
-call-kept : (t : Table) (o : Outcome) → ((o .refusal ≡ 0 → ⊥) → o .table ≡ t)
-    → cond (eqb (o .refusal) 0) (withTable (o .table)) (withTable t) ≡ withTable (o .table)
-call-kept t o k = go (eqb (o .refusal) 0) refl
+call-kept : (r : Bool) (t : Table) (o : Outcome) → ((o .refusal ≡ 0 → ⊥) → o .table ≡ t)
+    → Keeps (cond (eqb (o .refusal) 0) (withTable r (o .table)) (withTable true t)) (o .table)
+call-kept r t o k = go (eqb (o .refusal) 0) refl
   where
-    go : (b : Bool) → eqb (o .refusal) 0 ≡ b → cond b (withTable (o .table)) (withTable t) ≡ withTable (o .table)
-    go true e = refl
-    go false e = ap withTable (sym (k (eqb-false (o .refusal) 0 e)))
+    go : (b : Bool) → eqb (o .refusal) 0 ≡ b → Keeps (cond b (withTable r (o .table)) (withTable true t)) (o .table)
+    go true e = (refl, refl)
+    go false e = (refl, sym (k (eqb-false (o .refusal) 0 e)))
 
 -- the table after a line that is no accepted O
 abbrev next : Table → Command → Table
 next t c = cond (isMove c) (tableCall t (moveOf c) .table) t
 
-module _ (file : List ℕ) (t : Table) (c : Command) where
-  after-other : c .letter ≡ 0 → keptAfter (openCall file) (withTable t) c ≡ withTable (next t c)
+module _ (file : List ℕ) (b : Bool) (t : Table) (c : Command) where
+  after-other : c .letter ≡ 0 → Keeps (keptAfter (openCall file) (withTable b t) c) (next t c)
   unfolding keptAfter isMove
-  after-other e = rw e refl
+  after-other e = rw e (refl, refl)
 
-  after-refused : c .letter ≡ 79 → isOpening file c ≡ false → keptAfter (openCall file) (withTable t) c ≡ withTable (next t c)
+  after-refused : c .letter ≡ 79 → isOpening file c ≡ false → Keeps (keptAfter (openCall file) (withTable b t) c) (next t c)
   unfolding keptAfter outcomeOf isMove isOpening
   after-refused e n =
       let r : eqb (openCall file (c .id) (c .day) .refusal) 0 ≡ false = rw e at n in
-      rw (e, r) refl
+      rw (e, r) (refl, refl)
 
-  after-roll : c .letter ≡ 82 → keptAfter (openCall file) (withTable t) c ≡ withTable (next t c)
+  after-roll : c .letter ≡ 82 → Keeps (keptAfter (openCall file) (withTable b t) c) (next t c)
   unfolding keptAfter outcomeOf isMove moveOf rollCall moved
-  after-roll e = rw e (call-kept t (rollCall t (c .day)) (refused-keeps t (rollAsks t (c .day)) (moved t (t .calendar) (c .day)) refl))
+  after-roll e = rw e (call-kept b t (rollCall t (c .day)) (refused-keeps t (rollAsks t (c .day)) (moved t (t .calendar) (c .day)) refl))
 
-  after-close : c .letter ≡ 67 → keptAfter (openCall file) (withTable t) c ≡ withTable (next t c)
+  after-close : c .letter ≡ 67 → Keeps (keptAfter (openCall file) (withTable b t) c) (next t c)
   unfolding keptAfter outcomeOf isMove moveOf closeCall moved
-  after-close e = rw e (call-kept t (closeCall t (c .day)) (refused-keeps t (closeAsks t (c .day)) (moved t (closeDay (t .calendar) (c .day)) (t .date)) refl))
+  after-close e = rw e (call-kept b t (closeCall t (c .day)) (refused-keeps t (closeAsks t (c .day)) (moved t (closeDay (t .calendar) (c .day)) (t .date)) refl))
 
-  after-line : Letter (c .letter) → isOpening file c ≡ false → keptAfter (openCall file) (withTable t) c ≡ withTable (next t c)
+  after-line : Letter (c .letter) → isOpening file c ≡ false → Keeps (keptAfter (openCall file) (withTable b t) c) (next t c)
   after-line (none e) n = after-other e
   after-line (O e) n = after-refused e n
   after-line (R e) n = after-roll e
@@ -124,12 +131,12 @@ module _ (file : List ℕ) (t : Table) (c : Command) where
 -- an accepted O, whatever was kept before
 module _ (file : List ℕ) (h : Kept) (c : Command) where
   after-accepted : c .letter ≡ 79 → eqb (openCall file (c .id) (c .day) .refusal) 0 ≡ true
-      → keptAfter (openCall file) h c ≡ withTable (openCall file (c .id) (c .day) .table)
+      → Keeps (keptAfter (openCall file) h c) (openCall file (c .id) (c .day) .table)
   unfolding keptAfter outcomeOf
-  after-accepted e r = rw (e, r) refl
+  after-accepted e r = rw (e, r) (refl, refl)
 
   after-opening : isOpening file c ≡ true
-      → (openCall file (c .id) (c .day) .refusal ≡ 0) × (keptAfter (openCall file) h c ≡ withTable (openCall file (c .id) (c .day) .table))
+      → (openCall file (c .id) (c .day) .refusal ≡ 0) × Keeps (keptAfter (openCall file) h c) (openCall file (c .id) (c .day) .table)
   unfolding isOpening
   after-opening m =
       let b : (eqb (c .letter) 79 ≡ true) × (eqb (openCall file (c .id) (c .day) .refusal) 0 ≡ true) =
@@ -145,23 +152,28 @@ run-next t true m ms = refl
 run-next t false m ms = refl
 
 -- lines with no accepted O among them, on a table
-after-lines : (file : List ℕ) (t : Table) (lines : List (List ℕ)) → noOpening file lines ≡ true
-    → keptRun (openCall file) (withTable t) lines ≡ withTable (tableRun t (movesOf lines))
+after-lines : (file : List ℕ) (h : Kept) (t : Table) (lines : List (List ℕ)) → Keeps h t → noOpening file lines ≡ true
+    → Keeps (keptRun (openCall file) h lines) (tableRun t (movesOf lines))
 unfolding keptRun noOpening movesOf tableRun
-after-lines file t [] m = refl
-after-lines file t (line ∷ lines) m = go (both (not (isOpening file c)) (noOpening file lines) m) (after-lines file (next t c) lines)
+after-lines file h t [] k m = k
+after-lines file h t (line ∷ lines) k m =
+    go (both (not (isOpening file c)) (noOpening file lines) m) (after-lines file (keptAfter (openCall file) h c) (next t c) lines)
   where
     c : Command
     c = commandOf line
 
+    whole : h ≡ withTable (h .refused) t
+    whole = kept-as (h .opened) (h .table) t (h .refused) (k .0) (k .1)
+
     go : (not (isOpening file c) ≡ true) × (noOpening file lines ≡ true)
-        → (noOpening file lines ≡ true → keptRun (openCall file) (withTable (next t c)) lines ≡ withTable (tableRun (next t c) (movesOf lines)))
-        → keptRun (openCall file) (keptAfter (openCall file) (withTable t) c) lines
-        ≡ withTable (tableRun t (cond (isMove c) (moveOf c ∷ movesOf lines) (movesOf lines)))
+        → (Keeps (keptAfter (openCall file) h c) (next t c) → noOpening file lines ≡ true
+        → Keeps (keptRun (openCall file) (keptAfter (openCall file) h c) lines) (tableRun (next t c) (movesOf lines)))
+        → Keeps (keptRun (openCall file) (keptAfter (openCall file) h c) lines) (tableRun t (cond (isMove c) (moveOf c ∷ movesOf lines) (movesOf lines)))
     go b more =
-        ap (λ (h : Kept). keptRun (openCall file) h lines) (after-line file t c (letter-of line) (not-true (isOpening file c) (b .0)))
-        ∙ more (b .1)
-        ∙ ap withTable (run-next t (isMove c) (moveOf c) (movesOf lines))
+        let one : Keeps (keptAfter (openCall file) (withTable (h .refused) t) c) (next t c) =
+        after-line file (h .refused) t c (letter-of line) (not-true (isOpening file c) (b .0)) in
+        let all = more (subst (λ (x : Kept). Keeps (keptAfter (openCall file) x c) (next t c)) (sym whole) one) (b .1) in
+        (all .0, all .1 ∙ run-next t (isMove c) (moveOf c) (movesOf lines))
 
 -- what is kept after a session, from its last accepted O on: the table of demand 3, for the R and C after it
 pub session-history : (file : List ℕ) (h : Kept) (earlier : List (List ℕ)) (line : List ℕ) (lines : List (List ℕ)) → isOpening file (commandOf line) ≡ true
@@ -170,18 +182,18 @@ pub session-history : (file : List ℕ) (h : Kept) (earlier : List (List ℕ)) (
 unfolding keptRun
 session-history file h earlier line lines o m =
     rw (kept-append (openCall file) h earlier (line ∷ lines))
-    (rw is (record { opened = refl; table = ap (λ (t : Table). tableRun t (movesOf lines)) (all [] .opened); demand = all }))
+    (record { opened = is .0; table = is .1 ∙ ap (λ (t : Table). tableRun t (movesOf lines)) (all [] .opened); demand = all })
   where
     c : Command
     c = commandOf line
 
     a : (openCall file (c .id) (c .day) .refusal ≡ 0)
-        × (keptAfter (openCall file) (keptRun (openCall file) h earlier) c ≡ withTable (openCall file (c .id) (c .day) .table))
+        × Keeps (keptAfter (openCall file) (keptRun (openCall file) h earlier) c) (openCall file (c .id) (c .day) .table)
     a = after-opening file (keptRun (openCall file) h earlier) c o
 
-    is : keptRun (openCall file) (keptAfter (openCall file) (keptRun (openCall file) h earlier) c) lines
-        ≡ withTable (tableRun (openCall file (c .id) (c .day) .table) (movesOf lines))
-    is = ap (λ (k : Kept). keptRun (openCall file) k lines) (a .1) ∙ after-lines file (openCall file (c .id) (c .day) .table) lines m
+    is : Keeps (keptRun (openCall file) (keptAfter (openCall file) (keptRun (openCall file) h earlier) c) lines)
+        (tableRun (openCall file (c .id) (c .day) .table) (movesOf lines))
+    is = after-lines file (keptAfter (openCall file) (keptRun (openCall file) h earlier) c) (openCall file (c .id) (c .day) .table) lines (a .1) m
 
     all : (more : List Call) → FromFile file (c .id) (c .day) (movesOf lines) more
     all more = from-file file (c .id) (c .day) (a .0) (movesOf lines) more

@@ -173,7 +173,7 @@ opened-apart opening t c m closed exchange e v = rw (opens-by opening t c e) at 
 
 -- ---- the answer to a line
 
-module _ (verdict : Answer Calendar) (f : List ℕ) (opened : Bool) (rest : Rest) (first second : List ℕ) (c : Command) (m : Moved)
+module _ (verdict : Answer Calendar) (f : List ℕ) (opened refused : Bool) (rest : Rest) (first second : List ℕ) (c : Command) (m : Moved)
     (closed exchange : List ℕ) where
   abbrev opening : List ℕ → ℕ → Outcome
   opening = openIn verdict f
@@ -182,13 +182,13 @@ module _ (verdict : Answer Calendar) (f : List ℕ) (opened : Bool) (rest : Rest
   before = tableWith rest first second
 
   abbrev h : Kept
-  h = record { opened = opened; table = before }
+  h = record { opened = opened; table = before; refused = refused }
 
   module _ (b : bad opened (c .letter) ≡ false) (v : Moves before (outcomeOf opening before c) m closed exchange) where
     -- after a refused command what is kept is as before
-    pub no-kept-apart : (m .refusal ≡ 0 → ⊥) → keptWith opened (m .rest) closed exchange ≡ keptAfter opening h c
+    pub no-kept-apart : (m .refusal ≡ 0 → ⊥) → keptWith opened (m .rest) closed exchange true ≡ keptAfter opening h c
     no-kept-apart n =
-        ap (λ (t : Table). record { opened = opened; table = t }) (v .refused (λ z. n (v .refusal ∙ z)))
+        ap (λ (t : Table). record { opened = opened; table = t; refused = true }) (v .refused (λ z. n (v .refusal ∙ z)))
         ∙ no-kept opening h c b (outcomeOf opening before c) refl (λ z. n (v .refusal ∙ z))
 
     -- the answer to a refused command is the text of the refusal that comes with the rest
@@ -204,7 +204,7 @@ module _ (verdict : Answer Calendar) (f : List ℕ) (opened : Bool) (rest : Rest
     is-out z = v .accepted (sym (v .refusal) ∙ z)
 
     -- after an accepted command its rest and maps are kept, as opened
-    pub yes-kept-apart : m .refusal ≡ 0 → keptWith true (m .rest) closed exchange ≡ keptAfter opening h c
+    pub yes-kept-apart : m .refusal ≡ 0 → keptWith true (m .rest) closed exchange refused ≡ keptAfter opening h c
     yes-kept-apart z = yes-kept opening h c b (record { refusal = 0; table = tableWith (m .rest) closed exchange; entered = m .entered; left = m .left })
         (is-out z) refl
 

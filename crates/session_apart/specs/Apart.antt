@@ -37,9 +37,9 @@ tableWith rest closed exchange =
 abbrev pub tableRest : Table → Rest
 tableRest t = record { product = t .product; cover = t .calendar .cover; date = t .date; maturities = t .maturities; given = t .given }
 
--- what is kept: whether an O has been accepted, and the table
-abbrev pub keptWith : Bool → Rest → List ℕ → List ℕ → Kept
-keptWith opened rest closed exchange = record { opened = opened; table = tableWith rest closed exchange }
+-- what is kept: whether an O has been accepted, the table, and whether an answer was `NO n` or `BAD`
+abbrev pub keptWith : Bool → Rest → List ℕ → List ℕ → Bool → Kept
+keptWith opened rest closed exchange refused = record { opened = opened; table = tableWith rest closed exchange; refused = refused }
 
 -- a rest on a date, no month entered or left
 abbrev pub datedRest : Rest → ℕ → Moved
@@ -71,6 +71,6 @@ pub record Moves (t : Table) (o : Outcome) (m : Moved) (closed exchange : List �
 -- the answer to a command from what is kept, in a buffer from a place on, and what is kept and known after it
 pub record Replies (opening : List ℕ → ℕ → Outcome) (judged : FileCalendar) (right : Bool) (h : Kept) (at : ℕ) (c : Command) (before after : List ℕ)
     (r : Replied) (closed exchange : List ℕ) : Type 0 where
-  pub kept : keptWith (r .opened) (r .rest) closed exchange ≡ keptAfter opening h c
+  pub kept : keptWith (r .opened) (r .rest) closed exchange (r .refused) ≡ keptAfter opening h c
   pub text : Printed before after at (r .at) (answerText opening h c)
   pub known : Known judged right (tableWith (r .rest) closed exchange) (r .ten)

@@ -37,12 +37,14 @@ pub struct Moved {
     pub left: u16,
 }
 
-// What is kept after a line but for the maps, the answer to question 10 of its table, and the place in the buffer after the line's answer.
+// What is kept after a line but for the maps, the answer to question 10 of its table, the place in the buffer after the line's answer,
+// and whether an answer was `NO n` or `BAD`.
 pub struct Replied {
     pub opened: bool,
     pub rest: Rest,
     pub ten: bool,
     pub at: usize,
+    pub refused: bool,
 }
 
 // A table but for its maps.
@@ -308,7 +310,7 @@ pub fn reply(
     line: Line,
     out: &mut [u8],
 ) -> Replied
-    ensures { λ r. ⌜ (Known judged right (tableWith (k .rest) (now (closed .entry)) (now (exchange .entry))) (k .ten) → Replies (openIn (calendarAnswer judged) (now (file .entry))) judged right (keptWith (k .opened) (k .rest) (now (closed .entry)) (now (exchange .entry))) (k .at) (lineCommand line) (now (out .entry)) (now (out .exit)) r (now (closed .exit)) (now (exchange .exit))) ⌝ }
+    ensures { λ r. ⌜ (Known judged right (tableWith (k .rest) (now (closed .entry)) (now (exchange .entry))) (k .ten) → Replies (openIn (calendarAnswer judged) (now (file .entry))) judged right (keptWith (k .opened) (k .rest) (now (closed .entry)) (now (exchange .entry)) (k .refused)) (k .at) (lineCommand line) (now (out .entry)) (now (out .exit)) r (now (closed .exit)) (now (exchange .exit))) ⌝ }
 {
     let c = session_lines::command_of(line);
     let rest = k.rest;
@@ -319,6 +321,7 @@ pub fn reply(
             rest,
             ten: k.ten,
             at: next,
+            refused: true,
         };
     }
     let m = move_apart(file, judged, rest, k.ten, closed, exchange, c);
@@ -331,6 +334,7 @@ pub fn reply(
             rest: after,
             ten: k.ten,
             at: next,
+            refused: true,
         };
     }
     let product = after.product;
@@ -353,5 +357,6 @@ pub fn reply(
         rest: after,
         ten: still,
         at: next,
+        refused: k.refused,
     }
 }

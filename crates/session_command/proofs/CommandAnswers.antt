@@ -26,7 +26,7 @@ use Rattle.history.proofs.SoundTables.{roll-sound, close-sound}
 use Rattle.session_text.specs.TermsText.{outcomeText, refusalText, badText}
 use Rattle.session_lines.specs.declared.Command.{Command}
 use Rattle.session_command.specs.declared.Kept.{Kept}
-use Rattle.session_command.specs.Sessions.{bad, outcomeOf, answerText, keptAfter}
+use Rattle.session_command.specs.Sessions.{bad, outcomeOf, answerText, refusedKept, keptAfter}
 
 -- the call of a command by its letter
 module _ (opening : List ℕ → ℕ → Outcome) (t : Table) (c : Command) where
@@ -130,7 +130,7 @@ leaves-sound verdict f t c o e z =
 
 module _ (opening : List ℕ → ℕ → Outcome) (h : Kept) (c : Command) where
   -- after a bad line the table kept is the one before
-  pub bad-kept : bad (h .opened) (c .letter) ≡ true → h ≡ keptAfter opening h c
+  pub bad-kept : bad (h .opened) (c .letter) ≡ true → refusedKept h ≡ keptAfter opening h c
   unfolding keptAfter
   bad-kept b = rw b refl
 
@@ -141,7 +141,7 @@ module _ (opening : List ℕ → ℕ → Outcome) (h : Kept) (c : Command) where
 
   module _ (b : bad (h .opened) (c .letter) ≡ false) (o : Outcome) (e : o ≡ outcomeOf opening (h .table) c) where
     -- after a refused command the table kept is the one before
-    pub no-kept : (o .refusal ≡ 0 → ⊥) → h ≡ keptAfter opening h c
+    pub no-kept : (o .refusal ≡ 0 → ⊥) → refusedKept h ≡ keptAfter opening h c
     unfolding keptAfter
     no-kept n = rw (b, ← e, ne-eqb (o .refusal) 0 n) refl
 
@@ -151,7 +151,7 @@ module _ (opening : List ℕ → ℕ → Outcome) (h : Kept) (c : Command) where
     no-text n = rw (b, ← e, ne-eqb (o .refusal) 0 n) refl
 
     -- after an accepted command its table is kept
-    pub yes-kept : o .refusal ≡ 0 → record { opened = true; table = o .table } ≡ keptAfter opening h c
+    pub yes-kept : o .refusal ≡ 0 → record { opened = true; table = o .table; refused = h .refused } ≡ keptAfter opening h c
     unfolding keptAfter
     yes-kept n = rw (b, ← e, eq-eqb (o .refusal) 0 n) refl
 

@@ -15,7 +15,7 @@ use Rattle.session_lines.specs.CommandLines.{commandOf, lineCommand, emptyLine,
 use Rattle.session_lines.specs.InputRest.{restOver}
 use Rattle.session_lines.proofs.LineFeeding.{any-length, any-empty, fed-more}
 use Rattle.session_command.specs.declared.Kept.{Kept}
-use Rattle.session_command.specs.Sessions.{answerText, keptAfter, nothingKept, sessionText, keptRun, termsText, restText, restKept}
+use Rattle.session_command.specs.Sessions.{answerText, keptAfter, nothingKept, sessionText, keptRun, termsText, termsRefused, restText, restKept}
 
 -- the line that the program holds is the line that has begun
 rest-is : (opening : List ℕ → ℕ → Outcome) (h : Kept) (begun input : List ℕ)
@@ -80,6 +80,11 @@ pub whole-kept : (opening : List ℕ → ℕ → Outcome) (input : List ℕ)
 unfolding fed
 whole-kept opening input = kept-is opening nothingKept [] input
 
+-- whether an answer to an input was `NO n` or `BAD`
+pub whole-refused : (file input : List ℕ) → restKept (openCall file) nothingKept emptyLine input .refused ≡ termsRefused file input
+unfolding termsRefused
+whole-refused file input = ap (λ (h : Kept). h .refused) (whole-kept (openCall file) input)
+
 -- lines after others
 pub text-append : (opening : List ℕ → ℕ → Outcome) (h : Kept) (first later : List (List ℕ))
     → sessionText opening h (first ++ later) ≡ sessionText opening h first ++ sessionText opening (keptRun opening h first) later
@@ -129,6 +134,11 @@ module _ (opening : List ℕ → ℕ → Outcome) (h : Kept) (l : Line) where
       → restKept opening h l (byte ∷ rest) ≡ restKept opening (keptAfter opening h (lineCommand l)) emptyLine rest
   unfolding restKept restOver
   kept-line byte rest e = rw (eq-eqb byte 10 e) refl
+
+  -- the end of the input leaves what a line that has bytes leaves
+  pub kept-end : restKept opening h l [] ≡ cond (eqb (l .length) 0) h (keptAfter opening h (lineCommand l))
+  unfolding restKept restOver
+  kept-end = refl
 
   -- the end of the input ends a line that has bytes
   pub text-end : restText opening h l [] ≡ cond (eqb (l .length) 0) [] (answerText opening h (lineCommand l))

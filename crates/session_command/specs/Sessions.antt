@@ -18,7 +18,7 @@ use Rattle.session_command.specs.declared.Kept.{Kept}
 
 -- before an accepted O there is no table
 unfoldable pub nothingKept : Kept
-nothingKept = record { opened = false; table = zeroTable }
+nothingKept = record { opened = false; table = zeroTable; refused = false }
 
 -- '`BAD` for another line, or R or C before an accepted O'
 abbrev pub bad : Bool → ℕ → Bool
@@ -36,11 +36,16 @@ answerText opening h c =
     let o = outcomeOf opening (h .table) c in
     cond (bad (h .opened) (c .letter)) badText (cond (eqb (o .refusal) 0) (outcomeText (c .letter) o) (refusalText (o .refusal)))
 
--- '.. keeping the table of the last accepted call'
+-- what is kept after an answer `NO n` or `BAD`
+abbrev pub refusedKept : Kept → Kept
+refusedKept h = record { opened = h .opened; table = h .table; refused = true }
+
+-- '.. keeping the table of the last accepted call', and whether an answer was `NO n` or `BAD`
 unfoldable pub keptAfter : (List ℕ → ℕ → Outcome) → Kept → Command → Kept
 keptAfter opening h c =
     let o = outcomeOf opening (h .table) c in
-    cond (bad (h .opened) (c .letter)) h (cond (eqb (o .refusal) 0) (record { opened = true; table = o .table }) h)
+    cond (bad (h .opened) (c .letter)) (refusedKept h)
+    (cond (eqb (o .refusal) 0) (record { opened = true; table = o .table; refused = h .refused }) (refusedKept h))
 
 -- what is printed for some lines, one after the other
 unfoldable pub sessionText : (List ℕ → ℕ → Outcome) → Kept → List (List ℕ) → List ℕ
@@ -57,6 +62,10 @@ keptRun opening h (line ∷ lines) = keptRun opening (keptAfter opening h (comma
 -- all that it prints, its tables opened from the file
 unfoldable pub termsText : List ℕ → List ℕ → List ℕ
 termsText master input = sessionText (openCall master) nothingKept (linesFrom [] input)
+
+-- '1 something was refused, bad or differs': whether an answer is `NO n` or `BAD`
+unfoldable pub termsRefused : List ℕ → List ℕ → Bool
+termsRefused master input = keptRun (openCall master) nothingKept (linesFrom [] input) .refused
 
 -- what is still printed for the rest of an input, with a table kept and a line begun
 unfoldable pub restText : (List ℕ → ℕ → Outcome) → Kept → Line → List ℕ → List ℕ

@@ -15,10 +15,11 @@ ghost use Rattle.session_lines.specs.CommandLines.{lineCommand};
 ghost use Rattle.session_text.specs.Buffer.{Printed};
 ghost use Rattle.session_command.specs.Sessions.{nothingKept, bad, outcomeOf, answerText, keptAfter};
 
-// Whether an O has been accepted, and the table of the last accepted call.
+// Whether an O has been accepted, the table of the last accepted call, and whether an answer was `NO n` or `BAD`.
 pub struct Kept {
     pub opened: bool,
     pub table: Table,
+    pub refused: bool,
 }
 
 // What is kept after a line, and the place in the buffer after its answer.
@@ -35,6 +36,7 @@ pub fn nothing_kept() -> Kept
     Kept {
         opened: false,
         table,
+        refused: false,
     }
 }
 
@@ -92,14 +94,28 @@ pub fn answer(
     let t = kept.table;
     if is_bad(kept.opened, c.letter) {
         let next = session_text::print_bad(out, at);
-        return Answered { kept, at: next };
+        return Answered {
+            kept: Kept {
+                opened: kept.opened,
+                table: t,
+                refused: true,
+            },
+            at: next,
+        };
     }
     let ten = table::is_sound(t);
     let o = outcome_known(file, judged, t, ten, c);
     let refusal = o.refusal;
     if refusal != 0 {
         let next = session_text::print_refusal(out, at, refusal);
-        return Answered { kept, at: next };
+        return Answered {
+            kept: Kept {
+                opened: kept.opened,
+                table: t,
+                refused: true,
+            },
+            at: next,
+        };
     }
     let next = session_text::print_outcome(out, at, c.letter, o);
     let table = o.table;
@@ -107,6 +123,7 @@ pub fn answer(
         kept: Kept {
             opened: true,
             table,
+            refused: kept.refused,
         },
         at: next,
     }

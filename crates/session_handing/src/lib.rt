@@ -16,7 +16,7 @@ ghost use Prim.Native.Nat.{_≤_};
 ghost use lib.ListN.{length};
 ghost use Rattle.file_calendar.specs.Calendars.{calendarAnswer};
 ghost use Rattle.table.specs.Table.{openIn};
-ghost use Rattle.session_command.specs.Sessions.{restText};
+ghost use Rattle.session_command.specs.Sessions.{restText, restKept};
 ghost use Rattle.session_parts.specs.TermsParts.{counted, Handed};
 
 // What is kept from one part of the input to the next: the table, the line so far, and what has been sent of the text.
@@ -66,6 +66,12 @@ pub fn write_part(
     }
 }
 
+// What has been sent of the text at the end of a session, and whether an answer was `NO n` or `BAD`.
+pub struct SessionEnd {
+    pub text: SentText,
+    pub refused: bool,
+}
+
 // Writes the answer to a last line that no line feed ends, after the last read: where one is left, or the buffer has fewer than 512 bytes, nothing is done.
 pub fn write_last(
     k: Carried,
@@ -73,19 +79,25 @@ pub fn write_last(
     judged: FileCalendar,
     input: Input,
     out: &mut [u8],
-) -> SentText
-    ensures { λ r. ⌜ (512 ≤ length (now (out .entry)) → input .left ≡ 0 → r .sent .open ≡ true → r .sent .bytes ≡ counted (k .text .sent .bytes) (length (restText (openIn (calendarAnswer judged) (now (file .entry))) (k .kept) (k .line) []))) ⌝ }
+) -> SessionEnd
+    ensures { λ r. ⌜ (512 ≤ length (now (out .entry)) → input .left ≡ 0 → (r .refused ≡ restKept (openIn (calendarAnswer judged) (now (file .entry))) (k .kept) (k .line) [] .refused) × (r .text .sent .open ≡ true → r .text .sent .bytes ≡ counted (k .text .sent .bytes) (length (restText (openIn (calendarAnswer judged) (now (file .entry))) (k .kept) (k .line) [])))) ⌝ }
 {
     let text = k.text;
     if out.len() < 512 {
-        return text;
+        return SessionEnd {
+            text,
+            refused: false,
+        };
     }
     if 0 < streams::reads_left(input) {
-        return text;
+        return SessionEnd {
+            text,
+            refused: false,
+        };
     }
     let kept = k.kept;
     let line = k.line;
-    let n = session_parts::answer_last(file, judged, kept, line, out);
+    let a = session_parts::answer_last(file, judged, kept, line, out);
     let from = TermsProgress {
         kept,
         line,
@@ -96,7 +108,11 @@ pub fn write_last(
         kept,
         line,
         at: 0,
-        length: n,
+        length: a.length,
     };
-    output::write_out(text, file, judged, file, from, to, out)
+    let all = output::write_out(text, file, judged, file, from, to, out);
+    SessionEnd {
+        text: all,
+        refused: a.refused,
+    }
 }

@@ -20,7 +20,7 @@ use Rattle.session_text.specs.Buffer.{roomy, Printed}
 use Rattle.session_text.proofs.TextsInBuffer.{no-room, room-is, room-long}
 use Rattle.session_command.specs.declared.Kept.{Kept}
 use Rattle.session_command.specs.Sessions.{answerText, keptAfter, restText, restKept}
-use Rattle.session_command.proofs.Session.{passed-bytes, text-byte, kept-byte, text-line, kept-line, text-end}
+use Rattle.session_command.proofs.Session.{passed-bytes, text-byte, kept-byte, text-line, kept-line, kept-end, text-end}
 use Rattle.session_parts.specs.declared.TermsProgress.{TermsProgress}
 use Rattle.session_parts.specs.TermsParts.{another, Passed, passed, passedOn, progressOf, Next, Answers, LastAnswer}
 
@@ -391,11 +391,18 @@ module _ (opening : List ℕ → ℕ → Outcome) (h : Kept) (l : Line) (part : 
 -- ---- the last line
 
 module _ (opening : List ℕ → ℕ → Outcome) (h : Kept) (l : Line) (before : List ℕ) where
+  kept-none : l .length ≡ 0 → restKept opening h l [] ≡ h
+  kept-none e = kept-end opening h l ∙ rw (eq-eqb (l .length) 0 e) refl
+
+  kept-last : (l .length ≡ 0 → ⊥) → restKept opening h l [] ≡ keptAfter opening h (lineCommand l)
+  kept-last e = kept-end opening h l ∙ rw (ne-eqb (l .length) 0 e) refl
+
   -- without a begun line the last answer is empty
-  pub no-last : l .length ≡ 0 → LastAnswer opening h l before before 0
+  pub no-last : l .length ≡ 0 → LastAnswer opening h l before before (record { length = 0; refused = h .refused })
   no-last e =
       record {
         text = λ r. text-end opening h l ∙ rw (eq-eqb (l .length) 0 e) refl;
+        refused = ap (λ (k : Kept). k .refused) (sym (kept-none e));
         fits = omega arith;
         unchanged = refl;
         long = refl;
@@ -403,22 +410,26 @@ module _ (opening : List ℕ → ℕ → Outcome) (h : Kept) (l : Line) (before 
       }
 
   -- a begun line gets its answer as the last one
-  pub last : (after : List ℕ) (next : ℕ) → (l .length ≡ 0 → ⊥) → Printed before after 0 next (answerText opening h (lineCommand l))
-      → LastAnswer opening h l before after next
-  last after next e p = go (lt-or-ge (length before) 512)
+  pub last : (after : List ℕ) (next : ℕ) (kept : Kept) → (l .length ≡ 0 → ⊥) → kept ≡ keptAfter opening h (lineCommand l)
+      → Printed before after 0 next (answerText opening h (lineCommand l)) → LastAnswer opening h l before after (record { length = next; refused = kept .refused })
+  last after next kept e s p = go (lt-or-ge (length before) 512)
     where
+      told : kept .refused ≡ restKept opening h l [] .refused
+      told = ap (λ (k : Kept). k .refused) (s ∙ sym (kept-last e))
+
       answer : List ℕ
       answer = answerText opening h (lineCommand l)
 
-      go : (length before < 512) ⊎ (512 ≤ length before) → LastAnswer opening h l before after next
+      go : (length before < 512) ⊎ (512 ≤ length before) → LastAnswer opening h l before after (record { length = next; refused = kept .refused })
       go (inl k) =
           let n : next ≡ 0 = rw (no-room before 0 k) at (p .to) in
           let a : after ≡ before = rw (no-room before 0 k) at (p .is) in
-          record { text = λ r. absurd (omega arith); fits = omega arith; unchanged = ap (drop next) a; long = p .long; idle = λ r. (n, a) }
+          record { text = λ r. absurd (omega arith); refused = told; fits = omega arith; unchanged = ap (drop next) a; long = p .long; idle = λ r. (n, a) }
       go (inr k) =
           let w : Put before after 0 next answer = put before after 0 next answer (roomed before 0 k) p in
           record {
             text = λ r. text-end opening h l ∙ rw (ne-eqb (l .length) 0 e) (sym (w .head));
+            refused = told;
             fits = w .fits;
             unchanged = w .tail;
             long = p .long;

@@ -14,6 +14,7 @@ use Rattle.session_command.specs.declared.Kept.{Kept}
 use Rattle.session_command.specs.Sessions.{nothingKept, restText, termsText}
 use Rattle.session_command.proofs.Session.{whole-text}
 use Rattle.session_parts.specs.declared.TermsProgress.{TermsProgress}
+use Rattle.session_parts.specs.declared.LastLine.{LastLine}
 use Rattle.session_parts.specs.TermsParts.{counted, Answers, LastAnswer, Handed, inOne, Run, ended, goes-on}
 
 -- counted twice
@@ -50,9 +51,9 @@ module _ (opening : List ℕ → ℕ → Outcome) (h : Kept) (l : Line) (part : 
   handed-all h′ l′ at m k d = rw (drop-of-length-le part k) at d
 
 -- the count after the last line
-pub last-count : (opening : List ℕ → ℕ → Outcome) (h : Kept) (l : Line) (before after : List ℕ) (n n′ r : ℕ) → 512 ≤ length before
-    → LastAnswer opening h l before after r → n′ ≡ counted n r → n′ ≡ counted n (length (restText opening h l []))
-last-count opening h l before after n n′ r room a c = c ∙ ap (counted n) (sym (length-take-le r after (a .fits)) ∙ ap length (sym (a .text room)))
+pub last-count : (opening : List ℕ → ℕ → Outcome) (h : Kept) (l : Line) (before after : List ℕ) (n n′ : ℕ) (r : LastLine) → 512 ≤ length before
+    → LastAnswer opening h l before after r → n′ ≡ counted n (r .length) → n′ ≡ counted n (length (restText opening h l []))
+last-count opening h l before after n n′ r room a c = c ∙ ap (counted n) (sym (length-take-le (r .length) after (a .fits)) ∙ ap length (sym (a .text room)))
 
 -- what a run writes, and the count of its bytes
 pub run-text : {opening : List ℕ → ℕ → Outcome} {h : Kept} {l : Line} {n n′ : ℕ} {parts : List (List ℕ)} {text : List ℕ} → Run opening h l n parts text n′

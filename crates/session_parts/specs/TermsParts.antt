@@ -17,6 +17,7 @@ use Rattle.session_command.specs.Sessions.{nothingKept, answerText, keptAfter, 
 use Rattle.session_apart.specs.Apart.{tableWith, keptWith}
 use Rattle.session_parts.specs.declared.TermsProgress.{TermsProgress}
 use Rattle.session_parts.specs.declared.Step.{Step}
+use Rattle.session_parts.specs.declared.LastLine.{LastLine}
 
 -- the part goes on at a place, and the buffer has room for another answer
 unfoldable pub another : List ℕ → ℕ → List ℕ → ℕ → Bool
@@ -25,7 +26,12 @@ another part at out n = ltb at (length part) && roomy out n
 -- only the code needs these: how far a part was answered, with the table put together again from its maps
 abbrev pub progressWith : Step → List ℕ → List ℕ → TermsProgress
 progressWith s closed exchange =
-    record { kept = keptWith (s .replied .opened) (s .replied .rest) closed exchange; line = s .line; at = s .at; length = s .replied .at }
+    record {
+      kept = keptWith (s .replied .opened) (s .replied .rest) closed exchange (s .replied .refused);
+      line = s .line;
+      at = s .at;
+      length = s .replied .at;
+    }
 
 -- and what is known of it beforehand
 abbrev pub KnownStep : FileCalendar → Bool → Step → List ℕ → List ℕ → Type 0
@@ -96,13 +102,15 @@ pub record Answers (opening : List ℕ → ℕ → Outcome) (h : Kept) (l : Line
   pub is : r ≡ progressOf part from (passedOn opening (length before) h l [] (drop from part))
   pub bytes : take (r .length) after ≡ passedOn opening (length before) h l [] (drop from part) .text
 
--- the answer to a last line that no line feed ends: where there is room, what is printed for an input that has ended
-pub record LastAnswer (opening : List ℕ → ℕ → Outcome) (h : Kept) (l : Line) (before after : List ℕ) (r : ℕ) : Type 0 where
-  pub text : 512 ≤ length before → restText opening h l [] ≡ take r after
-  pub fits : r ≤ length after
-  pub unchanged : drop r after ≡ drop r before
+-- the answer to a last line that no line feed ends: where there is room, what is printed for an input that has ended,
+-- and whether an answer was `NO n` or `BAD`
+pub record LastAnswer (opening : List ℕ → ℕ → Outcome) (h : Kept) (l : Line) (before after : List ℕ) (r : LastLine) : Type 0 where
+  pub text : 512 ≤ length before → restText opening h l [] ≡ take (r .length) after
+  pub refused : r .refused ≡ restKept opening h l [] .refused
+  pub fits : r .length ≤ length after
+  pub unchanged : drop (r .length) after ≡ drop (r .length) before
   pub long : length after ≡ length before
-  pub idle : length before < 512 → (r ≡ 0) × (after ≡ before)
+  pub idle : length before < 512 → (r .length ≡ 0) × (after ≡ before)
 
 -- so many bytes more, counted modulo 2^64
 abbrev pub counted : ℕ → ℕ → ℕ

@@ -91,6 +91,7 @@ fn put_together(s: Step, closed: [u8; 736], exchange: [u8; 736]) -> TermsProgres
         kept: Kept {
             opened: k.opened,
             table,
+            refused: k.refused,
         },
         line,
         at: s.at,
@@ -125,6 +126,7 @@ pub fn answer_part(
         rest,
         ten,
         at: 0,
+        refused: kept.refused,
     };
     let mut s = Step {
         replied,
@@ -146,7 +148,13 @@ pub fn answer_part(
     put_together(s, closed, exchange)
 }
 
-// The answer to a last line that no line feed ends, in a lent buffer from its start, and its length.
+// How many bytes the answer to a last line has, and whether an answer was `NO n` or `BAD`.
+pub struct LastLine {
+    pub length: usize,
+    pub refused: bool,
+}
+
+// The answer to a last line that no line feed ends, in a lent buffer from its start.
 // A line with no bytes has none, and a buffer of fewer than 512 bytes stays as it is.
 pub fn answer_last(
     file: &[u8],
@@ -154,12 +162,18 @@ pub fn answer_last(
     kept: Kept,
     line: Line,
     out: &mut [u8],
-) -> usize
+) -> LastLine
     ensures { λ r. ⌜ LastAnswer (openIn (calendarAnswer judged) (now (file .entry))) kept line (now (out .entry)) (now (out .exit)) r ⌝ }
 {
     if line.length == 0 {
-        return 0;
+        return LastLine {
+            length: 0,
+            refused: kept.refused,
+        };
     }
     let a = session_command::answer(file, judged, kept, line, out, 0);
-    a.at
+    LastLine {
+        length: a.at,
+        refused: a.kept.refused,
+    }
 }

@@ -47,9 +47,9 @@ returns-2 c = λ w.
     let m = at-move-apart .move-apart .result in
     rw (← at-command-of .command-of .ensures)
     (record {
-      kept = no-kept-apart verdict f (h .opened) (h .rest) first second k m _ _ b v n;
-      text = rw (← no-text-apart verdict f (h .opened) (h .rest) first second k m _ _ b v n) (at-print-refusal .print-refusal .ensures);
-      known = record { calendar = w .calendar; tenth = w .tenth ∙ ap sound (sym (no-table-apart verdict f (h .opened) (h .rest) first second k m _ _ b v n)) };
+      kept = no-kept-apart verdict f (h .opened) (h .refused) (h .rest) first second k m _ _ b v n;
+      text = rw (← no-text-apart verdict f (h .opened) (h .refused) (h .rest) first second k m _ _ b v n) (at-print-refusal .print-refusal .ensures);
+      known = record { calendar = w .calendar; tenth = w .tenth ∙ ap sound (sym (no-table-apart verdict f (h .opened) (h .refused) (h .rest) first second k m _ _ b v n)) };
     })
 
 -- ---- an accepted call
@@ -77,12 +77,12 @@ returns-3 c = λ w.
     let m = at-move-apart .move-apart .result in
     rw (← at-command-of .command-of .ensures)
     (record {
-      kept = yes-kept-apart verdict f (h .opened) (h .rest) first second k m _ _ b v n;
-      text = rw (← yes-text-apart verdict f (h .opened) (h .rest) first second k m _ _ b v n) (at-print-call .print-call .ensures);
+      kept = yes-kept-apart verdict f (h .opened) (h .refused) (h .rest) first second k m _ _ b v n;
+      text = rw (← yes-text-apart verdict f (h .opened) (h .refused) (h .rest) first second k m _ _ b v n) (at-print-call .print-call .ensures);
       known = record {
         calendar = w .calendar;
         tenth =
-            (rw (w .calendar) at (c .leaves-sound .ensures)) ∙ sym (yes-sound-apart verdict f (h .opened) (h .rest) first second k m _ _ b v n);
+            (rw (w .calendar) at (c .leaves-sound .ensures)) ∙ sym (yes-sound-apart verdict f (h .opened) (h .refused) (h .rest) first second k m _ _ b v n);
       };
     })
 

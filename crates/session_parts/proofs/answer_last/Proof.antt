@@ -9,7 +9,9 @@ returns : tie.Need-returns
 returns c = no-last _ _ _ _ (c .if1 .taken)
 
 returns-2 : tie.Need-returns-2
-returns-2 c = last _ _ _ _ _ _ (c .before .before .before .before .if1 .left) (c .before .before .answer .ensures .1)
+returns-2 c =
+    let a = c .before .before .answer in
+    last _ _ _ _ _ _ (a .result .kept) (c .before .before .before .before .if1 .left) (a .ensures .0) (a .ensures .1)
 
 pub answer-last-spec : {M : Type 1} → statement M
 answer-last-spec = tie.close (tie.spec returns (λ c κs. tt) (λ c. search needs) returns-2)

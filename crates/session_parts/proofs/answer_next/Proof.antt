@@ -48,7 +48,7 @@ returns-2 c =
     let r = at-reply .reply .result in
     let a = at-reply .reply .ensures (start .pre .2) in (
       is-answered _ _ _ s (start .pre .0) (start .pre .1) _ (at-end .byte-from .ensures .0 (omega (arith, start .pre .0))) _ (at-feed .feed .ensures) _
-          (keptWith (r .opened) (r .rest) _ _) (r .at) _ (at-if1 .if1 .left) (c .empty-line .ensures) (a .kept) (a .text),
+          (keptWith (r .opened) (r .rest) _ _ (r .refused)) (r .at) _ (at-if1 .if1 .left) (c .empty-line .ensures) (a .kept) (a .text),
       a .known,
     )
 

@@ -10,7 +10,7 @@ use Rattle.questions.proofs.Bools.{said-no, said-yes}
 use Rattle.file_calendar.specs.Calendars.{calendarAnswer}
 use Rattle.file_load.specs.Load.{judgeCall}
 use Rattle.table.specs.Table.{openIn}
-use Rattle.terms_run.proofs.PartsRead.{CameFar, far-none, far-more, far-all, far-input}
+use Rattle.terms_run.proofs.PartsRead.{CameFar, far-none, far-more, far-all, far-input, failed-2}
 use Rattle.terms_run.proofs.answer_all.Statement.{statement}
 use Rattle.terms_run.proofs.answer_all.Tie as tie
 
@@ -81,8 +81,13 @@ write-part-requires c κs = tt
 is-open-requires : tie.Need-is-open-requires Inv-loop μ-loop
 is-open-requires c κs = tt
 
+ended-requires : tie.Need-ended-requires Inv-loop μ-loop
+ended-requires c κs = tt
+
 returns : tie.Need-returns Inv-loop μ-loop
-returns c = (refl, λ e. absurd (true≢false (sym e ∙ said-no (c .before .before .is-open .ensures) (c .before .if2 .taken))))
+returns c =
+    rw (c .ended .ensures)
+    (refl, (λ w. failed-2 _ _ w), λ e. absurd (true≢false (sym e ∙ said-no (c .before .before .before .is-open .ensures) (c .before .before .if2 .taken))))
 
 loop-less : tie.Need-loop-less Inv-loop μ-loop
 loop-less c =
@@ -111,19 +116,27 @@ slice-aggregate-write-last c = search needs
 write-last-requires : tie.Need-write-last-requires Inv-loop μ-loop
 write-last-requires c κs = tt
 
+ended-requires-2 : tie.Need-ended-requires-2 Inv-loop μ-loop
+ended-requires-2 c κs = tt
+
 returns-2 : tie.Need-returns-2 Inv-loop μ-loop
 returns-2 c =
-    let at-end = c .before .before .before in
+    let at-last = c .before .before .before in
+    let at-end = at-last .before .before in
     let at-left = at-end .before in
-    let v = at-left .before .loop .inv in (
+    let v = at-left .before .loop .inv in
+    rw (c .ended2 .ensures) (
       refl,
+      (λ w. failed-2 _ _ w),
       λ e.
-          let r = far-all _ _ _ _ _ _ (v .3) (c .before .write-last .ensures (omega (arith, v .1)) (omega (arith, at-left .reads-left .ensures, at-end .if1 .left)) e) in
-          far-input _ _ _ (rw (v .2) at r) (omega (arith, at-left .reads-left .ensures, at-end .if1 .left)),
+          let w = at-last .write-last .ensures (omega (arith, v .1)) (omega (arith, at-left .reads-left .ensures, at-end .if1 .left)) in
+          let r = far-all _ _ _ _ _ _ _ (v .3) (w .1 e) (w .0) in
+          far-input _ _ _ _ _ (rw (v .2) at r) (omega (arith, at-left .reads-left .ensures, at-end .if1 .left)),
     )
 
 pub answer-all-spec : {M : Type 1} → statement M
 answer-all-spec =
     tie.close (tie.spec Inv-loop μ-loop judge-requires large-buffer-requires large-buffer-requires-2 nothing-kept-requires empty-line-requires no-text-requires
     nothing-read-requires loop-holds reads-left-requires slice-aggregate-read-part read-part-requires array-share-prefix-part slice-aggregate-write-part
-    slice-aggregate-write-part-2 write-part-requires is-open-requires returns loop-less loop-again slice-aggregate-write-last write-last-requires returns-2)
+    slice-aggregate-write-part-2 write-part-requires is-open-requires ended-requires returns loop-less loop-again slice-aggregate-write-last write-last-requires
+    ended-requires-2 returns-2)

@@ -11,7 +11,7 @@ slice-aggregate-answer-all c = sym (length-take-le _ _ (search needs))
 returns : tie.Need-returns
 returns c =
     let a = c .answer-all .ensures in
-    record { file = _; file-long = a .0; text = a .1 }
+    record { file = _; file-long = a .0; failed = a .1; text = a .2 }
 
 pub run-spec : {M : Type 1} → statement M
 run-spec = tie.close (tie.spec (λ c. search needs) (λ c κs. tt) (λ c. search needs) slice-aggregate-answer-all (λ c κs. tt) returns)
