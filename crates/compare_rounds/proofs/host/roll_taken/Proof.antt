@@ -16,23 +16,11 @@ Inv-loop date numbers n tables₀ i₀ tables i = (n ≤ 200) × (i ≤ n) × ((
 abbrev μ-loop : tie.MeasureT-loop
 μ-loop date numbers n tables₀ i₀ tables i = n - i
 
-cast-n : tie.Need-cast-n Inv-loop μ-loop
-cast-n c = search needs
-
 -- ---- before the loop
 loop-holds : tie.Need-loop-holds Inv-loop μ-loop
 loop-holds c =
     let start = c .before .before .before in
     (right-count _ (start .pre), omega arith, right-number _ (start .pre), simp length-map at (start .good .0 .1 .1 .0 .1 .0 .1))
-
-mul-number : tie.Need-mul-number Inv-loop μ-loop
-mul-number c = search needs
-
-array-read-number : tie.Need-array-read-number Inv-loop μ-loop
-array-read-number c = search needs
-
-cast-place : tie.Need-cast-place Inv-loop μ-loop
-cast-place c = search needs
 
 -- ---- a turn: the table with the number is one of the 200
 mul-t : tie.Need-mul-t Inv-loop μ-loop
@@ -40,12 +28,6 @@ mul-t c = omega (arith, c .before .loop .inv .2 _ (c .loop-test .taken))
 
 array-copy-out-t : tie.Need-array-copy-out-t Inv-loop μ-loop
 array-copy-out-t c = omega (arith, c .before .loop .inv .2 _ (c .loop-test .taken), c .before .loop .inv .3)
-
-roll-requires : tie.Need-roll-requires Inv-loop μ-loop
-roll-requires c κs = tt
-
-outcome-line-requires : tie.Need-outcome-line-requires Inv-loop μ-loop
-outcome-line-requires c κs = tt
 
 mul-tables : tie.Need-mul-tables Inv-loop μ-loop
 mul-tables c =
@@ -57,20 +39,7 @@ array-set-from-tables c =
     let before-5 = c .before .before .before .before .before in
     omega (arith, before-5 .loop .inv .2 _ (c .before .before .before .before .loop-test .taken), before-5 .loop .inv .3)
 
-add-i : tie.Need-add-i Inv-loop μ-loop
-add-i c = search needs
-
--- ---- the invariant after it, and the end
-loop-less : tie.Need-loop-less Inv-loop μ-loop
-loop-less c = search needs
-
-loop-again : tie.Need-loop-again Inv-loop μ-loop
-loop-again c = search needs
-
-returns : tie.Need-returns Inv-loop μ-loop
-returns c = search needs
-
 pub roll-taken-spec : {M : Type 1} → statement M
 roll-taken-spec =
-    tie.close (tie.spec Inv-loop μ-loop cast-n loop-holds mul-number array-read-number cast-place mul-t array-copy-out-t roll-requires outcome-line-requires
-    mul-tables array-set-from-tables add-i loop-less loop-again returns)
+    tie.close (tie.spec Inv-loop μ-loop (λ c. search needs) loop-holds (λ c. search needs) (λ c. search needs) (λ c. search needs) mul-t array-copy-out-t
+    (λ c κs. tt) (λ c κs. tt) mul-tables array-set-from-tables (λ c. search needs) (λ c. search needs) (λ c. search needs) (λ c. search needs))

@@ -10,23 +10,6 @@ Inv-loop year₀ year = year ≤ 2104
 abbrev μ-loop : tie.MeasureT-loop
 μ-loop year₀ year = 2104 - year
 
-loop-holds : tie.Need-loop-holds Inv-loop μ-loop
-loop-holds c = search needs
-
-month-dates-requires : tie.Need-month-dates-requires Inv-loop μ-loop
-month-dates-requires c κs = tt
-
-add-year : tie.Need-add-year Inv-loop μ-loop
-add-year c = search needs
-
-loop-less : tie.Need-loop-less Inv-loop μ-loop
-loop-less c = search needs
-
-loop-again : tie.Need-loop-again Inv-loop μ-loop
-loop-again c = search needs
-
-returns : tie.Need-returns Inv-loop μ-loop
-returns c = search needs
-
 pub all-dates-spec : {M : Type 1} → statement M
-all-dates-spec = tie.close (tie.spec Inv-loop μ-loop loop-holds month-dates-requires add-year loop-less loop-again returns)
+all-dates-spec =
+    tie.close (tie.spec Inv-loop μ-loop (λ c. search needs) (λ c κs. tt) (λ c. search needs) (λ c. search needs) (λ c. search needs) (λ c. search needs))

@@ -10,23 +10,6 @@ Inv-loop n₀ n = n ≤ 36561
 abbrev μ-loop : tie.MeasureT-loop
 μ-loop n₀ n = 36561 - n
 
-loop-holds : tie.Need-loop-holds Inv-loop μ-loop
-loop-holds c = search needs
-
-number-requires : tie.Need-number-requires Inv-loop μ-loop
-number-requires c κs = tt
-
-add-n : tie.Need-add-n Inv-loop μ-loop
-add-n c = search needs
-
-loop-less : tie.Need-loop-less Inv-loop μ-loop
-loop-less c = search needs
-
-loop-again : tie.Need-loop-again Inv-loop μ-loop
-loop-again c = search needs
-
-returns : tie.Need-returns Inv-loop μ-loop
-returns c = search needs
-
 pub last-numbers-spec : {M : Type 1} → statement M
-last-numbers-spec = tie.close (tie.spec Inv-loop μ-loop loop-holds number-requires add-n loop-less loop-again returns)
+last-numbers-spec =
+    tie.close (tie.spec Inv-loop μ-loop (λ c. search needs) (λ c κs. tt) (λ c. search needs) (λ c. search needs) (λ c. search needs) (λ c. search needs))

@@ -11,37 +11,7 @@ Inv-loop i₀ i = i ≤ 200
 abbrev μ-loop : tie.MeasureT-loop
 μ-loop i₀ i = 200 - i
 
-loop-holds : tie.Need-loop-holds Inv-loop μ-loop
-loop-holds c = search needs
-
-cast-seed : tie.Need-cast-seed Inv-loop μ-loop
-cast-seed c = search needs
-
-mul-seed : tie.Need-mul-seed Inv-loop μ-loop
-mul-seed c = search needs
-
-value-line-requires : tie.Need-value-line-requires Inv-loop μ-loop
-value-line-requires c κs = tt
-
-add-calendar-line : tie.Need-add-calendar-line Inv-loop μ-loop
-add-calendar-line c = search needs
-
-calendar-line-requires : tie.Need-calendar-line-requires Inv-loop μ-loop
-calendar-line-requires c κs = tt
-
-add-i : tie.Need-add-i Inv-loop μ-loop
-add-i c = search needs
-
-loop-less : tie.Need-loop-less Inv-loop μ-loop
-loop-less c = search needs
-
-loop-again : tie.Need-loop-again Inv-loop μ-loop
-loop-again c = search needs
-
-returns : tie.Need-returns Inv-loop μ-loop
-returns c = search needs
-
 pub years-spec : {M : Type 1} → statement M
 years-spec =
-    tie.close (tie.spec Inv-loop μ-loop loop-holds cast-seed mul-seed value-line-requires add-calendar-line calendar-line-requires add-i loop-less loop-again
-    returns)
+    tie.close (tie.spec Inv-loop μ-loop (λ c. search needs) (λ c. search needs) (λ c. search needs) (λ c κs. tt) (λ c. search needs) (λ c κs. tt)
+    (λ c. search needs) (λ c. search needs) (λ c. search needs) (λ c. search needs))

@@ -15,49 +15,11 @@ Inv-loop records₀ at bytes i₀ records i = (length records ≡ length records
 abbrev μ-loop : tie.MeasureT-loop
 μ-loop records₀ at bytes i₀ records i = 32 - i
 
-returns : tie.Need-returns Inv-loop μ-loop
-returns c = tt
-
--- ---- no room
-sub-if2 : tie.Need-sub-if2 Inv-loop μ-loop
-sub-if2 c = omega arith
-
-returns-2 : tie.Need-returns-2 Inv-loop μ-loop
-returns-2 c = tt
-
 -- ---- the loop
 loop-holds : tie.Need-loop-holds Inv-loop μ-loop
 loop-holds c = (omega arith, omega arith, omega arith)
 
-array-read-records : tie.Need-array-read-records Inv-loop μ-loop
-array-read-records c = omega arith
-
-add-records : tie.Need-add-records Inv-loop μ-loop
-add-records c = omega arith
-
-slice-write-records : tie.Need-slice-write-records Inv-loop μ-loop
-slice-write-records c = omega arith
-
-add-i : tie.Need-add-i Inv-loop μ-loop
-add-i c = omega arith
-
-loop-less : tie.Need-loop-less Inv-loop μ-loop
-loop-less c = omega arith
-
-loop-again : tie.Need-loop-again Inv-loop μ-loop
-loop-again c = search needs
-
--- ---- the end
-add-result : tie.Need-add-result Inv-loop μ-loop
-add-result c = omega arith
-
-same-length : tie.Need-same-length Inv-loop μ-loop
-same-length c = omega arith
-
-returns-3 : tie.Need-returns-3 Inv-loop μ-loop
-returns-3 c = tt
-
 pub put-record-spec : {M : Type 1} → statement M
 put-record-spec =
-    tie.close (tie.spec Inv-loop μ-loop returns sub-if2 returns-2 loop-holds array-read-records add-records slice-write-records add-i loop-less loop-again
-    add-result same-length returns-3)
+    tie.close (tie.spec Inv-loop μ-loop (λ c. tt) (λ c. omega arith) (λ c. tt) loop-holds (λ c. omega arith) (λ c. omega arith) (λ c. omega arith)
+    (λ c. omega arith) (λ c. omega arith) (λ c. search needs) (λ c. omega arith) (λ c. omega arith) (λ c. tt))
