@@ -8,7 +8,7 @@ use lib.ListN.{length}
 use Rattle.file_text_told.specs.Whole.{composeTold, ComposeHandedOut}
 use Rattle.program_status.specs.Statuses.{statusOf}
 use Rattle.compose_run.specs.declared.output.Handed.{Handed}
-use Rattle.compose_run.specs.declared.Outcome.{Outcome}
+use Rattle.compose_run.specs.declared.ComposeOutcome.{ComposeOutcome}
 
 -- '1 something was refused, bad or differs': the text is at fault, and something is told of it
 unfoldable pub composeRefused : List ℕ → Bool
@@ -22,7 +22,7 @@ pub record ComposeRan (n : ℕ) (h : Handed) (status : ℕ) : Type 0 where
 
 -- the end of a run: no read is left; where none failed this is the end, for the input that was read;
 -- else nothing was handed out, and the status is that of a failure
-pub record ComposeEnded (r : Outcome) : Type 0 where
+pub record ComposeEnded (r : ComposeOutcome) : Type 0 where
   pub read : r .input .left ≡ 0
   pub ran : r .input .failed ≡ false → ComposeRan (r .input .bytes) (r .handed) (r .status)
   pub unread : r .input .failed ≡ true → (r .handed .sent .bytes ≡ 0) × (r .handed .told .bytes ≡ 0) × (r .status ≡ statusOf true false)

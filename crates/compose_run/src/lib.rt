@@ -13,21 +13,21 @@ ghost use Rattle.file_text_told.specs.Whole.{ReadTo};
 ghost use Rattle.compose_run.specs.ComposeRuns.{ComposeRan, ComposeEnded};
 
 // What the lines so far say, the line begun, and how far the list was read.
-pub struct Reading {
+pub struct ListRead {
     pub taken: ListTaken,
     pub line: LongLine,
     pub input: Input,
 }
 
 // How far the list was read, what was handed out, and the status.
-pub struct Outcome {
+pub struct ComposeOutcome {
     pub input: Input,
     pub handed: Handed,
     pub status: u8,
 }
 
 // Reads the list to its end, part by part.
-fn read_list(records: &mut [u8]) -> Reading
+fn read_list(records: &mut [u8]) -> ListRead
     requires { ⌜ length (now records) ≡ 65536 ⌝ }
     ensures { λ r. ⌜ (r .input .left ≡ 0) × ReadTo (r .taken) (r .line) (now (records .exit)) (r .input .bytes) ⌝ }
 {
@@ -43,11 +43,11 @@ fn read_list(records: &mut [u8]) -> Reading
         taken = p.taken;
         line = p.line;
     }
-    Reading { taken, line, input }
+    ListRead { taken, line, input }
 }
 
 // Hands out the file of a list that was read to its end, or why there is none.
-fn answer(r: Reading, records: &mut [u8]) -> Outcome
+fn answer(r: ListRead, records: &mut [u8]) -> ComposeOutcome
     requires { ⌜ (r .input .left ≡ 0) × (r .input .failed ≡ false) × ReadTo (r .taken) (r .line) (now records) (r .input .bytes) ⌝ }
     ensures { λ o. ⌜ (o .input ≡ r .input) × ComposeRan (r .input .bytes) (o .handed) (o .status) ⌝ }
 {
@@ -60,7 +60,7 @@ fn answer(r: Reading, records: &mut [u8]) -> Outcome
     let told = file_text_told::said(c);
     let handed = output::hand_out(input, &file, c.length, told);
     let status = program_status::status(!output::is_open(handed), told.length != 0);
-    Outcome {
+    ComposeOutcome {
         input,
         handed,
         status,
@@ -68,7 +68,7 @@ fn answer(r: Reading, records: &mut [u8]) -> Outcome
 }
 
 // Reads the list and hands out what it gives. Of a list that could not be read to its end nothing is handed out.
-pub fn run() -> Outcome
+pub fn run() -> ComposeOutcome
     ensures { λ r. ⌜ ComposeEnded r ⌝ }
 {
     let mut records = io::large_buffer();
@@ -77,7 +77,7 @@ pub fn run() -> Outcome
     if streams::has_failed(input) {
         let handed = output::nothing_handed();
         let status = program_status::status(true, false);
-        return Outcome {
+        return ComposeOutcome {
             input,
             handed,
             status,

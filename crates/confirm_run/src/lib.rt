@@ -1,6 +1,6 @@
 // A run of `confirm`: reads master.bin and, from standard input, an open, rolls and closes and a vendor's listing,
 // and says whether that is the table's fresh listing.
-use program_runs::Outcome;
+use program_runs::AnswerOutcome;
 use program_runs::Said;
 use streams::Sent;
 ghost use mathlib.Core.Path.{_≡_};
@@ -8,7 +8,7 @@ ghost use mathlib.Core.Bool.{true};
 ghost use Prim.Native.Nat.{_≤_};
 ghost use lib.ListN.{length, take};
 ghost use Rattle.confirm_inputs.specs.ConfirmInputs.{confirmText, confirmRefused};
-ghost use Rattle.program_runs.specs.Answers.{Answered, AnsweredWith};
+ghost use Rattle.program_runs.specs.AnsweredRuns.{Answered, AnsweredWith};
 
 // Writes the first n bytes of a buffer, which have to be the text of the input. Where the output does not take them, one line on standard error says why.
 fn write_out(file: &[u8], input: &[u8], out: &[u8], n: usize) -> Sent
@@ -37,7 +37,7 @@ fn answer(file: &[u8], input: &[u8], list: &mut [u16]) -> Said
 
 // Reads standard input and answers it by a master file. An input that fills its buffer is too long, whatever follows.
 // An input that cannot be read is told, and nothing is said of it.
-pub fn run_with(file: &[u8]) -> Outcome
+pub fn run_with(file: &[u8]) -> AnswerOutcome
     ensures { λ r. ⌜ Answered (confirmText (now (file .entry))) (confirmRefused (now (file .entry))) r ⌝ }
 {
     let mut text = [0u8; 65537];
@@ -54,7 +54,7 @@ pub fn run_with(file: &[u8]) -> Outcome
 }
 
 // The same by master.bin. One that cannot be read counts as empty; one that fills its buffer is too long.
-pub fn run() -> Outcome
+pub fn run() -> AnswerOutcome
     ensures { λ r. ⌜ AnsweredWith confirmText confirmRefused r ⌝ }
 {
     let mut file = [0u8; 65537];

@@ -1,4 +1,4 @@
 // The program `decompose`: reads a master file from standard input and prints its text, or the number of its refusal.
 fn main() {
-    decompose_run::run();
+    programs::scullpouch_program_decompose();
 }

@@ -1,1 +1,1 @@
-pub mod FirstBytes
+pub mod FileFirstBytes

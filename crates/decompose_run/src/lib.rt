@@ -2,7 +2,7 @@
 mod output;
 
 use calendar::Calendar;
-use program_runs::Outcome;
+use program_runs::AnswerOutcome;
 use program_runs::Said;
 use streams::Sent;
 ghost use mathlib.Core.Path.{_≡_};
@@ -12,7 +12,7 @@ ghost use lib.ListN.{length};
 ghost use Rattle.file_calendar.specs.Calendars.{calendarOf};
 ghost use Rattle.file_load.specs.Load.{loadCall};
 ghost use Rattle.file_text_print.specs.WholeText.{decomposeText};
-ghost use Rattle.program_runs.specs.Answers.{Answered};
+ghost use Rattle.program_runs.specs.AnsweredRuns.{Answered};
 ghost use Rattle.decompose_run.specs.DecomposeRefusals.{decomposeRefused};
 
 // Writes the text of an accepted file with this calendar, part by part. A write that fails ends the run.
@@ -68,7 +68,7 @@ fn answer(file: &[u8]) -> Said
 
 // Reads standard input and answers it. A file that fills its buffer is too long, whatever follows.
 // A file that cannot be read is told, and nothing is printed of it.
-pub fn run() -> Outcome
+pub fn run() -> AnswerOutcome
     ensures { λ r. ⌜ Answered decomposeText decomposeRefused r ⌝ }
 {
     let mut file = [0u8; 65537];

@@ -1,5 +1,5 @@
 // The program `deliver`: reads master.bin and notices.txt, and prints the rows of the tables of all products after the notices,
 // and the calls that were refused.
 fn main() {
-    deliver_run::run();
+    programs::scullpouch_program_deliver();
 }

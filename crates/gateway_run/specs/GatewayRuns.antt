@@ -9,7 +9,7 @@ use Rattle.file_intake.specs.Intake.{finishCall}
 use Rattle.file_intake_text.specs.GatewayTexts.{pieceCount, handedOver, GatewayRan}
 use Rattle.program_status.specs.Statuses.{statusOf}
 use Rattle.streams.specs.Inputs.{ForInput}
-use Rattle.gateway_run.specs.declared.Outcome.{Outcome}
+use Rattle.gateway_run.specs.declared.GatewayOutcome.{GatewayOutcome}
 
 -- the refusal after some calls, or of the final call where none was refused; 0 where that accepts the file
 unfoldable pub takenRefusal : Taken → ℕ
@@ -22,7 +22,7 @@ gatewayRefused n input = not (eqb (takenRefusal (handedOver n input (pieceCount 
 -- the end of a run: what was handed out, and the status:
 -- after a read that failed it is that of a failure;
 -- else it is by whether standard output took all, and whether the input is refused, of every input that begins with the bytes that were read
-pub record GatewayEnded (n : ℕ) (r : Outcome) : Type 0 where
+pub record GatewayEnded (n : ℕ) (r : GatewayOutcome) : Type 0 where
   pub ran : GatewayRan n (r .input) (r .sent .bytes)
   pub unread : r .input .failed ≡ true → r .status ≡ statusOf true false
   pub status : r .input .failed ≡ false → ForInput (r .input) (λ input. r .status ≡ statusOf (not (r .sent .open)) (gatewayRefused n input))

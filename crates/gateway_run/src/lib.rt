@@ -12,13 +12,13 @@ ghost use Rattle.file_intake_text.specs.GatewayTexts.{GatewaySays, IntakeReache
 ghost use Rattle.gateway_run.specs.GatewayRuns.{GatewayEnded};
 
 // What a run ended with, and how far standard input was read.
-pub struct Reading {
+pub struct BlocksRead {
     pub ended: Ended,
     pub input: Input,
 }
 
 // How far standard input was read, what was handed out, and the status.
-pub struct Outcome {
+pub struct GatewayOutcome {
     pub input: Input,
     pub sent: Sent,
     pub status: u8,
@@ -26,7 +26,7 @@ pub struct Outcome {
 
 // Hands over the blocks of standard input as they are read, up to its end or to the first that is refused.
 // A read that fails is told, and gets 1.
-fn read_blocks(number: u16, announced: Intake) -> Reading
+fn read_blocks(number: u16, announced: Intake) -> BlocksRead
     requires { ⌜ IntakeReached number announced × (announced .taken ≡ 0) ⌝ }
     ensures { λ r. ⌜ GatewaySays number (r .input) (endedText (r .ended)) ⌝ }
 {
@@ -39,7 +39,7 @@ fn read_blocks(number: u16, announced: Intake) -> Reading
         if streams::has_failed(input) {
             output::tell_failure(true, true);
             let ended = file_intake_text::refused(1);
-            return Reading { ended, input };
+            return BlocksRead { ended, input };
         }
         let n = got.length;
         if n == 0 {
@@ -48,30 +48,30 @@ fn read_blocks(number: u16, announced: Intake) -> Reading
         let next = state.take(&block[..n]);
         if next.refusal != 0 {
             let ended = file_intake_text::refused(next.refusal);
-            return Reading { ended, input };
+            return BlocksRead { ended, input };
         }
         state = next.state;
     }
     let ended = file_intake_text::finished(state.finish());
-    Reading { ended, input }
+    BlocksRead { ended, input }
 }
 
 // Announces the number of blocks; one that is refused is answered before any block is read.
-fn load(number: u16) -> Reading
+fn load(number: u16) -> BlocksRead
     ensures { λ r. ⌜ GatewaySays number (r .input) (endedText (r .ended)) ⌝ }
 {
     let first = file_intake::announce(number);
     if first.refusal != 0 {
         let ended = file_intake_text::refused(first.refusal);
         let input = streams::nothing_read();
-        return Reading { ended, input };
+        return BlocksRead { ended, input };
     }
     let state = first.state;
     read_blocks(number, state)
 }
 
 // Loads the file of so many blocks and hands out its line.
-pub fn run(number: u16) -> Outcome
+pub fn run(number: u16) -> GatewayOutcome
     ensures { λ r. ⌜ GatewayEnded number r ⌝ }
 {
     let r = load(number);
@@ -80,7 +80,7 @@ pub fn run(number: u16) -> Outcome
     let sent = output::write_line(number, input, ended);
     let failed = streams::has_failed(input) | !output::is_open(sent);
     let status = program_status::status(failed, ended.refusal != 0);
-    Outcome {
+    GatewayOutcome {
         input,
         sent,
         status,

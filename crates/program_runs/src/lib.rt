@@ -4,10 +4,10 @@ use streams::Sent;
 ghost use mathlib.Core.Path.{_≡_};
 ghost use mathlib.Core.Bool.{false};
 ghost use Rattle.program_status.specs.Statuses.{statusOf};
-ghost use Rattle.program_runs.specs.Answers.{failedIn};
+ghost use Rattle.program_runs.specs.AnsweredRuns.{failedIn};
 
 // How far standard input was read, what standard output has taken, and the status.
-pub struct Outcome {
+pub struct AnswerOutcome {
     pub input: Input,
     pub sent: Sent,
     pub status: u8,
@@ -27,12 +27,12 @@ fn has_failed(input: Input, sent: Sent) -> bool
 }
 
 // The end of a run that answered its input.
-pub fn ended(input: Input, said: Said) -> Outcome
+pub fn ended(input: Input, said: Said) -> AnswerOutcome
     ensures { λ r. ⌜ (r .input ≡ input) × (r .sent ≡ said .sent) × (r .status ≡ statusOf (failedIn input (said .sent)) (said .refused)) ⌝ }
 {
     let sent = said.sent;
     let status = program_status::status(has_failed(input, sent), said.refused);
-    Outcome {
+    AnswerOutcome {
         input,
         sent,
         status,
@@ -40,7 +40,7 @@ pub fn ended(input: Input, said: Said) -> Outcome
 }
 
 // The end of a run whose input could not be read: nothing was written of it.
-pub fn unread(input: Input) -> Outcome
+pub fn unread(input: Input) -> AnswerOutcome
     ensures { λ r. ⌜ (r .input ≡ input) × (r .sent .bytes ≡ 0) × (r .status ≡ statusOf (failedIn input (r .sent)) false) ⌝ }
 {
     let sent = streams::nothing_sent();

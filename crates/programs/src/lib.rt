@@ -72,7 +72,7 @@ pub extern "C" fn scullpouch_program_reconcile() -> i32 {
     let none = streams::nothing_sent();
     let asked = program_arguments::asked_for();
     match asked {
-        Asked::Nothing => reconcile_run::run().status as i32,
+        Asked::Nothing => reconcile_run::run().rows.status as i32,
         Asked::Help => program_arguments::shown(program_help::reconcile_help(none)) as i32,
         Asked::Version => program_arguments::shown(program_help::reconcile_version(none)) as i32,
         Asked::Other => program_arguments::refused(b"reconcile") as i32,
@@ -101,7 +101,7 @@ pub extern "C" fn scullpouch_program_gateway() -> i32 {
         Asked::Help => program_arguments::shown(program_help::gateway_help(none)) as i32,
         Asked::Version => program_arguments::shown(program_help::gateway_version(none)) as i32,
         Asked::Other => gateway_other(),
-        Asked::Nothing => gateway_run::run().status as i32,
+        Asked::Nothing => gateway_run::run(gateway_run::number_said()).status as i32,
     }
 }
 
@@ -110,5 +110,5 @@ fn gateway_other() -> i32 {
     if program_arguments::begins_with_hyphen() {
         return program_arguments::refused(b"gateway") as i32;
     }
-    gateway_run::run().status as i32
+    gateway_run::run(gateway_run::number_said()).status as i32
 }

@@ -1,1 +1,1 @@
-mod WholeRun
+mod QueryWholeRun

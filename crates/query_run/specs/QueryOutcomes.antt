@@ -14,16 +14,16 @@ use Rattle.streams.specs.Inputs.{ForInput}
 use Rattle.program_status.specs.Statuses.{statusOf}
 use Rattle.streams.specs.declared.calls.Transfer.{Transfer}
 use Rattle.delivery_queries.specs.Queries.{queryText, queryRefused, queryTold}
-use Rattle.query_run.specs.declared.Answered.{Answered}
+use Rattle.query_run.specs.declared.QuestionsAnswered.{QuestionsAnswered}
 use Rattle.query_run.specs.declared.QueryOutcome.{QueryOutcome}
 
 -- no read of standard input was made, as all are left, and nothing was written
-pub record NothingAnswered (r : Answered) : Type 0 where
+pub record NothingAnswered (r : QuestionsAnswered) : Type 0 where
   pub unread : (r .input .left ≡ 18446744073709551615) × (r .input .bytes ≡ 0) × (r .input .failed ≡ false)
   pub unsent : (r .sent .open ≡ true) × (r .sent .bytes ≡ 0)
 
 -- on a file and notices that were read
-pub record QueryAnswered (f notices : List ℕ) (r : Answered) : Type 0 where
+pub record QueryAnswered (f notices : List ℕ) (r : QuestionsAnswered) : Type 0 where
   -- 'Standard error has `master.bin: NO n` or `notices.txt:K: BAD`, or nothing':
   -- as many bytes were told as the definition's text has
   pub told : r .told .bytes ≡ length (queryTold f notices)
@@ -35,11 +35,11 @@ pub record QueryAnswered (f notices : List ℕ) (r : Answered) : Type 0 where
       (λ input. (r .sent .bytes ≡ counted 0 (length (queryText f notices input))) × (r .refused ≡ queryRefused f notices input))
 
 -- a file or standard input could not be read, or the output did not take all
-unfoldable pub runFailed : Transfer → Transfer → Answered → Bool
+unfoldable pub runFailed : Transfer → Transfer → QuestionsAnswered → Bool
 runFailed file notices a = file .failed || (notices .failed || (a .input .failed || not (a .sent .open)))
 
 -- only the code needs it: a run by what it read and answered, with its status
-abbrev pub outcomeOf : Transfer → Transfer → Answered → QueryOutcome
+abbrev pub outcomeOf : Transfer → Transfer → QuestionsAnswered → QueryOutcome
 outcomeOf file notices a = record { file = file; notices = notices; answered = a; status = statusOf (runFailed file notices a) (a .refused) }
 
 -- a run: there are a file and notices with as many bytes as were read; that they are those which were read is not said.
@@ -52,5 +52,5 @@ pub record QueryRunEnds (r : QueryOutcome) : Type 0 where
   -- one that cannot be read ends the run: no question is read, nothing is written, and nothing is told but the system's reason
   pub failed : (r .file .failed ≡ true) ⊎ (r .notices .failed ≡ true) → NothingAnswered (r .answered) × (r .answered .told .bytes ≡ 0)
   pub answered : r .file .failed ≡ false → r .notices .failed ≡ false → QueryAnswered master notices (r .answered)
-  -- by `whole-status` (proofs, WholeRun) it is then, of a run that did not fail, 1 where `queryRefused` says so of the same input, else 0
+  -- by `whole-status` (proofs, QueryWholeRun) it is then, of a run that did not fail, 1 where `queryRefused` says so of the same input, else 0
   pub status : r .status ≡ statusOf (runFailed (r .file) (r .notices) (r .answered)) (r .answered .refused)

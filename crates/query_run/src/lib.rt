@@ -20,7 +20,7 @@ ghost use Rattle.query_run.specs.QueryOutcomes.{NothingAnswered, QueryAn
 
 // How far standard input was read, what has been written, how much was told of the two files,
 // and whether the file or a notice is refused or an answer is `NO n` or `BAD K`.
-pub struct Answered {
+pub struct QuestionsAnswered {
     pub input: Input,
     pub sent: Sent,
     pub told: Told,
@@ -31,14 +31,14 @@ pub struct Answered {
 pub struct QueryOutcome {
     pub file: Transfer,
     pub notices: Transfer,
-    pub answered: Answered,
+    pub answered: QuestionsAnswered,
     pub status: u8,
 }
 
 // What was read of the notices, and what was answered.
 struct NoticesRun {
     notices: Transfer,
-    answered: Answered,
+    answered: QuestionsAnswered,
 }
 
 // Tells a line on standard error, which has to be what is told of a file and of notices.
@@ -52,12 +52,12 @@ fn tell(file: &[u8], text: &[u8], line: Line) -> Told
 }
 
 // A run that reads nothing of standard input and writes nothing.
-fn nothing_answered(told: Told, refused: bool) -> Answered
+fn nothing_answered(told: Told, refused: bool) -> QuestionsAnswered
     ensures { λ r. ⌜ NothingAnswered r × (r .told ≡ told) × (r .refused ≡ refused) ⌝ }
 {
     let input = streams::nothing_read();
     let sent = streams::nothing_sent();
-    Answered {
+    QuestionsAnswered {
         input,
         sent,
         told,
@@ -66,13 +66,13 @@ fn nothing_answered(told: Told, refused: bool) -> Answered
 }
 
 // A run that answers the questions, and tells nothing of the two files.
-fn questions_answered(ended: QueryEnded) -> Answered
+fn questions_answered(ended: QueryEnded) -> QuestionsAnswered
     ensures { λ r. ⌜ (r .input ≡ ended .input) × (r .sent ≡ ended .sent) × (r .told .bytes ≡ 0) × (r .refused ≡ ended .refused) ⌝ }
 {
     let input = ended.input;
     let sent = ended.sent;
     let told = streams::nothing_told();
-    Answered {
+    QuestionsAnswered {
         input,
         sent,
         told,
@@ -88,7 +88,7 @@ fn answer(
     calls: &mut [u32],
     ids: &mut [u8],
     refusals: &mut [u8],
-) -> Answered
+) -> QuestionsAnswered
     requires { ⌜ (calendarAnswer judged ≡ judgeCall (now file)) × (32770 ≤ length (now calls)) × (26216 ≤ length (now ids)) × (65538 ≤ length (now refusals)) ⌝ }
     ensures { λ r. ⌜ QueryAnswered (now (file .entry)) (now (text .entry)) r ⌝ }
 {
@@ -148,7 +148,7 @@ fn judged(
 }
 
 // A run with its status: whether a file or standard input could not be read or the output did not take all, and whether something is refused or bad.
-fn outcome(file: Transfer, notices: Transfer, answered: Answered) -> QueryOutcome
+fn outcome(file: Transfer, notices: Transfer, answered: QuestionsAnswered) -> QueryOutcome
     ensures { λ r. ⌜ r ≡ outcomeOf file notices answered ⌝ }
 {
     let input = answered.input;

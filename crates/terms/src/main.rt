@@ -1,4 +1,4 @@
 // The program `terms`: reads master.bin and commands from standard input, and prints the answers.
 fn main() {
-    terms_run::run();
+    programs::scullpouch_program_terms();
 }

@@ -1,1 +1,1 @@
-pub mod TermsRuns
+pub mod TermsOutcomes

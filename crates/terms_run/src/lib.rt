@@ -11,7 +11,7 @@ ghost use Rattle.session_command.specs.Sessions.{termsText, termsRefused};
 ghost use Rattle.session_parts.specs.TermsParts.{counted};
 ghost use Rattle.streams.specs.Inputs.{ForInput};
 ghost use Rattle.program_status.specs.Statuses.{statusOf};
-ghost use Rattle.terms_run.specs.TermsRuns.{termsFailed, endedWith, TermsRan};
+ghost use Rattle.terms_run.specs.TermsOutcomes.{termsFailed, endedWith, TermsRan};
 
 // How many bytes of master.bin were read, how far the input was, what was sent of the text, and the status with which the program ends.
 pub struct TermsOutcome {

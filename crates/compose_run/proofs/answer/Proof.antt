@@ -4,7 +4,7 @@ use native.Mathlib.Omega.{arith}
 use mathlib.Core.Path.{refl, sym}
 use Rattle.file_text_read.proofs.ListLines.{composed-fits}
 use Rattle.file_text_told.proofs.Whole.{of-input, line-short}
-use Rattle.compose_run.proofs.Statuses.{compose-ran}
+use Rattle.compose_run.proofs.ComposeStatus.{compose-ran}
 use Rattle.compose_run.proofs.answer.Statement.{statement}
 use Rattle.compose_run.proofs.answer.Tie as tie
 

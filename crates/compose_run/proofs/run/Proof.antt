@@ -1,7 +1,7 @@
 -- A list that was read without a failure is answered; of another nothing is handed out, and the status is that of a failure.
 use borrow.Author.Needs.{needs}
 use mathlib.Core.Path.{sym, _∙_}
-use Rattle.compose_run.proofs.Statuses.{compose-read, compose-unread}
+use Rattle.compose_run.proofs.ComposeStatus.{compose-read, compose-unread}
 use Rattle.compose_run.proofs.run.Statement.{statement}
 use Rattle.compose_run.proofs.run.Tie as tie
 

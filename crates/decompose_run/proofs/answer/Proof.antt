@@ -4,7 +4,7 @@ use mathlib.Core.Path.{sym, ap, _∙_}
 use borrow.Author.Needs.{needs}
 use Rattle.questions.specs.Questions.{Answer}
 use Rattle.file_load.specs.declared.Counts.{Counts}
-use Rattle.decompose_run.proofs.FirstBytes.{refused-is, accepted-is}
+use Rattle.decompose_run.proofs.FileFirstBytes.{refused-is, accepted-is}
 use Rattle.decompose_run.proofs.answer.Statement.{statement}
 use Rattle.decompose_run.proofs.answer.Tie as tie
 

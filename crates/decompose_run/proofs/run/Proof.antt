@@ -4,7 +4,7 @@ use mathlib.Core.Path.{sym, _∙_}
 use native.Mathlib.Omega.{arith}
 use borrow.Author.Needs.{needs}
 use Rattle.program_runs.proofs.WholeInputs.{answers-unread, answers-all}
-use Rattle.decompose_run.proofs.FirstBytes.{decided}
+use Rattle.decompose_run.proofs.FileFirstBytes.{decided}
 use Rattle.decompose_run.proofs.run.Statement.{statement}
 use Rattle.decompose_run.proofs.run.Tie as tie
 

@@ -1,5 +1,5 @@
 -- The line that is written is what is said after the reads, and its bytes are counted; the status is by the same end.
-use Rattle.gateway_run.proofs.Statuses.{gateway-ended}
+use Rattle.gateway_run.proofs.GatewayStatus.{gateway-ended}
 use Rattle.gateway_run.proofs.run.Statement.{statement}
 use Rattle.gateway_run.proofs.run.Tie as tie
 

@@ -1,5 +1,5 @@
 -- Shown: the answer is the definition's, by what the two calls promise.
-use Rattle.program_runs.specs.Answers.{failedIn}
+use Rattle.program_runs.specs.AnsweredRuns.{failedIn}
 use Rattle.program_runs.proofs.has_failed.Statement.{statement}
 use Rattle.program_runs.proofs.has_failed.Tie as tie
 

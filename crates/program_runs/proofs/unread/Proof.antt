@@ -3,7 +3,7 @@ use mathlib.Core.Path.{ap, sym, _∙_}
 use mathlib.Core.Bool.{false}
 use Rattle.streams.specs.declared.output.Sent.{Sent}
 use Rattle.program_status.specs.Statuses.{statusOf}
-use Rattle.program_runs.specs.Answers.{failedIn}
+use Rattle.program_runs.specs.AnsweredRuns.{failedIn}
 use Rattle.program_runs.proofs.unread.Statement.{statement}
 use Rattle.program_runs.proofs.unread.Tie as tie
 

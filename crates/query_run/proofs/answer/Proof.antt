@@ -1,5 +1,5 @@
 -- A file that is refused and a bad line are told in one line, which is the text; without them the run is one on the file and the notices.
-use Rattle.query_run.proofs.WholeRun.{master-told, master-refused, line-told, line-refused, all-answered}
+use Rattle.query_run.proofs.QueryWholeRun.{master-told, master-refused, line-told, line-refused, all-answered}
 use borrow.Author.Needs.{needs}
 use Rattle.query_run.proofs.answer.Statement.{statement}
 use Rattle.query_run.proofs.answer.Tie as tie

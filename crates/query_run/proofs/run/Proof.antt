@@ -2,7 +2,7 @@
 use mathlib.Core.Path.{sym, ap, _∙_}
 use lib.Seq.{length-take-le}
 use Rattle.streams.specs.declared.output.Told.{Told}
-use Rattle.query_run.proofs.WholeRun.{file-failed, file-read}
+use Rattle.query_run.proofs.QueryWholeRun.{file-failed, file-read}
 use borrow.Author.Needs.{needs}
 use Rattle.query_run.proofs.run.Statement.{statement}
 use Rattle.query_run.proofs.run.Tie as tie

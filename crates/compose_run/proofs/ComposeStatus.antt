@@ -12,7 +12,7 @@ use Rattle.file_text_told.proofs.Lengths.{told-short}
 use Rattle.program_status.specs.Statuses.{statusOf}
 use Rattle.streams.specs.declared.reads.Input.{Input}
 use Rattle.compose_run.specs.declared.output.Handed.{Handed}
-use Rattle.compose_run.specs.declared.Outcome.{Outcome}
+use Rattle.compose_run.specs.declared.ComposeOutcome.{ComposeOutcome}
 use Rattle.compose_run.specs.ComposeRuns.{composeRefused, ComposeRan, ComposeEnded}
 
 refused-is : (input : List ℕ) (long : ℕ) → long ≡ length (composeTold input) → not (eqb long 0) ≡ composeRefused input
@@ -28,10 +28,10 @@ compose-ran n h status long r t s =
     record { ran = r; ends = s ∙ ap (λ (b : Bool). statusOf (not (h .sent .open)) b) (refused-is (r .input) long e) }
 
 -- a run that read its list
-pub compose-read : (r : Outcome) (i : Input) → r .input ≡ i → i .left ≡ 0 → i .failed ≡ false → ComposeRan (i .bytes) (r .handed) (r .status) → ComposeEnded r
+pub compose-read : (r : ComposeOutcome) (i : Input) → r .input ≡ i → i .left ≡ 0 → i .failed ≡ false → ComposeRan (i .bytes) (r .handed) (r .status) → ComposeEnded r
 compose-read r i e l f a = rw e record { read = l; ran = λ _. a; unread = λ x. absurd (true≢false (sym x ∙ f)) }
 
 -- a run whose list could not be read to its end
-pub compose-unread : (r : Outcome) → r .input .left ≡ 0 → r .input .failed ≡ true → r .handed .sent .bytes ≡ 0 → r .handed .told .bytes ≡ 0
+pub compose-unread : (r : ComposeOutcome) → r .input .left ≡ 0 → r .input .failed ≡ true → r .handed .sent .bytes ≡ 0 → r .handed .told .bytes ≡ 0
     → r .status ≡ statusOf true false → ComposeEnded r
 compose-unread r l f a b s = record { read = l; ran = λ x. absurd (true≢false (sym f ∙ x)); unread = λ _. (a, b, s) }

@@ -36,7 +36,7 @@ use Rattle.delivery_queries.proofs.NoticeCounts.{told-own, told-bad, told-maste
 use Rattle.delivery_sessions.specs.QueryRuns.{QueryRan, RanOn}
 use Rattle.delivery_sessions.proofs.QueryRuns.{ran-own, query-count, query-refused, master-none, no-answers}
 use Rattle.query_input.specs.declared.QueryEnded.{QueryEnded}
-use Rattle.query_run.specs.declared.Answered.{Answered}
+use Rattle.query_run.specs.declared.QuestionsAnswered.{QuestionsAnswered}
 use Rattle.query_run.specs.declared.QueryOutcome.{QueryOutcome}
 use Rattle.query_run.specs.QueryOutcomes.{NothingAnswered, QueryAnswered, runFailed, outcomeOf, QueryRunEnds}
 use borrow.Author.Tests.{le-leb, ne-eqb}
@@ -65,7 +65,7 @@ number-is judged f e = ap (λ (a : Answer Calendar). a .refusal) e
 
 -- ---- nothing is answered
 
-module _ (f text : List ℕ) (r : Answered) (told : Told) (d : NothingAnswered r × (r .told ≡ told) × (r .refused ≡ true))
+module _ (f text : List ℕ) (r : QuestionsAnswered) (told : Told) (d : NothingAnswered r × (r .told ≡ told) × (r .refused ≡ true))
     (q : told .bytes ≡ length (queryTold f text)) where
   n : NothingAnswered r
   n = d .0
@@ -94,7 +94,7 @@ module _ (judged : FileCalendar) (f text : List ℕ) (e : calendarAnswer judged 
   master-told l made = rw (← told-master f text not-accepted, ← number-is judged f e) made
 
   -- nothing is answered
-  pub master-refused : (r : Answered) (told : Told) → NothingAnswered r × (r .told ≡ told) × (r .refused ≡ true)
+  pub master-refused : (r : QuestionsAnswered) (told : Told) → NothingAnswered r × (r .told ≡ told) × (r .refused ≡ true)
       → told .bytes ≡ length (queryTold f text) → QueryAnswered f text r
   master-refused r told d q = no-text f text r told d q (λ input. master-none f text input not-accepted)
 
@@ -116,7 +116,7 @@ module _ (judged : FileCalendar) (f text calls calls′ ids ids′ : List ℕ) (
   line-told l n made = rw (← told-line f text accepted (λ q. n (bad-is ∙ q)), ← bad-is) made
 
   -- of notices with a bad line nothing is answered
-  pub line-refused : (t .bad ≡ 0 → ⊥) → (r : Answered) (told : Told) → NothingAnswered r × (r .told ≡ told) × (r .refused ≡ true)
+  pub line-refused : (t .bad ≡ 0 → ⊥) → (r : QuestionsAnswered) (told : Told) → NothingAnswered r × (r .told ≡ told) × (r .refused ≡ true)
       → told .bytes ≡ length (queryTold f text) → QueryAnswered f text r
   line-refused n r told d q = no-text f text r told d q (λ input. no-answers f text input accepted (λ x. n (bad-is ∙ x)))
 
@@ -148,7 +148,7 @@ module _ (judged : FileCalendar) (f text calls calls′ ids ids′ : List ℕ) (
   pub all-answered : t .bad ≡ 0 → (room : ℕ) → 65538 ≤ room → (d : QueryEnded)
       → (d .sent .open ≡ true → d .input .failed ≡ false → (d .input .left ≡ 0) × QueryRan (standingIn judged f t calls′ ids′ room) (d .sent .bytes)
       (d .refused) (d .input .bytes))
-      → (r : Answered) → (r .input ≡ d .input) × (r .sent ≡ d .sent) × (r .told .bytes ≡ 0) × (r .refused ≡ d .refused) → QueryAnswered f text r
+      → (r : QuestionsAnswered) → (r .input ≡ d .input) × (r .sent ≡ d .sent) × (r .told .bytes ≡ 0) × (r .refused ≡ d .refused) → QueryAnswered f text r
   all-answered g room h d w r q =
       record {
         told = q .2 ∙ ap length (told-nothing f text accepted (sym bad-is ∙ g));
@@ -161,7 +161,7 @@ module _ (judged : FileCalendar) (f text calls calls′ ids ids′ : List ℕ) (
 
 -- ---- the whole run
 
-module _ (file notices : Transfer) (a : Answered) (r : QueryOutcome) (o : r ≡ outcomeOf file notices a) where
+module _ (file notices : Transfer) (a : QuestionsAnswered) (r : QueryOutcome) (o : r ≡ outcomeOf file notices a) where
   -- a file that cannot be read ends the run
   pub file-failed : file .failed ≡ true → notices .length ≡ 0 → NothingAnswered a → a .told .bytes ≡ 0 → QueryRunEnds r
   file-failed e z n t =

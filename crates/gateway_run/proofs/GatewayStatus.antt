@@ -17,7 +17,7 @@ use Rattle.file_intake_text.specs.GatewayTexts.{countsText, resultText, takenTe
 use Rattle.file_intake_text.proofs.Pieces.{gateway-ran}
 use Rattle.program_status.specs.Statuses.{statusOf}
 use Rattle.streams.specs.Inputs.{ForInput}
-use Rattle.gateway_run.specs.declared.Outcome.{Outcome}
+use Rattle.gateway_run.specs.declared.GatewayOutcome.{GatewayOutcome}
 use Rattle.gateway_run.specs.GatewayRuns.{takenRefusal, gatewayRefused, GatewayEnded}
 
 -- ---- the first byte of a line, O or N
@@ -62,7 +62,7 @@ read-status : (a b c d : Bool) → a ≡ false → c ≡ d → statusOf (a || b)
 read-status a b c d e q = rw (e, q) refl
 
 -- the line of what a run ended with was written, and the status is by it
-pub gateway-ended : (n : ℕ) (e : Ended) (r : Outcome) → GatewaySays n (r .input) (endedText e) → r .sent .bytes ≡ length (endedText e)
+pub gateway-ended : (n : ℕ) (e : Ended) (r : GatewayOutcome) → GatewaySays n (r .input) (endedText e) → r .sent .bytes ≡ length (endedText e)
     → r .status ≡ statusOf (r .input .failed || not (r .sent .open)) (not (eqb (e .refusal) 0)) → GatewayEnded n r
 gateway-ended n e r says count s =
     record {
