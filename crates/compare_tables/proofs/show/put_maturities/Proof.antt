@@ -11,41 +11,7 @@ Inv-loop maturities i₀ i = i ≤ 15
 abbrev μ-loop : tie.MeasureT-loop
 μ-loop maturities i₀ i = 15 - i
 
--- ---- the needs
-loop-holds : tie.Need-loop-holds Inv-loop μ-loop
-loop-holds c = search needs
-
-mul-m : tie.Need-mul-m Inv-loop μ-loop
-mul-m c = search needs
-
-array-copy-out-m : tie.Need-array-copy-out-m Inv-loop μ-loop
-array-copy-out-m c = search needs
-
-put-short-requires : tie.Need-put-short-requires Inv-loop μ-loop
-put-short-requires c κs = tt
-
-put-short-requires-2 : tie.Need-put-short-requires-2 Inv-loop μ-loop
-put-short-requires-2 c κs = tt
-
-put-short-requires-3 : tie.Need-put-short-requires-3 Inv-loop μ-loop
-put-short-requires-3 c κs = tt
-
-put-short-requires-4 : tie.Need-put-short-requires-4 Inv-loop μ-loop
-put-short-requires-4 c κs = tt
-
-add-i : tie.Need-add-i Inv-loop μ-loop
-add-i c = search needs
-
-loop-less : tie.Need-loop-less Inv-loop μ-loop
-loop-less c = search needs
-
-loop-again : tie.Need-loop-again Inv-loop μ-loop
-loop-again c = search needs
-
-returns : tie.Need-returns Inv-loop μ-loop
-returns c = search needs
-
 pub put-maturities-spec : {M : Type 1} → statement M
 put-maturities-spec =
-    tie.close (tie.spec Inv-loop μ-loop loop-holds mul-m array-copy-out-m put-short-requires put-short-requires-2 put-short-requires-3 put-short-requires-4
-    add-i loop-less loop-again returns)
+    tie.close (tie.spec Inv-loop μ-loop (λ c. search needs) (λ c. search needs) (λ c. search needs) (λ c κs. tt) (λ c κs. tt) (λ c κs. tt) (λ c κs. tt)
+    (λ c. search needs) (λ c. search needs) (λ c. search needs) (λ c. search needs))
