@@ -12,6 +12,7 @@ use lib.Seq.{drop-cons}
 use borrow.Author.Tests.{eq-eqb, ne-eqb}
 use Rattle.questions.proofs.Bools.{clash}
 use Rattle.session_lines.specs.CommandLines.{linesFrom}
+use Rattle.session_lines.specs.InputRest.{restOver}
 use Rattle.delivery_lines.specs.NoticeLines.{unmarked}
 use Rattle.delivery_items.specs.declared.LongLine.{LongLine}
 use Rattle.delivery_items.specs.Items.{emptyLong, lengthened, fedLong, heldRead}
@@ -23,12 +24,12 @@ use Rattle.delivery_receipts.specs.Receiving.{LineFed}
 module _ (room : ℕ) (f : List ℕ) (s : Receipt) (l : LongLine) (part : List ℕ) (i : ℕ) (h : i < length part) (rest : List ℕ) where
   feed-ends : getD part i 0 ≡ 10 → restReceived room f s l (drop i part ++ rest)
       ≡ restReceived room f (lineReceived room f s (heldRead l)) emptyLong (drop (i + 1) part ++ rest)
-  unfolding restReceived
+  unfolding restReceived restOver
   feed-ends e = rw (drop-cons part i 0 h, eq-eqb (getD part i 0) 10 e, add-one i) refl
 
   feed-more : (getD part i 0 ≡ 10 → ⊥) → restReceived room f s l (drop i part ++ rest)
       ≡ restReceived room f s (lengthened l (getD part i 0)) (drop (i + 1) part ++ rest)
-  unfolding restReceived
+  unfolding restReceived restOver
   feed-more e = rw (drop-cons part i 0 h, ne-eqb (getD part i 0) 10 e, add-one i) refl
 
 -- bytes so far, no line feed among them
@@ -87,7 +88,7 @@ no-bytes = refl
 
 whole : (room : ℕ) (f : List ℕ) (s : Receipt) (begun input : List ℕ)
     → restReceived room f s (fedLong emptyLong begun) input ≡ linesReceived room f s (linesFrom begun input)
-unfolding restReceived linesReceived linesFrom
+unfolding restReceived restOver linesReceived linesFrom
 whole room f s begun [] = rw (any-empty begun) (go (eqb (length begun) 0))
   where
     go : (b : Bool) → cond b s (lineReceived room f s (heldRead (fedLong emptyLong begun))) ≡ linesReceived room f s (cond b [] (begun ∷ []))
