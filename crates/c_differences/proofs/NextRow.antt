@@ -17,6 +17,7 @@ use Rattle.delivery_items.specs.Items.{emptyLong, heldRead}
 use Rattle.delivery_items.specs.LineEnds.{lineEnd}
 use Rattle.delivery_items.proofs.LineEnds.{end-on, end-within}
 use Rattle.delivery_receipts.specs.declared.Receiving.{Receiving}
+use Rattle.session_lines.specs.InputRest.{restOver}
 use Rattle.delivery_receipts.specs.Receipts.{Receipt, lineReceived, restReceived}
 use Rattle.delivery_receipts.specs.Receiving.{Lists, roomIn, receiptIn, toldOf, SameLengths, RowLineIn}
 use Rattle.delivery_receipts.proofs.RowLinesFed.{received-ended, received-begun}
@@ -36,7 +37,7 @@ module _ (text : List ℕ) (next : ℕ) where
 
 -- nothing is left of a text
 pub no-line : (room : ℕ) (f : List ℕ) (s : Receipt) → restReceived room f s emptyLong [] ≡ s
-unfolding restReceived emptyLong
+unfolding restReceived restOver emptyLong
 no-line room f s = refl
 
 -- at the end of a text nothing is left, also of one that is empty
@@ -54,11 +55,11 @@ at-end text next h = go (eq-or-ne next)
 -- a line begun at the end of a text
 module _ (room : ℕ) (f : List ℕ) (s : Receipt) (l : LongLine) where
   ends-empty : l .length ≡ 0 → restReceived room f s l [] ≡ s
-  unfolding restReceived
+  unfolding restReceived restOver
   ends-empty z = rw (eq-eqb (l .length) 0 z) refl
 
   ends-line : (l .length ≡ 0 → ⊥) → restReceived room f s l [] ≡ lineReceived room f s (heldRead l)
-  unfolding restReceived
+  unfolding restReceived restOver
   ends-line n = rw (ne-eqb (l .length) 0 n) refl
 
 same-lengths : (a : Lists) → SameLengths a a

@@ -173,6 +173,7 @@ pub fn print_places(
     places: &mut [u16],
 ) -> LinesPrinted
     ensures { λ r. ⌜ (length (now (file .entry)) ≤ 65537 → PlacesOut (openIn (calendarAnswer judged) (now (file .entry))) (now (file .entry)) (t .date) (t .count) (now (calls .entry)) (now (of .entry)) (record { ids = now (ids .entry); keys = now (keys .entry); days = now (days .entry); fulls = now (fulls .entry); numbers = now (numbers .entry); backs = now (backs .entry) }) rows (length (now (places .entry))) (placeCount (now (file .entry))) sent r) ⌝ }
+    ensures { λ r. ⌜ r .lines ≤ 125829120 ⌝ }
 {
     let mut so_far = sent;
     let mut lines: u64 = 0;

@@ -1,6 +1,6 @@
 -- The lines of an input, byte by byte.
 -- Assumes nothing.
-use mathlib.Core.Path.{_≡_, refl, _∙_, sym, ap, ap₂}
+use mathlib.Core.Path.{_≡_, refl, _∙_, sym, ap}
 use mathlib.Core.Bool.{Bool, true, false, cond}
 use mathlib.Core.List.{List, [], _∷_, _++_}
 use Prim.Native.Nat.{ℕ}
@@ -17,34 +17,19 @@ use Rattle.delivery_items.proofs.LongItems.{any-length, any-empty, fed-more}
 use Rattle.delivery_items.proofs.LineEnds.{rest-ended, rest-begun}
 use Rattle.delivery_receipts.specs.Receipts.{Receipt, noReceipt, lineReceived, linesReceived, receiptOf, restReceived}
 
--- what is received for the rest of an input is what is given for it, over receipts
-module _ (room : ℕ) (f : List ℕ) where
-  received : Receipt → LongLine → (Receipt → Receipt) → Receipt
-  received s l next = next (lineReceived room f s (heldRead l))
-
-  over-receipts : (s : Receipt) (l : LongLine) (rest : List ℕ)
-      → restReceived room f s l rest ≡ restOver emptyLong lengthened (λ x. x .length) (λ x. x) received s l rest
-  unfolding restReceived restOver received
-  over-receipts s l [] = refl
-  over-receipts s l (byte ∷ rest) =
-      ap₂ (cond (eqb byte 10)) (over-receipts (lineReceived room f s (heldRead l)) emptyLong rest) (over-receipts s (lengthened l byte) rest)
-
 -- a line from a place of a part on
 module _ (l : LongLine) (part : List ℕ) (from : ℕ) (e : LineEnd) (is : e ≡ lineEnd l (drop from part) from)
     (room : ℕ) (f : List ℕ) (s : Receipt) (rest : List ℕ) where
   -- one that ends is received, and the next begins after it
   pub received-ended : e .ended ≡ true → restReceived room f s l (drop from part ++ rest)
       ≡ restReceived room f (lineReceived room f s (heldRead (e .line))) emptyLong (drop (e .next) part ++ rest)
-  unfolding received
-  received-ended y =
-      over-receipts room f s l (drop from part ++ rest) ∙ rest-ended l part from e is (λ x. x) (received room f) s rest y
-      ∙ sym (over-receipts room f (lineReceived room f s (heldRead (e .line))) emptyLong (drop (e .next) part ++ rest))
+  unfolding restReceived
+  received-ended y = rest-ended l part from e is _ _ s rest y
 
   -- one that does not end goes on after the part
   pub received-begun : e .ended ≡ false → restReceived room f s l (drop from part ++ rest) ≡ restReceived room f s (e .line) rest
-  received-begun n =
-      over-receipts room f s l (drop from part ++ rest) ∙ rest-begun l part from e is (λ x. x) (received room f) s rest n
-      ∙ sym (over-receipts room f s (e .line) rest)
+  unfolding restReceived
+  received-begun n = rest-begun l part from e is _ _ s rest n
 
 -- ---- the whole input
 
@@ -54,7 +39,7 @@ no-bytes = refl
 
 whole : (room : ℕ) (f : List ℕ) (s : Receipt) (begun input : List ℕ)
     → restReceived room f s (fedLong emptyLong begun) input ≡ linesReceived room f s (linesFrom begun input)
-unfolding restReceived linesReceived linesFrom
+unfolding restReceived restOver linesReceived linesFrom
 whole room f s begun [] = rw (any-empty begun) (go (eqb (length begun) 0))
   where
     go : (b : Bool) → cond b s (lineReceived room f s (heldRead (fedLong emptyLong begun))) ≡ linesReceived room f s (cond b [] (begun ∷ []))

@@ -4,11 +4,12 @@
 use Prim.Native.Nat.{ℕ}
 use mathlib.Core.Bool.{Bool, true, false, not, _&&_, _||_, cond}
 use mathlib.Core.List.{List, [], _∷_, _++_}
-use lib.Dec.{eqb, ltb}
+use lib.Dec.{ltb}
 use lib.ListN.{length}
 use Rattle.product.specs.Fields.{isWeekly}
 use Rattle.file_load.specs.Load.{found, productOf}
 use Rattle.session_lines.specs.CommandLines.{linesFrom}
+use Rattle.session_lines.specs.InputRest.{restOver}
 use Rattle.file_text_read.specs.Lists.{nextLine}
 use Rattle.delivery_lines.specs.NoticeLines.{unmarked}
 use Rattle.delivery_items.specs.declared.ItemRead.{ItemRead}
@@ -95,8 +96,6 @@ linesReceived room f s (line ∷ lines) = linesReceived room f (lineReceived roo
 unfoldable pub receiptOf : List ℕ → List ℕ → Receipt
 receiptOf f input = linesReceived 65536 f noReceipt (linesFrom [] (unmarked input))
 
--- after the rest of an input, with a line begun; from `noReceipt` and an empty line this is `receiptOf` (proofs, Feeding: `whole-input`)
+-- after the rest of an input, with a line begun; from `noReceipt` and an empty line this is `receiptOf` (proofs, RowLinesFed: `whole-input`)
 unfoldable pub restReceived : ℕ → List ℕ → Receipt → LongLine → List ℕ → Receipt
-restReceived room f s l [] = cond (eqb (l .length) 0) s (lineReceived room f s (heldRead l))
-restReceived room f s l (byte ∷ rest) =
-    cond (eqb byte 10) (restReceived room f (lineReceived room f s (heldRead l)) emptyLong rest) (restReceived room f s (lengthened l byte) rest)
+restReceived room f = restOver emptyLong lengthened (λ l. l .length) (λ s. s) (λ s l next. next (lineReceived room f s (heldRead l)))

@@ -54,65 +54,43 @@ fn form_fits(file: &[u8], item: ItemRead) -> bool
     }
 }
 
+// What is received: so many good rows, whether a line was there that is not empty, so many lines, whether there was a good row too many,
+// and the number of the last line where it is bad.
+fn received(rows: u32, begun: bool, lines: u32, over: bool, bad: u32) -> Receiving
+    ensures { λ r. ⌜ r ≡ record { rows = rows; begun = begun; lines = lines; over = over; bad = bad } ⌝ }
+{
+    Receiving {
+        rows,
+        begun,
+        lines,
+        over,
+        bad,
+    }
+}
+
 // The state after a line that says this.
 fn receive(file: &[u8], s: Receiving, read: LineRead, room: u32) -> Receiving
     requires { ⌜ room ≤ 65536 ⌝ }
     ensures { λ r. ⌜ r ≡ receiving room (now (file .entry)) s read ⌝ }
 {
     if s.over {
-        return Receiving {
-            rows: s.rows,
-            begun: s.begun,
-            lines: s.lines,
-            over: s.over,
-            bad: 0,
-        };
+        return received(s.rows, s.begun, s.lines, s.over, 0);
     }
     let lines = file_text_read::next_line(s.lines);
     if read.empty {
-        return Receiving {
-            rows: s.rows,
-            begun: s.begun,
-            lines,
-            over: false,
-            bad: 0,
-        };
+        return received(s.rows, s.begun, lines, false, 0);
     }
     if !s.begun & read.heading {
-        return Receiving {
-            rows: s.rows,
-            begun: true,
-            lines,
-            over: false,
-            bad: 0,
-        };
+        return received(s.rows, true, lines, false, 0);
     }
     let item = read.item;
     if !(item.there & form_fits(file, item)) {
-        return Receiving {
-            rows: s.rows,
-            begun: true,
-            lines,
-            over: false,
-            bad: lines,
-        };
+        return received(s.rows, true, lines, false, lines);
     }
     if s.rows < room {
-        return Receiving {
-            rows: s.rows + 1,
-            begun: true,
-            lines,
-            over: false,
-            bad: 0,
-        };
+        return received(s.rows + 1, true, lines, false, 0);
     }
-    Receiving {
-        rows: s.rows,
-        begun: true,
-        lines,
-        over: true,
-        bad: lines,
-    }
+    received(s.rows, true, lines, true, lines)
 }
 
 // How many rows lists of these lengths have room for: 65,536, or none.

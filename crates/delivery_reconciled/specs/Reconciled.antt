@@ -2,12 +2,12 @@
 -- (docs/DELIVERY.md, `reconcile`, from which the quotations are; docs/DECISIONS.md, The delivery, The reconciliation and The program `reconcile`).
 -- Assumes nothing.
 use Prim.Native.Nat.{ℕ, zero, suc, _+_, _/_, _%_}
-use mathlib.Core.Bool.{Bool, not, _&&_, cond}
+use mathlib.Core.Bool.{Bool, not, _&&_, _||_, cond}
 use mathlib.Core.List.{List, [], _∷_, _++_}
-use lib.Dec.{eqb}
+use lib.Dec.{eqb, ltb}
 use lib.ListN.{length, getD}
 use Rattle.questions.specs.Questions.{firstNo}
-use Rattle.questions.specs.Search.{every}
+use Rattle.questions.specs.Search.{every, some}
 use Rattle.product.specs.declared.Kind.{Kind}
 use Rattle.listing.specs.declared.Maturity.{Maturity}
 use Rattle.file_ids.specs.Ids.{placeCount, isRecord, recordCount, idAt}
@@ -120,3 +120,18 @@ reconcileTold f notices input =
     cond (eqb (firstNo (loadAsks f)) 0)
     (cond (eqb (t .bad) 0) (toldText (openCall f) f t (receiptOf f input)) (badNoticeText (t .bad)))
     (masterText (firstNo (loadAsks f)))
+
+-- the opening of the product at a place is refused
+unfoldable pub openingRefused : (List ℕ → ℕ → Outcome) → List ℕ → ℕ → ℕ → Bool
+openingRefused opening f date p = isRecord f p && not (eqb (opening (idAt f p) date .refusal) 0)
+
+-- 'something was refused, bad or differs' (docs/OPERATIONS.md, 'The status'):
+-- the file, a line of the notices or an opening; a good row is too many or a line of the input bad; a line stands under the heading
+unfoldable pub reconcileRefused : List ℕ → List ℕ → List ℕ → Bool
+reconcileRefused f notices input =
+    let t = textTold notices in
+    let r = receiptOf f input in
+    not (eqb (firstNo (loadAsks f)) 0)
+    || (not (eqb (t .bad) 0)
+    || (some (placeCount f) (openingRefused (openCall f) f (t .date))
+    || (r .over || (ltb 0 (length (r .bads)) || ltb 0 (differCount (openCall f) f t (r .rows))))))

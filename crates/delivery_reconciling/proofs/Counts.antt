@@ -1,8 +1,8 @@
--- The line of the counts has fewer than 64 bytes, so all of it is told.
+-- The line of the counts and the heading have fewer than 64 bytes, so all of them is told and written.
 -- Assumes nothing.
 use mathlib.Core.Path.{_≡_, refl, ap}
 use mathlib.Core.Bool.{cond}
-use mathlib.Core.List.{[], _∷_, _++_}
+use mathlib.Core.List.{List, [], _∷_, _++_}
 use mathlib.Core.Logic.{_⊎_, inl, inr}
 use Prim.Native.Nat.{ℕ, _/_, _%_, _≤_, _<_}
 use native.Mathlib.Omega.{arith}
@@ -10,12 +10,28 @@ use lib.Dec.{ltb}
 use lib.ListN.{length, length-append}
 use borrow.Author.Tests.{lt-ltb, le-ltb}
 use Rattle.questions.proofs.Bools.{lt-or-ge}
+use Rattle.session_lines.specs.declared.Line.{Line}
+use Rattle.session_lines.specs.CommandLines.{emptyLine}
+use Rattle.file_text_print.specs.Contents.{LineWith}
 use Rattle.session_text.specs.TermsText.{inTwoDigits, inFourDigits, decimal}
 use Rattle.session_text.proofs.TermsTexts.{decimal-1}
 use Rattle.file_text_print.proofs.TextLengths.{decimal-short}
 use Rattle.delivery_answers.specs.Numbers.{inEightDigits, decimalShort, numberText}
 use Rattle.delivery_answers.proofs.ReplyLengths.{short-most}
+use Rattle.delivery_inputs.proofs.ShortLines.{line-room, line-fits, line-long}
+use Rattle.delivery_reports.specs.Reports.{differencesHeading}
 use Rattle.delivery_reconciled.specs.Reconciled.{summaryText}
+
+-- a line made of a text of fewer than 64 bytes has room in its bytes, and is as long as its text
+pub text-fits : (text : List ℕ) → length text < 64 → (l : Line) → LineWith emptyLine text l → (l .length ≤ length (l .bytes)) × (l .length ≡ length text)
+text-fits text short l made =
+    let room : length (l .bytes) ≡ 64 = line-room text short l made in
+    (omega (arith, room, line-fits text short l made), line-long text short l made)
+
+-- the heading has fewer than 64 bytes
+pub heading-short : length differencesHeading < 64
+unfolding differencesHeading
+heading-short = omega arith
 
 four-long : (n : ℕ) → length (inFourDigits n) ≡ 4
 unfolding inFourDigits inTwoDigits

@@ -2,6 +2,7 @@
 use delivery_differences::DeliveredRow;
 use delivery_differences::Difference;
 use delivery_differences::Why;
+use delivery_differences::next_difference;
 use listing::Maturity;
 use product::Kind;
 use session_lines::Line;
@@ -164,7 +165,7 @@ fn goes_on(next: u32, out: &[u8], length: usize) -> bool
 pub fn print_differences(
     kind: Kind,
     id: [u8; 4],
-    maturities: [Maturity; 15],
+    listed: [Maturity; 15],
     n: usize,
     places: &[u16],
     keys: &[u16],
@@ -175,26 +176,16 @@ pub fn print_differences(
     from: u32,
     out: &mut [u8],
 ) -> ReportProgress
-    ensures { λ r. ⌜ ReportLinesIn kind id (take n maturities) (rowsAt (now (keys .entry)) (now (days .entry)) (now (fulls .entry)) (now (numbers .entry)) (now (backs .entry)) (now (places .entry))) from (now (out .entry)) (now (out .exit)) r ⌝ }
+    ensures { λ r. ⌜ ReportLinesIn kind id (take n listed) (rowsAt (now (keys .entry)) (now (days .entry)) (now (fulls .entry)) (now (numbers .entry)) (now (backs .entry)) (now (places .entry))) from (now (out .entry)) (now (out .exit)) r ⌝ }
 {
-    let mut next = delivery_differences::next_difference(
-        maturities,
-        n,
-        places,
-        keys,
-        days,
-        fulls,
-        numbers,
-        backs,
-        from,
-    );
+    let mut next = next_difference(listed, n, places, keys, days, fulls, numbers, backs, from);
     let mut length: usize = 0;
     let mut lines: u32 = 0;
     while goes_on(next, out, length) {
         let line = key_line(
             kind,
             id,
-            maturities,
+            listed,
             n,
             places,
             keys,
@@ -206,8 +197,8 @@ pub fn print_differences(
         );
         length = append(out, length, line);
         lines += 1;
-        next = delivery_differences::next_difference(
-            maturities,
+        next = next_difference(
+            listed,
             n,
             places,
             keys,

@@ -21,7 +21,7 @@ abbrev μ-loop : tie.MeasureT-loop
 μ-loop file judged t calls of rows ids keys days fulls numbers backs places₀ so-far₀ lines₀ count p₀ places so-far lines p = count - p
 
 returns : tie.Need-returns Inv-loop μ-loop
-returns c = λ h. absurd (omega (arith, c .if1 .taken))
+returns c = (λ h. absurd (omega (arith, c .if1 .taken)), omega arith)
 
 mul-count : tie.Need-mul-count Inv-loop μ-loop
 mul-count c = omega (arith, c .if1 .left)
@@ -60,7 +60,10 @@ same-length : tie.Need-same-length Inv-loop μ-loop
 same-length c = c .before .loop .inv .1
 
 returns-2 : tie.Need-returns-2 Inv-loop μ-loop
-returns-2 c = λ h. let v = c .before .loop .inv in places-at _ _ _ _ _ _ _ _ _ _ _ _ (omega (arith, v .2, c .loop-test .left)) _ (v .0)
+returns-2 c = let v = c .before .loop .inv in (
+  λ h. places-at _ _ _ _ _ _ _ _ _ _ _ _ (omega (arith, v .2, c .loop-test .left)) _ (v .0),
+  omega (arith, v .0 .few, v .2, c .before .before .if1 .left),
+)
 
 pub print-places-spec : {M : Type 1} → statement M
 print-places-spec =

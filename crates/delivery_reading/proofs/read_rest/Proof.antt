@@ -7,7 +7,8 @@ use lib.Seq.{length-take-le}
 use Rattle.delivery_receipts.specs.Receiving.{roomIn, SameLengths}
 use borrow.Author.Needs.{needs}
 use Rattle.delivery_reading.specs.Reading.{RowsReadTo}
-use Rattle.delivery_reading.proofs.Comes.{same-lists, then-lists, room-same, read-on, goes, stops}
+use Rattle.delivery_row_parts.proofs.PartsTaken.{same-lists, then-lists, room-same}
+use Rattle.delivery_reading.proofs.Comes.{read-on, goes, stops}
 use Rattle.delivery_reading.proofs.read_rest.Statement.{statement}
 use Rattle.delivery_reading.proofs.read_rest.Tie as tie
 

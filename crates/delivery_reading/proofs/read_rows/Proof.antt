@@ -3,7 +3,8 @@ use borrow.Author.Needs.{needs}
 use mathlib.Core.Path.{sym, _∙_}
 use native.Mathlib.Omega.{arith}
 use Rattle.questions.proofs.Bools.{clash}
-use Rattle.delivery_reading.proofs.Comes.{room-same, read-first, rows-read, to-end}
+use Rattle.delivery_row_parts.proofs.PartsTaken.{room-same}
+use Rattle.delivery_reading.proofs.Comes.{read-first, rows-read, to-end}
 use Rattle.delivery_reading.proofs.read_rows.Statement.{statement}
 use Rattle.delivery_reading.proofs.read_rows.Tie as tie
 
@@ -16,7 +17,8 @@ read-rest-requires : tie.Need-read-rest-requires
 read-rest-requires c κs =
     omega (
       arith,
-      c .before .before .before .before .before .before .before .before .before .before .before .before .before .before .before .before .before .before .before
+      c .before .before .before .before .before .before .before .before .before .before .before .before .before .before .before .before .before .before
+          .before
           .before .before .before .before .before .before .before .before .before .before .before .part2 .given,
     )
 
@@ -84,7 +86,7 @@ returns-2 c =
     let nothing = at-read .before .before .before .nothing-read .ensures in
     let own = room-same _ _ (first .lengths) in (
       λ room n.
-          rows-read _ _ _ _ _ _ _ (all .0) (all .1) n _ (room-same _ _ (rest .0) ∙ own ∙ room)
+          rows-read _ _ _ _ _ _ _ (all .0) (all .1) n (rest .1 .1) _ (room-same _ _ (rest .0) ∙ own ∙ room)
           (rest .1 .0 _ (own ∙ room)
           (read-first _ _ _ _ _ (e .within .0) _ _ first room _ _
           (λ l.
@@ -95,6 +97,6 @@ returns-2 c =
 
 pub read-rows-spec : {M : Type 1} → statement M
 read-rows-spec =
-    tie.close (tie.spec (λ c κs. search needs) (λ c κs. search needs) (λ c. search needs) (λ c. search needs) (λ c κs. search needs) (λ c κs. search needs)
-    (λ c κs. search needs) returns (λ c. search needs) (λ c. search needs) (λ c κs. search needs) (λ c. search needs) read-rest-requires
-    (λ c κs. search needs) same-length same-length-2 same-length-3 same-length-4 same-length-5 same-length-6 returns-2)
+    tie.close (tie.spec (λ c κs. tt) (λ c κs. tt) (λ c. search needs) (λ c. search needs) (λ c κs. tt) (λ c κs. tt)
+    (λ c κs. tt) returns (λ c. search needs) (λ c. search needs) (λ c κs. tt) (λ c. search needs) read-rest-requires
+    (λ c κs. tt) same-length same-length-2 same-length-3 same-length-4 same-length-5 same-length-6 returns-2)

@@ -10,5 +10,5 @@ returns c = (refl, λ n. clash (sym (c .before .before .has-failed .ensures) ∙
 
 pub receive-all-spec : {M : Type 1} → statement M
 receive-all-spec =
-    tie.close (tie.spec (λ c κs. search needs) returns (λ c κs. search needs) (λ c. search needs) (λ c. search needs) (λ c. search needs) (λ c. search needs)
+    tie.close (tie.spec (λ c κs. tt) returns (λ c κs. tt) (λ c. search needs) (λ c. search needs) (λ c. search needs) (λ c. search needs)
     (λ c. search needs) (λ c. search needs) (λ c. search needs))

@@ -1,5 +1,4 @@
 -- The line has the bytes of its text.
-use borrow.Author.Needs.{needs}
 use mathlib.Core.Path.{sym}
 use native.Mathlib.Omega.{arith}
 use lib.Seq.{length-take-le}
@@ -20,4 +19,4 @@ returns c =
     omega (arith, c .tell-next .ensures, f .1, length-take-le (start .args .line .length) (start .args .line .bytes) (f .0))
 
 pub tell-opening-spec : {M : Type 1} → statement M
-tell-opening-spec = tie.close (tie.spec array-share-prefix-bytes slice-aggregate-tell-next (λ c κs. search needs) returns)
+tell-opening-spec = tie.close (tie.spec array-share-prefix-bytes slice-aggregate-tell-next (λ c κs. tt) returns)
