@@ -11,7 +11,7 @@ use Rattle.file_text_told.specs.Whole.{composeTold, ComposeHandedOut}
 use Rattle.file_text_told.proofs.Lengths.{told-short}
 use Rattle.program_status.specs.Statuses.{statusOf}
 use Rattle.streams.specs.declared.reads.Input.{Input}
-use Rattle.compose_run.specs.declared.output.Handed.{Handed}
+use Rattle.compose_run.specs.declared.output.ComposeHanded.{ComposeHanded}
 use Rattle.compose_run.specs.declared.ComposeOutcome.{ComposeOutcome}
 use Rattle.compose_run.specs.ComposeRuns.{composeRefused, ComposeRan, ComposeEnded}
 
@@ -20,7 +20,7 @@ unfolding composeRefused
 refused-is input long e = ap (λ (n : ℕ). not (eqb n 0)) e
 
 -- a line of so many bytes was told
-pub compose-ran : (n : ℕ) (h : Handed) (status long : ℕ) → ComposeHandedOut n (h .sent .open) (h .sent .bytes) (h .told .bytes)
+pub compose-ran : (n : ℕ) (h : ComposeHanded) (status long : ℕ) → ComposeHandedOut n (h .sent .open) (h .sent .bytes) (h .told .bytes)
     → h .told .bytes % 2 ^ 64 ≡ long
     → status ≡ statusOf (not (h .sent .open)) (not (eqb long 0)) → ComposeRan n h status
 compose-ran n h status long r t s =

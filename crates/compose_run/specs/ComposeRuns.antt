@@ -7,7 +7,7 @@ use lib.Dec.{eqb}
 use lib.ListN.{length}
 use Rattle.file_text_told.specs.Whole.{composeTold, ComposeHandedOut}
 use Rattle.program_status.specs.Statuses.{statusOf}
-use Rattle.compose_run.specs.declared.output.Handed.{Handed}
+use Rattle.compose_run.specs.declared.output.ComposeHanded.{ComposeHanded}
 use Rattle.compose_run.specs.declared.ComposeOutcome.{ComposeOutcome}
 
 -- '1 something was refused, bad or differs': the text is at fault, and something is told of it
@@ -16,7 +16,7 @@ composeRefused input = not (eqb (length (composeTold input)) 0)
 
 -- the end of a run that read its input, of which n bytes were counted: what was handed out,
 -- and the status, which is by whether standard output took all, and whether that input is at fault
-pub record ComposeRan (n : ℕ) (h : Handed) (status : ℕ) : Type 0 where
+pub record ComposeRan (n : ℕ) (h : ComposeHanded) (status : ℕ) : Type 0 where
   pub ran : ComposeHandedOut n (h .sent .open) (h .sent .bytes) (h .told .bytes)
   pub ends : status ≡ statusOf (not (h .sent .open)) (composeRefused (ran .input))
 

@@ -4,7 +4,7 @@ mod output;
 
 use delivery_items::LongLine;
 use file_text_read::ListTaken;
-pub use output::Handed;
+pub use output::ComposeHanded;
 use streams::Input;
 ghost use mathlib.Core.Path.{_≡_};
 ghost use mathlib.Core.Bool.{false};
@@ -22,7 +22,7 @@ pub struct ListRead {
 // How far the list was read, what was handed out, and the status.
 pub struct ComposeOutcome {
     pub input: Input,
-    pub handed: Handed,
+    pub handed: ComposeHanded,
     pub status: u8,
 }
 

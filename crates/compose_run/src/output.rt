@@ -10,22 +10,22 @@ ghost use lib.ListN.{length, take};
 ghost use Rattle.file_text_told.specs.Whole.{OfInput, ComposeHandedOut};
 
 // What standard output has taken, and what was told.
-pub struct Handed {
+pub struct ComposeHanded {
     sent: Sent,
     told: Told,
 }
 
 // Nothing was handed out.
-pub(crate) fn nothing_handed() -> Handed
+pub(crate) fn nothing_handed() -> ComposeHanded
     ensures { λ r. ⌜ (r .sent .bytes ≡ 0) × (r .told .bytes ≡ 0) ⌝ }
 {
     let sent = streams::nothing_sent();
     let told = streams::nothing_told();
-    Handed { sent, told }
+    ComposeHanded { sent, told }
 }
 
 // Whether standard output has taken all.
-pub(crate) fn is_open(handed: Handed) -> bool
+pub(crate) fn is_open(handed: ComposeHanded) -> bool
     ensures { λ r. ⌜ r ≡ handed .sent .open ⌝ }
 {
     streams::is_open(handed.sent)
@@ -34,7 +34,7 @@ pub(crate) fn is_open(handed: Handed) -> bool
 // Writes the first n bytes of a buffer to standard output and a line to standard error,
 // after the whole list was read: its file, and what is told of it.
 // Where standard output does not take all bytes, one line on standard error says why.
-pub(crate) fn hand_out(input: Input, file: &[u8], n: usize, line: Line) -> Handed
+pub(crate) fn hand_out(input: Input, file: &[u8], n: usize, line: Line) -> ComposeHanded
     requires { ⌜ (input .left ≡ 0) × (input .failed ≡ false) × (n ≤ length (now file)) × (n ≤ 65536) × (line .length ≤ 64) × OfInput (input .bytes) (take n (now file)) (take (line .length) (line .bytes)) ⌝ }
     ensures { λ r. ⌜ ComposeHandedOut (input .bytes) (r .sent .open) (r .sent .bytes) (r .told .bytes) × (r .told .bytes % 2 ^ 64 ≡ line .length) ⌝ }
 {
@@ -44,5 +44,5 @@ pub(crate) fn hand_out(input: Input, file: &[u8], n: usize, line: Line) -> Hande
     let sent = streams::write_next(none, b"compose: standard output", &file[..n]);
     let silent = streams::nothing_told();
     let told = streams::tell_next(silent, &bytes[..length]);
-    Handed { sent, told }
+    ComposeHanded { sent, told }
 }

@@ -8,7 +8,7 @@ ghost use mathlib.Core.Bool.{true};
 ghost use Prim.Native.Nat.{_≤_};
 ghost use lib.ListN.{length, take};
 ghost use Rattle.confirm_inputs.specs.ConfirmInputs.{confirmText, confirmRefused};
-ghost use Rattle.program_runs.specs.AnsweredRuns.{Answered, AnsweredWith};
+ghost use Rattle.program_runs.specs.AnsweredRuns.{RunAnswered, RunAnsweredWith};
 
 // Writes the first n bytes of a buffer, which have to be the text of the input. Where the output does not take them, one line on standard error says why.
 fn write_out(file: &[u8], input: &[u8], out: &[u8], n: usize) -> Sent
@@ -38,7 +38,7 @@ fn answer(file: &[u8], input: &[u8], list: &mut [u16]) -> Said
 // Reads standard input and answers it by a master file. An input that fills its buffer is too long, whatever follows.
 // An input that cannot be read is told, and nothing is said of it.
 pub fn run_with(file: &[u8]) -> AnswerOutcome
-    ensures { λ r. ⌜ Answered (confirmText (now (file .entry))) (confirmRefused (now (file .entry))) r ⌝ }
+    ensures { λ r. ⌜ RunAnswered (confirmText (now (file .entry))) (confirmRefused (now (file .entry))) r ⌝ }
 {
     let mut text = [0u8; 65537];
     let mut list = [0u16; 6900];
@@ -55,7 +55,7 @@ pub fn run_with(file: &[u8]) -> AnswerOutcome
 
 // The same by master.bin. One that cannot be read counts as empty; one that fills its buffer is too long.
 pub fn run() -> AnswerOutcome
-    ensures { λ r. ⌜ AnsweredWith confirmText confirmRefused r ⌝ }
+    ensures { λ r. ⌜ RunAnsweredWith confirmText confirmRefused r ⌝ }
 {
     let mut file = [0u8; 65537];
     let master = streams::read_file(b"master.bin", &mut file);

@@ -12,7 +12,7 @@ ghost use lib.ListN.{length};
 ghost use Rattle.file_calendar.specs.Calendars.{calendarOf};
 ghost use Rattle.file_load.specs.Load.{loadCall};
 ghost use Rattle.file_text_print.specs.WholeText.{decomposeText};
-ghost use Rattle.program_runs.specs.AnsweredRuns.{Answered};
+ghost use Rattle.program_runs.specs.AnsweredRuns.{RunAnswered};
 ghost use Rattle.decompose_run.specs.DecomposeRefusals.{decomposeRefused};
 
 // Writes the text of an accepted file with this calendar, part by part. A write that fails ends the run.
@@ -69,7 +69,7 @@ fn answer(file: &[u8]) -> Said
 // Reads standard input and answers it. A file that fills its buffer is too long, whatever follows.
 // A file that cannot be read is told, and nothing is printed of it.
 pub fn run() -> AnswerOutcome
-    ensures { λ r. ⌜ Answered decomposeText decomposeRefused r ⌝ }
+    ensures { λ r. ⌜ RunAnswered decomposeText decomposeRefused r ⌝ }
 {
     let mut file = [0u8; 65537];
     let none = streams::nothing_read();

@@ -10,7 +10,7 @@ use Rattle.questions.proofs.Bools.{clash, or-left, or-either}
 use mathlib.Core.Logic.{_⊎_, inl, inr}
 use Rattle.streams.specs.declared.calls.Transfer.{Transfer}
 use Rattle.program_status.specs.Statuses.{statusOf}
-use Rattle.delivery_handing.specs.declared.output.Handed.{Handed}
+use Rattle.delivery_handing.specs.declared.output.DeliveryHanded.{DeliveryHanded}
 use Rattle.delivery_parts.specs.PlaceParts.{deliverText, deliverRefusals, deliverRefused}
 use Rattle.deliver_run.specs.declared.DeliverOutcome.{DeliverOutcome}
 use Rattle.deliver_run.specs.DeliverRuns.{deliverFailed, DeliverRan}
@@ -28,7 +28,7 @@ none-failed false true c e = clash refl e
 none-failed false false true e = (refl, refl)
 none-failed false false false e = clash refl e
 
-module _ (r : DeliverOutcome) (m n : Transfer) (h : Handed) (a : r .master ≡ m) (b : r .notices ≡ n) (d : r .handed ≡ h)
+module _ (r : DeliverOutcome) (m n : Transfer) (h : DeliveryHanded) (a : r .master ≡ m) (b : r .notices ≡ n) (d : r .handed ≡ h)
     (s : r .status ≡ statusOf (deliverFailed r) (not (eqb (r .handed .told) 0))) where
   -- a run whose file could not be read
   pub unread : m .failed ≡ true → m .length ≡ 0 → n .length ≡ 0 → h .sent .bytes ≡ 0 → h .told ≡ 0 → DeliverRan r
@@ -41,7 +41,7 @@ module _ (r : DeliverOutcome) (m n : Transfer) (h : Handed) (a : r .master ≡ m
         notices-long = ap (λ (t : Transfer). t .length) b ∙ j;
         rows = λ w. clash fails w;
         told = λ w. clash fails w;
-        nothing = λ w. (ap (λ (t : Handed). t .sent .bytes) d ∙ x, ap (λ (t : Handed). t .told) d ∙ y);
+        nothing = λ w. (ap (λ (t : DeliveryHanded). t .sent .bytes) d ∙ x, ap (λ (t : DeliveryHanded). t .told) d ∙ y);
         status = s ∙ status-is (deliverFailed r) (r .handed .told) [] [] (λ w. clash fails w);
       }
 
@@ -56,7 +56,7 @@ module _ (r : DeliverOutcome) (m n : Transfer) (h : Handed) (a : r .master ≡ m
         notices = notices;
         file-long = ap (λ (t : Transfer). t .length) a ∙ k;
         notices-long = ap (λ (t : Transfer). t .length) b ∙ j;
-        rows = λ w. ap (λ (t : Handed). t .sent .bytes) d ∙ whole w .0;
+        rows = λ w. ap (λ (t : DeliveryHanded). t .sent .bytes) d ∙ whole w .0;
         told = told;
         nothing = λ w. nothing (or-either (r .master .failed) (r .notices .failed) w);
         status = s ∙ status-is (deliverFailed r) (r .handed .told) file notices told;
@@ -65,13 +65,13 @@ module _ (r : DeliverOutcome) (m n : Transfer) (h : Handed) (a : r .master ≡ m
       whole : deliverFailed r ≡ false → (h .sent .bytes ≡ length (deliverText file notices)) × (h .told ≡ length (deliverRefusals file notices))
       whole w =
           let f = none-failed (r .master .failed) (r .notices .failed) (r .handed .sent .open) w in
-          all (sym (ap (λ (t : Transfer). t .failed) b) ∙ f .0) (sym (ap (λ (t : Handed). t .sent .open) d) ∙ f .1)
+          all (sym (ap (λ (t : Transfer). t .failed) b) ∙ f .0) (sym (ap (λ (t : DeliveryHanded). t .sent .open) d) ∙ f .1)
 
       told : deliverFailed r ≡ false → r .handed .told ≡ length (deliverRefusals file notices)
-      told w = ap (λ (t : Handed). t .told) d ∙ whole w .1
+      told w = ap (λ (t : DeliveryHanded). t .told) d ∙ whole w .1
 
       nothing : (r .master .failed ≡ true) ⊎ (r .notices .failed ≡ true) → (r .handed .sent .bytes ≡ 0) × (r .handed .told ≡ 0)
       nothing (inl w) = clash (sym (ap (λ (t : Transfer). t .failed) a) ∙ w) e
       nothing (inr w) =
           let z = none (sym (ap (λ (t : Transfer). t .failed) b) ∙ w) in
-          (ap (λ (t : Handed). t .sent .bytes) d ∙ z .0, ap (λ (t : Handed). t .told) d ∙ z .1)
+          (ap (λ (t : DeliveryHanded). t .sent .bytes) d ∙ z .0, ap (λ (t : DeliveryHanded). t .told) d ∙ z .1)

@@ -2,7 +2,7 @@
 // and the calls that were refused.
 mod input;
 
-use delivery_handing::Handed;
+use delivery_handing::DeliveryHanded;
 use file_calendar::FileCalendar;
 use streams::Transfer;
 ghost use mathlib.Core.Path.{_≡_};
@@ -19,7 +19,7 @@ ghost use Rattle.deliver_run.specs.DeliverRuns.{deliverFailed, DeliverRa
 
 // What a file with its verdict and a text of notices give:
 // where standard output took all, as many bytes as the definition's two texts have, each as the next of its text.
-fn answer(file: &[u8], judged: FileCalendar, text: &[u8]) -> Handed
+fn answer(file: &[u8], judged: FileCalendar, text: &[u8]) -> DeliveryHanded
     requires { ⌜ (calendarAnswer judged ≡ judgeCall (now file)) × (length (now file) ≤ 65537) ⌝ }
     ensures { λ r. ⌜ (r .sent .open ≡ true → (r .sent .bytes ≡ length (deliverText (now (file .entry)) (now (text .entry)))) × (r .told ≡ length (deliverRefusals (now (file .entry)) (now (text .entry))))) ⌝ }
 {
@@ -56,7 +56,7 @@ fn notices_of(refusal: u8, text: &mut [u8]) -> Transfer
 // What was read of the notices, and what was handed out.
 struct Delivery {
     read: Transfer,
-    handed: Handed,
+    handed: DeliveryHanded,
 }
 
 // The notices of a file that was read; the file is judged first. Where they cannot be read nothing is handed out.
@@ -79,12 +79,12 @@ fn judged(file: &[u8], text: &mut [u8]) -> Delivery
 pub struct DeliverOutcome {
     pub master: Transfer,
     pub notices: Transfer,
-    pub handed: Handed,
+    pub handed: DeliveryHanded,
     pub status: u8,
 }
 
 // The end of a run, with its status: something was refused where something was told.
-fn ended(master: Transfer, notices: Transfer, handed: Handed) -> DeliverOutcome
+fn ended(master: Transfer, notices: Transfer, handed: DeliveryHanded) -> DeliverOutcome
     ensures { λ r. ⌜ (r .master ≡ master) × (r .notices ≡ notices) × (r .handed ≡ handed) × (r .status ≡ statusOf (deliverFailed r) (not (eqb (r .handed .told) 0))) ⌝ }
 {
     let open = delivery_handing::is_open(handed);

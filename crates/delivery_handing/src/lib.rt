@@ -4,7 +4,7 @@ mod output;
 use delivery_notices::NoticesTaken;
 use delivery_parts::PlacePart;
 use file_calendar::FileCalendar;
-pub use output::Handed;
+pub use output::DeliveryHanded;
 pub use output::has_told;
 pub use output::is_open;
 pub use output::nothing_handed;
@@ -23,7 +23,7 @@ ghost use Rattle.delivery_parts.specs.Handing.{Runs, HandedTo};
 
 // Tells the refused calls of a place, which have to be the next of what is told. A text of 65,536 bytes has at most 6,553 notices; of more nothing is told.
 fn tell_place(
-    handed: Handed,
+    handed: DeliveryHanded,
     file: &[u8],
     text: &[u8],
     part: PlacePart,
@@ -31,7 +31,7 @@ fn tell_place(
     calls: &[u32],
     refusals: &[u8],
     count: u32,
-) -> Handed
+) -> DeliveryHanded
     ensures { λ r. ⌜ (r .sent ≡ handed .sent) × (count ≤ 6553 → handed .told ≤ 1000000000 → NextOf (deliverRefusals (now (file .entry)) (now (text .entry))) (handed .told) (cond (part .holds) (refusalLines (part .id) opened (part .refusal) (now (calls .entry)) (now (refusals .entry)) (count + 1)) []) → (r .told ≡ handed .told + length (cond (part .holds) (refusalLines (part .id) opened (part .refusal) (now (calls .entry)) (now (refusals .entry)) (count + 1)) [])) × (r .told ≤ handed .told + 419520)) ⌝ }
 {
     if !part.holds {
@@ -53,13 +53,13 @@ fn tell_place(
 
 // Tells the measures of ids that the file has not, which have to be the next of what is told.
 fn tell_unknown(
-    handed: Handed,
+    handed: DeliveryHanded,
     file: &[u8],
     text: &[u8],
     calls: &[u32],
     ids: &[u8],
     count: u32,
-) -> Handed
+) -> DeliveryHanded
     ensures { λ r. ⌜ (r .sent ≡ handed .sent) × (count ≤ 6553 → handed .told ≤ 1000000000 → NextOf (deliverRefusals (now (file .entry)) (now (text .entry))) (handed .told) (unknownLines (now (file .entry)) (now (calls .entry)) (now (ids .entry)) count) → r .told ≡ handed .told + length (unknownLines (now (file .entry)) (now (calls .entry)) (now (ids .entry)) count)) ⌝ }
 {
     let mut h = handed;
@@ -74,7 +74,7 @@ fn tell_unknown(
 
 // Writes the rows of a place and tells its refused calls. After a write that fails nothing is told.
 fn print_place(
-    handed: Handed,
+    handed: DeliveryHanded,
     file: &[u8],
     judged: FileCalendar,
     text: &[u8],
@@ -82,7 +82,7 @@ fn print_place(
     t: NoticesTaken,
     calls: &[u32],
     ids: &[u8],
-) -> Handed
+) -> DeliveryHanded
     ensures { λ r. ⌜ (Runs (now (file .entry)) (now (text .entry)) (calendarAnswer judged) t (now (calls .entry)) (now (ids .entry)) → HandedTo (now (file .entry)) (now (text .entry)) p (handed .sent .bytes) (handed .told) → p < placeCount (now (file .entry)) → r .sent .open ≡ true → HandedTo (now (file .entry)) (now (text .entry)) (p + 1) (r .sent .bytes) (r .told)) ⌝ }
 {
     let mut refusals = [0u8; 6554];
@@ -116,14 +116,14 @@ fn print_place(
 
 // The rows and the refused calls of every place, in the file's order. A write that fails ends the run.
 fn print_places(
-    handed: Handed,
+    handed: DeliveryHanded,
     file: &[u8],
     judged: FileCalendar,
     text: &[u8],
     t: NoticesTaken,
     calls: &[u32],
     ids: &[u8],
-) -> Handed
+) -> DeliveryHanded
     ensures { λ r. ⌜ (Runs (now (file .entry)) (now (text .entry)) (calendarAnswer judged) t (now (calls .entry)) (now (ids .entry)) → HandedTo (now (file .entry)) (now (text .entry)) 0 (handed .sent .bytes) (handed .told) → r .sent .open ≡ true → HandedTo (now (file .entry)) (now (text .entry)) (placeCount (now (file .entry))) (r .sent .bytes) (r .told)) ⌝ }
 {
     let mut h = handed;
@@ -148,7 +148,7 @@ pub fn print_all(
     t: NoticesTaken,
     calls: &[u32],
     ids: &[u8],
-) -> Handed
+) -> DeliveryHanded
     ensures { λ r. ⌜ (Runs (now (file .entry)) (now (text .entry)) (calendarAnswer judged) t (now (calls .entry)) (now (ids .entry)) → r .sent .open ≡ true → (r .sent .bytes ≡ length (deliverText (now (file .entry)) (now (text .entry)))) × (r .told ≡ length (deliverRefusals (now (file .entry)) (now (text .entry))))) ⌝ }
 {
     let headed = output::write_line(

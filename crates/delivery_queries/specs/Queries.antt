@@ -92,7 +92,7 @@ unfoldable pub longAsked : LongLine → Asked
 longAsked l = cond (l .over) (cond (eqb (getD (l .bytes) 0 0) 35) nothing bad) (askedBy (take (l .length) (l .bytes)))
 
 -- only the code needs it: what is answered to a line, as it is held;
--- from an empty line fed with a line of any length this is `answerText` (proofs, Long: `any-length`)
+-- from an empty line fed with a line of any length this is `questionAnswer` (proofs, LongQuestions: `any-length`)
 unfoldable pub longText : (List ℕ → Standing) → ℕ → LongLine → List ℕ
 longText of k l = replies.askedText of k (trimmed (take (l .length) (l .bytes))) (longAsked l)
 

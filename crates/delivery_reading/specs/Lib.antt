@@ -1,1 +1,1 @@
-pub mod RowsKept
+pub mod Reading

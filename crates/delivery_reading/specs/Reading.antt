@@ -21,7 +21,7 @@ pub record RowsReadTo (f : List ℕ) (told : ℕ) (a : Lists) (left n : ℕ) (k 
 
 -- of every input that begins with the bytes that were counted, and of them alone where no read is left:
 -- its good rows are those in the lists, its bad lines were told after so many bytes, and counted.
--- Where there was a good row too many, whatever follows changes nothing; where there was none, no read may be left
+-- Where there was a good row too many, whatever follows changes nothing; that no read is left else is a promise of its own
 pub record RowsOfInput (f : List ℕ) (told : ℕ) (a : Lists) (i : Input) (s : RowsKept) : Type 0 where
   pub bads : List ℕ
   pub is : ForInput i (λ input. receiptIn (s .state) a bads ≡ receiptOf f input)

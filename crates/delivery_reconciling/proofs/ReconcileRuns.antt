@@ -46,7 +46,7 @@ use Rattle.delivery_row_parts.specs.RowParts.{AllBadsTold}
 use Rattle.delivery_reading.specs.Reading.{RowsOfInput}
 use Rattle.delivery_judging.specs.declared.LinesPrinted.{LinesPrinted}
 use Rattle.delivery_judging.specs.LinesOut.{Held, PlacesOut, StrangersOut}
-use Rattle.delivery_reconciling.specs.ReconcileRuns.{ProductsOut, DifferencesOut, RanOn, ReconcileRan}
+use Rattle.delivery_reconciling.specs.ReconcileRuns.{ProductsOut, DifferencesOut, ReconciledOn, ReconcileRan}
 
 -- ---- no more than 65,536 rows are received
 
@@ -271,7 +271,7 @@ module _ (f notices : List ℕ) (verdict : Answer Calendar) (t : NoticesTaken) (
 
     -- where there were too many rows nothing is written, and no counts are told
     over-on : s .state .over ≡ true → (sent : Sent) → sent .open ≡ true → sent .bytes ≡ 0 → (status : ℕ) → status ≡ statusOf false true
-        → RanOn f notices sent (s .told .bytes) status input
+        → ReconciledOn f notices sent (s .told .bytes) status input
     over-on y sent taken z status w =
         record {
           text = λ _. omega (arith, z, ap length none-written);
@@ -290,7 +290,7 @@ module _ (f notices : List ℕ) (verdict : Answer Calendar) (t : NoticesTaken) (
         → (p .sent .open ≡ true → Grew (s .told .bytes) (length (summaryText (recordCount f) (s .state .rows) (p .lines) (s .bad))) told)
         → (refused : Bool) → refused ≡ some (placeCount f) (openingRefused (openIn verdict f) f (t .date))
         → (status : ℕ) → status ≡ statusOf (not (p .sent .open)) (refused || (ltb 0 (s .bad) || ltb 0 (p .lines)))
-        → RanOn f notices (p .sent) told status input
+        → ReconciledOn f notices (p .sent) told status input
     all-on n p d told w refused q status v =
         record {
           text = λ y. omega (arith, d .text y, ap length all-written);

@@ -37,7 +37,7 @@ pub record DifferencesOut (f notices : List ℕ) (a : Lists) (rows : ℕ) (r : L
 
 -- a run on a file, a text of notices and an input: where standard output took all, as many bytes were written as `reconcileText` of the three has,
 -- and as many told as `reconcileTold` has, both modulo 2^64; the status is 2 where it did not take all, else as `reconcileRefused` says
-pub record RanOn (f notices : List ℕ) (sent : Sent) (told status : ℕ) (input : List ℕ) : Type 0 where
+pub record ReconciledOn (f notices : List ℕ) (sent : Sent) (told status : ℕ) (input : List ℕ) : Type 0 where
   pub text : sent .open ≡ true → Grew 0 (length (reconcileText f notices input)) (sent .bytes)
   pub said : sent .open ≡ true → Grew 0 (length (reconcileTold f notices input)) told
   pub ends : status ≡ statusOf (not (sent .open)) (reconcileRefused f notices input)
@@ -45,5 +45,5 @@ pub record RanOn (f notices : List ℕ) (sent : Sent) (told status : ℕ) (input
 -- a run on a file and a text of notices: where no read failed, of every input that begins with the bytes that were counted,
 -- and of them alone where no read is left; where one failed nothing was written, and the status is 2
 pub record ReconcileRan (f notices : List ℕ) (i : Input) (sent : Sent) (told status : ℕ) : Type 0 where
-  pub ran : i .failed ≡ false → ForInput i (RanOn f notices sent told status)
+  pub ran : i .failed ≡ false → ForInput i (ReconciledOn f notices sent told status)
   pub failed : i .failed ≡ true → (sent .bytes ≡ 0) × (status ≡ 2)

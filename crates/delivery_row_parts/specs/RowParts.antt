@@ -69,12 +69,12 @@ pub record RowsCame (f : List ℕ) (told : ℕ) (a : Lists) (input : List ℕ) (
   pub tells : AllBadsTold told bads (k .kept)
 
 -- after the first part of an input, for every number of reads left that is 0 where the part has fewer than three bytes:
--- its bytes have come; the lists are as long as they were
+-- with lists that have room for 65,536 rows its bytes have come; the lists are as long as they were
 pub record FirstTold (f : List ℕ) (told : ℕ) (before : Lists) (part : List ℕ) (r : LinesRead) (after : Lists) : Type 0 where
   pub came : roomIn before ≡ 65536 → (left : ℕ) → (length part < 3 → left ≡ 0) → RowsCame f told after part left r
   pub lengths : SameLengths before after
 
--- before the first line: no bad line, no row and no line is counted, no line is begun, and no row was too many
+-- before the first line: no bad line, no row and no line is counted, no line with bytes was seen, and no row was too many
 pub record Nothing (s : RowsKept) : Type 0 where
   pub bad : s .bad ≡ 0
   pub rows : s .state .rows ≡ 0

@@ -14,7 +14,7 @@ use Rattle.delivery_queries.specs.Queries.{nextNumber, longText, longRefused}
 use Rattle.delivery_sessions.specs.declared.QueryProgress.{QueryProgress}
 
 -- what is still answered for the rest of an input, with the number of the line that is begun, and its bytes so far;
--- from an empty line with the number 1 this is `linesText` (proofs, Feeding: `whole-input`)
+-- from an empty line with the number 1 this is `repliesText` (proofs, QueryLinesFed: `whole-input`)
 unfoldable pub queryRest : (List ℕ → Standing) → ℕ → LongLine → List ℕ → List ℕ
 queryRest of = restOver emptyLong lengthened (λ l. l .length) (λ k. []) (λ k l next. longText of k l ++ next (nextNumber k))
 

@@ -68,15 +68,18 @@ gateway-ended n e r says count s =
     record {
       ran = gateway-ran n (r .input) (endedText e) (r .sent .bytes) says count;
       unread = λ f. s ∙ failed-status (r .input .failed) (not (r .sent .open)) (not (eqb (e .refusal) 0)) f;
-      status = λ f. of f (says .1 f);
+      of = λ f. told f (says .1 f);
     }
   where
-    of : r .input .failed ≡ false → ForInput (r .input) (λ input. endedText e ≡ gatewayText n input)
-        → ForInput (r .input) (λ input. r .status ≡ statusOf (not (r .sent .open)) (gatewayRefused n input))
-    of f h =
+    told : r .input .failed ≡ false → ForInput (r .input) (λ input. endedText e ≡ gatewayText n input) → ForInput (r .input)
+        (λ input. (r .sent .bytes ≡ length (gatewayText n input)) × (r .status ≡ statusOf (not (r .sent .open)) (gatewayRefused n input)))
+    told f h =
         record {
           input = h .input;
           count = h .count;
-          is = λ rest w. s ∙ read-status (r .input .failed) (not (r .sent .open)) (not (eqb (e .refusal) 0)) (gatewayRefused n (h .input ++ rest)) f
-              (refused-is n e (h .input ++ rest) (h .is rest w));
+          is = λ rest w. (
+            count ∙ ap length (h .is rest w),
+            s ∙ read-status (r .input .failed) (not (r .sent .open)) (not (eqb (e .refusal) 0)) (gatewayRefused n (h .input ++ rest)) f
+                (refused-is n e (h .input ++ rest) (h .is rest w)),
+          );
         }

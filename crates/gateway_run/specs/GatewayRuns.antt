@@ -4,9 +4,10 @@ use mathlib.Core.Path.{_≡_}
 use mathlib.Core.Bool.{Bool, true, false, not, cond}
 use mathlib.Core.List.{List}
 use lib.Dec.{eqb}
+use lib.ListN.{length}
 use Rattle.file_intake.specs.declared.Taken.{Taken}
 use Rattle.file_intake.specs.Intake.{finishCall}
-use Rattle.file_intake_text.specs.GatewayTexts.{pieceCount, handedOver, GatewayRan}
+use Rattle.file_intake_text.specs.GatewayTexts.{pieceCount, handedOver, gatewayText, GatewayRan}
 use Rattle.program_status.specs.Statuses.{statusOf}
 use Rattle.streams.specs.Inputs.{ForInput}
 use Rattle.gateway_run.specs.declared.GatewayOutcome.{GatewayOutcome}
@@ -21,8 +22,10 @@ gatewayRefused n input = not (eqb (takenRefusal (handedOver n input (pieceCount 
 
 -- the end of a run: what was handed out, and the status:
 -- after a read that failed it is that of a failure;
--- else it is by whether standard output took all, and whether the input is refused, of every input that begins with the bytes that were read
+-- else, of every input that begins with as many bytes as were read, as many bytes were handed out as its text has,
+-- and the status is by whether standard output took all, and whether that input is refused
 pub record GatewayEnded (n : ℕ) (r : GatewayOutcome) : Type 0 where
   pub ran : GatewayRan n (r .input) (r .sent .bytes)
   pub unread : r .input .failed ≡ true → r .status ≡ statusOf true false
-  pub status : r .input .failed ≡ false → ForInput (r .input) (λ input. r .status ≡ statusOf (not (r .sent .open)) (gatewayRefused n input))
+  pub of : r .input .failed ≡ false → ForInput (r .input)
+      (λ input. (r .sent .bytes ≡ length (gatewayText n input)) × (r .status ≡ statusOf (not (r .sent .open)) (gatewayRefused n input)))

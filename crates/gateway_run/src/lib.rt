@@ -5,7 +5,7 @@ mod output;
 use file_intake::Intake;
 use file_intake_text::Ended;
 pub use input::number_said;
-pub use output::Sent;
+pub use output::LineHanded;
 use streams::Input;
 ghost use mathlib.Core.Path.{_≡_};
 ghost use Rattle.file_intake_text.specs.GatewayTexts.{GatewaySays, IntakeReached, endedText};
@@ -20,7 +20,7 @@ pub struct BlocksRead {
 // How far standard input was read, what was handed out, and the status.
 pub struct GatewayOutcome {
     pub input: Input,
-    pub sent: Sent,
+    pub sent: LineHanded,
     pub status: u8,
 }
 

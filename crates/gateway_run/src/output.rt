@@ -15,24 +15,24 @@ ghost use Rattle.session_text.specs.TermsText.{decimal};
 ghost use Rattle.file_text_print.specs.WholeText.{NextOf};
 ghost use Rattle.file_intake_text.specs.GatewayTexts.{GatewaySays, endedText};
 
-// Whether standard output has taken all that was handed to it, and how many bytes that is. Its fields are private: only this file makes one.
-pub struct Sent {
+// Whether standard output has taken all that was handed to it, and how many bytes were handed to it. Its fields are private: only this file makes one.
+pub struct LineHanded {
     open: bool,
     bytes: usize,
 }
 
 // Before the first write.
-fn nothing_sent() -> Sent
+fn nothing_sent() -> LineHanded
     ensures { λ r. ⌜ r .bytes ≡ 0 ⌝ }
 {
-    Sent {
+    LineHanded {
         open: true,
         bytes: 0,
     }
 }
 
 // Whether standard output has taken all.
-pub(crate) fn is_open(sent: Sent) -> bool
+pub(crate) fn is_open(sent: LineHanded) -> bool
     ensures { λ r. ⌜ r ≡ sent .open ⌝ }
 {
     sent.open
@@ -84,20 +84,20 @@ fn put(bytes: &[u8]) -> bool {
 }
 
 // Writes a piece, which has to be the next of the line after those before it. After a write that failed nothing more is written.
-fn write_piece(sent: Sent, e: Ended, piece: &[u8]) -> Sent
+fn write_piece(sent: LineHanded, e: Ended, piece: &[u8]) -> LineHanded
     requires { ⌜ NextOf (endedText e) (sent .bytes) (now piece) ⌝ }
     ensures { λ r. ⌜ (r .bytes ≡ sent .bytes + length (now (piece .entry))) × (r .open ≡ true → sent .open ≡ true) ⌝ }
 {
     let bytes = sent.bytes + piece.len();
     if !sent.open {
-        return Sent { open: false, bytes };
+        return LineHanded { open: false, bytes };
     }
     let open = put(piece);
-    Sent { open, bytes }
+    LineHanded { open, bytes }
 }
 
 // Writes a number.
-fn write_number(sent: Sent, e: Ended, n: u16) -> Sent
+fn write_number(sent: LineHanded, e: Ended, n: u16) -> LineHanded
     requires { ⌜ NextOf (endedText e) (sent .bytes) (decimal n) ⌝ }
     ensures { λ r. ⌜ r .bytes ≡ sent .bytes + length (decimal n) ⌝ }
 {
@@ -107,7 +107,7 @@ fn write_number(sent: Sent, e: Ended, n: u16) -> Sent
 }
 
 // Writes the line of what the run ended with, all of it, which has to be what is said after these reads.
-pub(crate) fn write_line(blocks: u16, input: Input, e: Ended) -> Sent
+pub(crate) fn write_line(blocks: u16, input: Input, e: Ended) -> LineHanded
     requires { ⌜ GatewaySays blocks input (endedText e) ⌝ }
     ensures { λ r. ⌜ r .bytes ≡ length (endedText e) ⌝ }
 {

@@ -1,11 +1,11 @@
 // What a program is asked for by its arguments, and what it answers where that is no run.
-// Nothing can say which arguments there are, so that these functions are compared and only shown to be safe.
+// Nothing can say which arguments there are, so what is asked for is tested (tests/gate/installed.py); promised is the status.
 use streams::Sent;
 ghost use mathlib.Core.Path.{_≡_};
 ghost use mathlib.Core.Bool.{cond};
 
 // Nothing, or one of the two words that every program knows, or something else.
-pub enum Asked {
+pub enum Request {
     Nothing,
     Help,
     Version,
@@ -27,23 +27,23 @@ fn is_version(word: [u8; 10]) -> bool {
 }
 
 // What a program is asked for. Of a word that is longer than any known one the length is 0.
-pub fn asked_for() -> Asked {
+pub fn asked_for() -> Request {
     let count = os::arg_count();
     if count < 2 {
-        return Asked::Nothing;
+        return Request::Nothing;
     }
     if 2 < count {
-        return Asked::Other;
+        return Request::Other;
     }
     let mut word = [0u8; 10];
     let n = os::arg(1, &mut word);
     if (n == 6) & is_help(word) {
-        return Asked::Help;
+        return Request::Help;
     }
     if (n == 9) & is_version(word) {
-        return Asked::Version;
+        return Request::Version;
     }
-    Asked::Other
+    Request::Other
 }
 
 // Whether the first argument begins with a hyphen. Of a longer one than the buffer the first byte is there.

@@ -12,7 +12,7 @@ use Rattle.streams.specs.declared.reads.Part.{Part}
 use Rattle.streams.specs.declared.output.Sent.{Sent}
 use Rattle.streams.specs.Inputs.{ReadOn, ForInput}
 use Rattle.program_runs.specs.declared.AnswerOutcome.{AnswerOutcome}
-use Rattle.program_runs.specs.AnsweredRuns.{failedIn, Answered, AnsweredWith}
+use Rattle.program_runs.specs.AnsweredRuns.{failedIn, RunAnswered, RunAnsweredWith}
 
 -- a text, and whether something is refused, that only the first bytes decide
 pub record DecidedBy (most : ℕ) (text : List ℕ → List ℕ) (refused : List ℕ → Bool) : Type 0 where
@@ -39,7 +39,7 @@ module _ (most : ℕ) (text : List ℕ → List ℕ) (refused : List ℕ → Boo
 
   -- a run whose input could not be read
   pub answers-unread : (r : AnswerOutcome) → r .input ≡ p .input → p .input .failed ≡ true → r .sent .bytes ≡ 0
-      → r .status ≡ statusOf (failedIn (p .input) (r .sent)) false → Answered text refused r
+      → r .status ≡ statusOf (failedIn (p .input) (r .sent)) false → RunAnswered text refused r
   answers-unread r e f n s =
       rw e record {
         of = for-buffer _ (λ rest w. (λ x. absurd (true≢false (sym f ∙ x)), s ∙ failed-status (p .input) (r .sent) false _ f));
@@ -49,7 +49,7 @@ module _ (most : ℕ) (text : List ℕ → List ℕ) (refused : List ℕ → Boo
   -- a run that answers the bytes that came
   pub answers-all : DecidedBy most text refused → (r : AnswerOutcome) → r .input ≡ p .input → p .input .failed ≡ false
       → (r .sent .open ≡ true → r .sent .bytes ≡ length (text (take (p .length) buffer)))
-      → r .status ≡ statusOf (failedIn (p .input) (r .sent)) (refused (take (p .length) buffer)) → Answered text refused r
+      → r .status ≡ statusOf (failedIn (p .input) (r .sent)) (refused (take (p .length) buffer)) → RunAnswered text refused r
   answers-all d r e f n s =
       rw e record {
         of = for-buffer _ (λ rest w. rw (d .same-text (take (p .length) buffer) rest w, d .same-refused (take (p .length) buffer) rest w) (λ _ o. n o, s));
@@ -57,6 +57,6 @@ module _ (most : ℕ) (text : List ℕ → List ℕ) (refused : List ℕ → Boo
       }
 
 -- a run with the bytes that came of a file
-pub answers-with : (text : List ℕ → List ℕ → List ℕ) (refused : List ℕ → List ℕ → Bool) (r : AnswerOutcome) (file : List ℕ) → Answered (text file) (refused file) r
-    → length file ≤ 65537 → AnsweredWith text refused r
+pub answers-with : (text : List ℕ → List ℕ → List ℕ) (refused : List ℕ → List ℕ → Bool) (r : AnswerOutcome) (file : List ℕ) → RunAnswered (text file) (refused file) r
+    → length file ≤ 65537 → RunAnsweredWith text refused r
 answers-with text refused r file a h = record { file = file; few = h; is = a }

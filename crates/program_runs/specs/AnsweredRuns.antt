@@ -16,7 +16,7 @@ failedIn i sent = i .failed || not (sent .open)
 
 -- the end of a run, by the text that is printed of each input, and by whether something is refused there
 -- which bytes were written is not said here: the function that hands them out requires it
-pub record Answered (text : List ℕ → List ℕ) (refused : List ℕ → Bool) (r : AnswerOutcome) : Type 0 where
+pub record RunAnswered (text : List ℕ → List ℕ) (refused : List ℕ → Bool) (r : AnswerOutcome) : Type 0 where
   -- of every input that begins with the bytes that were read: where no read failed and standard output took all,
   -- it took as many bytes as the text has; and the status
   pub of : ForInput (r .input)
@@ -26,7 +26,7 @@ pub record Answered (text : List ℕ → List ℕ) (refused : List ℕ → Bool)
   pub none : r .input .failed ≡ true → r .sent .bytes ≡ 0
 
 -- the same of a run that reads a file too, with some bytes of it, 65,537 at most; that they are those which were read is not said
-pub record AnsweredWith (text : List ℕ → List ℕ → List ℕ) (refused : List ℕ → List ℕ → Bool) (r : AnswerOutcome) : Type 0 where
+pub record RunAnsweredWith (text : List ℕ → List ℕ → List ℕ) (refused : List ℕ → List ℕ → Bool) (r : AnswerOutcome) : Type 0 where
   pub file : List ℕ
   pub few : length file ≤ 65537
-  pub is : Answered (text file) (refused file) r
+  pub is : RunAnswered (text file) (refused file) r

@@ -1,5 +1,5 @@
 // The programs: what their arguments ask for, a run or a text, and the status with which they end.
-use program_arguments::Asked;
+use program_arguments::Request;
 
 // `terms`: a run of it, or what it says of itself.
 #[no_mangle]
@@ -7,10 +7,10 @@ pub extern "C" fn scullpouch_program_terms() -> i32 {
     let none = streams::nothing_sent();
     let asked = program_arguments::asked_for();
     match asked {
-        Asked::Nothing => terms_run::run().status as i32,
-        Asked::Help => program_arguments::shown(program_help::terms_help(none)) as i32,
-        Asked::Version => program_arguments::shown(program_help::terms_version(none)) as i32,
-        Asked::Other => program_arguments::refused(b"terms") as i32,
+        Request::Nothing => terms_run::run().status as i32,
+        Request::Help => program_arguments::shown(program_help::terms_help(none)) as i32,
+        Request::Version => program_arguments::shown(program_help::terms_version(none)) as i32,
+        Request::Other => program_arguments::refused(b"terms") as i32,
     }
 }
 
@@ -20,10 +20,10 @@ pub extern "C" fn scullpouch_program_compose() -> i32 {
     let none = streams::nothing_sent();
     let asked = program_arguments::asked_for();
     match asked {
-        Asked::Nothing => compose_run::run().status as i32,
-        Asked::Help => program_arguments::shown(program_help::compose_help(none)) as i32,
-        Asked::Version => program_arguments::shown(program_help::compose_version(none)) as i32,
-        Asked::Other => program_arguments::refused(b"compose") as i32,
+        Request::Nothing => compose_run::run().status as i32,
+        Request::Help => program_arguments::shown(program_help::compose_help(none)) as i32,
+        Request::Version => program_arguments::shown(program_help::compose_version(none)) as i32,
+        Request::Other => program_arguments::refused(b"compose") as i32,
     }
 }
 
@@ -33,10 +33,10 @@ pub extern "C" fn scullpouch_program_decompose() -> i32 {
     let none = streams::nothing_sent();
     let asked = program_arguments::asked_for();
     match asked {
-        Asked::Nothing => decompose_run::run().status as i32,
-        Asked::Help => program_arguments::shown(program_help::decompose_help(none)) as i32,
-        Asked::Version => program_arguments::shown(program_help::decompose_version(none)) as i32,
-        Asked::Other => program_arguments::refused(b"decompose") as i32,
+        Request::Nothing => decompose_run::run().status as i32,
+        Request::Help => program_arguments::shown(program_help::decompose_help(none)) as i32,
+        Request::Version => program_arguments::shown(program_help::decompose_version(none)) as i32,
+        Request::Other => program_arguments::refused(b"decompose") as i32,
     }
 }
 
@@ -46,10 +46,10 @@ pub extern "C" fn scullpouch_program_confirm() -> i32 {
     let none = streams::nothing_sent();
     let asked = program_arguments::asked_for();
     match asked {
-        Asked::Nothing => confirm_run::run().status as i32,
-        Asked::Help => program_arguments::shown(program_help::confirm_help(none)) as i32,
-        Asked::Version => program_arguments::shown(program_help::confirm_version(none)) as i32,
-        Asked::Other => program_arguments::refused(b"confirm") as i32,
+        Request::Nothing => confirm_run::run().status as i32,
+        Request::Help => program_arguments::shown(program_help::confirm_help(none)) as i32,
+        Request::Version => program_arguments::shown(program_help::confirm_version(none)) as i32,
+        Request::Other => program_arguments::refused(b"confirm") as i32,
     }
 }
 
@@ -59,10 +59,10 @@ pub extern "C" fn scullpouch_program_deliver() -> i32 {
     let none = streams::nothing_sent();
     let asked = program_arguments::asked_for();
     match asked {
-        Asked::Nothing => deliver_run::run().status as i32,
-        Asked::Help => program_arguments::shown(program_help::deliver_help(none)) as i32,
-        Asked::Version => program_arguments::shown(program_help::deliver_version(none)) as i32,
-        Asked::Other => program_arguments::refused(b"deliver") as i32,
+        Request::Nothing => deliver_run::run().status as i32,
+        Request::Help => program_arguments::shown(program_help::deliver_help(none)) as i32,
+        Request::Version => program_arguments::shown(program_help::deliver_version(none)) as i32,
+        Request::Other => program_arguments::refused(b"deliver") as i32,
     }
 }
 
@@ -72,10 +72,10 @@ pub extern "C" fn scullpouch_program_reconcile() -> i32 {
     let none = streams::nothing_sent();
     let asked = program_arguments::asked_for();
     match asked {
-        Asked::Nothing => reconcile_run::run().rows.status as i32,
-        Asked::Help => program_arguments::shown(program_help::reconcile_help(none)) as i32,
-        Asked::Version => program_arguments::shown(program_help::reconcile_version(none)) as i32,
-        Asked::Other => program_arguments::refused(b"reconcile") as i32,
+        Request::Nothing => reconcile_run::run().rows.status as i32,
+        Request::Help => program_arguments::shown(program_help::reconcile_help(none)) as i32,
+        Request::Version => program_arguments::shown(program_help::reconcile_version(none)) as i32,
+        Request::Other => program_arguments::refused(b"reconcile") as i32,
     }
 }
 
@@ -85,10 +85,10 @@ pub extern "C" fn scullpouch_program_query() -> i32 {
     let none = streams::nothing_sent();
     let asked = program_arguments::asked_for();
     match asked {
-        Asked::Nothing => query_run::run().status as i32,
-        Asked::Help => program_arguments::shown(program_help::query_help(none)) as i32,
-        Asked::Version => program_arguments::shown(program_help::query_version(none)) as i32,
-        Asked::Other => program_arguments::refused(b"query") as i32,
+        Request::Nothing => query_run::run().status as i32,
+        Request::Help => program_arguments::shown(program_help::query_help(none)) as i32,
+        Request::Version => program_arguments::shown(program_help::query_version(none)) as i32,
+        Request::Other => program_arguments::refused(b"query") as i32,
     }
 }
 
@@ -98,10 +98,10 @@ pub extern "C" fn scullpouch_program_gateway() -> i32 {
     let none = streams::nothing_sent();
     let asked = program_arguments::asked_for();
     match asked {
-        Asked::Help => program_arguments::shown(program_help::gateway_help(none)) as i32,
-        Asked::Version => program_arguments::shown(program_help::gateway_version(none)) as i32,
-        Asked::Other => gateway_other(),
-        Asked::Nothing => gateway_run::run(gateway_run::number_said()).status as i32,
+        Request::Help => program_arguments::shown(program_help::gateway_help(none)) as i32,
+        Request::Version => program_arguments::shown(program_help::gateway_version(none)) as i32,
+        Request::Other => gateway_other(),
+        Request::Nothing => gateway_run::run(gateway_run::number_said()).status as i32,
     }
 }
 

@@ -21,7 +21,7 @@ ghost use Rattle.delivery_sessions.specs.QueryRuns.{QueryHanded, Came, QueryRan
 
 // What is kept from one part of the input to the next: the number of the line that is begun, its bytes so far, whether an answer was refused,
 // and what has been written.
-pub struct Carried {
+pub struct QueryCarried {
     pub progress: QueryProgress,
     pub sent: Sent,
 }
@@ -35,7 +35,7 @@ pub struct QueryEnded {
 
 // Writes the answers to all lines that end in a part of the input. A write that fails ends the run.
 fn write_part(
-    k: Carried,
+    k: QueryCarried,
     file: &[u8],
     judged: FileCalendar,
     t: NoticesTaken,
@@ -44,7 +44,7 @@ fn write_part(
     refusals: &mut [u8],
     part: &[u8],
     out: &mut [u8],
-) -> Carried
+) -> QueryCarried
     requires { ⌜ 512 ≤ length (now out) ⌝ }
     ensures { λ r. ⌜ (r .sent .open ≡ true → QueryHanded (standingIn judged (now (file .entry)) t (now (calls .entry)) (now (ids .entry)) (length (now (refusals .entry)))) (k .progress .number) (k .progress .refused) (k .progress .line) (now (part .entry)) (k .sent .bytes) (r .progress .number) (r .progress .refused) (r .progress .line) [] (r .sent .bytes)) ⌝ }
 {
@@ -57,10 +57,10 @@ fn write_part(
         sent = output::write_out(sent, file, judged, t, calls, ids, room, part, s, p, out);
         s = p;
         if !streams::is_open(sent) {
-            return Carried { progress: s, sent };
+            return QueryCarried { progress: s, sent };
         }
     }
-    Carried { progress: s, sent }
+    QueryCarried { progress: s, sent }
 }
 
 // Writes the answers to all lines that end in the first part of the input, which is taken without its mark.
@@ -73,7 +73,7 @@ fn write_first(
     refusals: &mut [u8],
     part: &[u8],
     out: &mut [u8],
-) -> Carried
+) -> QueryCarried
     requires { ⌜ 512 ≤ length (now out) ⌝ }
     ensures { λ r. ⌜ (r .sent .open ≡ true → QueryHanded (standingIn judged (now (file .entry)) t (now (calls .entry)) (now (ids .entry)) (length (now (refusals .entry)))) 1 false emptyLong (unmarked (now (part .entry))) 0 (r .progress .number) (r .progress .refused) (r .progress .line) [] (r .sent .bytes)) ⌝ }
 {
@@ -86,7 +86,7 @@ fn write_first(
         length: 0,
         refused: false,
     };
-    let k = Carried { progress, sent };
+    let k = QueryCarried { progress, sent };
     let mark = delivery_lines::mark_length(part);
     write_part(k, file, judged, t, calls, ids, refusals, &part[mark..], out)
 }
@@ -99,7 +99,7 @@ fn write_last(
     calls: &[u32],
     ids: &[u8],
     refusals: &mut [u8],
-    k: Carried,
+    k: QueryCarried,
     input: Input,
     out: &mut [u8],
 ) -> QueryEnded
@@ -127,7 +127,7 @@ fn write_rest(
     calls: &[u32],
     ids: &[u8],
     refusals: &mut [u8],
-    first: Carried,
+    first: QueryCarried,
     begun: Input,
     out: &mut [u8],
 ) -> QueryEnded
@@ -153,7 +153,7 @@ fn write_rest(
 }
 
 // A run that ends here.
-fn ended(k: Carried, input: Input) -> QueryEnded
+fn ended(k: QueryCarried, input: Input) -> QueryEnded
     ensures { λ r. ⌜ (r .input ≡ input) × (r .sent ≡ k .sent) ⌝ }
 {
     let s = k.progress;

@@ -38,7 +38,7 @@ use Rattle.delivery_sessions.proofs.QueryRuns.{ran-own, query-count, query-refu
 use Rattle.query_input.specs.declared.QueryEnded.{QueryEnded}
 use Rattle.query_run.specs.declared.QuestionsAnswered.{QuestionsAnswered}
 use Rattle.query_run.specs.declared.QueryOutcome.{QueryOutcome}
-use Rattle.query_run.specs.QueryOutcomes.{NothingAnswered, QueryAnswered, runFailed, outcomeOf, QueryRunEnds}
+use Rattle.query_run.specs.QueryOutcomes.{NothingAnswered, QueryAnswered, runFailed, queryOutcome, QueryRunEnds}
 use borrow.Author.Tests.{le-leb, ne-eqb}
 
 -- ---- what is told
@@ -161,7 +161,7 @@ module _ (judged : FileCalendar) (f text calls calls′ ids ids′ : List ℕ) (
 
 -- ---- the whole run
 
-module _ (file notices : Transfer) (a : QuestionsAnswered) (r : QueryOutcome) (o : r ≡ outcomeOf file notices a) where
+module _ (file notices : Transfer) (a : QuestionsAnswered) (r : QueryOutcome) (o : r ≡ queryOutcome file notices a) where
   -- a file that cannot be read ends the run
   pub file-failed : file .failed ≡ true → notices .length ≡ 0 → NothingAnswered a → a .told .bytes ≡ 0 → QueryRunEnds r
   file-failed e z n t =

@@ -39,8 +39,8 @@ unfoldable pub runFailed : Transfer → Transfer → QuestionsAnswered → Bool
 runFailed file notices a = file .failed || (notices .failed || (a .input .failed || not (a .sent .open)))
 
 -- only the code needs it: a run by what it read and answered, with its status
-abbrev pub outcomeOf : Transfer → Transfer → QuestionsAnswered → QueryOutcome
-outcomeOf file notices a = record { file = file; notices = notices; answered = a; status = statusOf (runFailed file notices a) (a .refused) }
+abbrev pub queryOutcome : Transfer → Transfer → QuestionsAnswered → QueryOutcome
+queryOutcome file notices a = record { file = file; notices = notices; answered = a; status = statusOf (runFailed file notices a) (a .refused) }
 
 -- a run: there are a file and notices with as many bytes as were read; that they are those which were read is not said.
 -- The notices of a file that is refused are not read, and have no bytes here

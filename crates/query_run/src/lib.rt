@@ -16,7 +16,7 @@ ghost use Rattle.file_calendar.specs.Calendars.{calendarAnswer};
 ghost use Rattle.file_load.specs.Load.{judgeCall};
 ghost use Rattle.streams.specs.Transfers.{Within};
 ghost use Rattle.delivery_queries.specs.Queries.{queryTold};
-ghost use Rattle.query_run.specs.QueryOutcomes.{NothingAnswered, QueryAnswered, outcomeOf, QueryRunEnds};
+ghost use Rattle.query_run.specs.QueryOutcomes.{NothingAnswered, QueryAnswered, queryOutcome, QueryRunEnds};
 
 // How far standard input was read, what has been written, how much was told of the two files,
 // and whether the file or a notice is refused or an answer is `NO n` or `BAD K`.
@@ -149,7 +149,7 @@ fn judged(
 
 // A run with its status: whether a file or standard input could not be read or the output did not take all, and whether something is refused or bad.
 fn outcome(file: Transfer, notices: Transfer, answered: QuestionsAnswered) -> QueryOutcome
-    ensures { λ r. ⌜ r ≡ outcomeOf file notices answered ⌝ }
+    ensures { λ r. ⌜ r ≡ queryOutcome file notices answered ⌝ }
 {
     let input = answered.input;
     let sent = answered.sent;

@@ -27,7 +27,7 @@ use Rattle.delivery_refusals.specs.Refusals.{masterText, badNoticeText}
 use Rattle.delivery_parts.proofs.Handing.{master-short, bad-short, lists-fit}
 use Rattle.delivery_receipts.specs.Receipts.{receiptOf}
 use Rattle.delivery_reconciled.specs.Reconciled.{differencesText, toldText, reconcileText, reconcileTold, reconcileRefused}
-use Rattle.delivery_reconciling.specs.ReconcileRuns.{RanOn}
+use Rattle.delivery_reconciling.specs.ReconcileRuns.{ReconciledOn}
 use Rattle.reconcile_rows.specs.declared.Reconciled.{Reconciled}
 use Rattle.reconcile_rows.specs.RowsRuns.{NoRows}
 use Rattle.reconcile_rows.proofs.RowsRan.{other}
@@ -113,10 +113,10 @@ refused-ran f notices e told w r n =
             ran = λ _. record { input = []; count = n .unread .1; is = λ rest h. on rest };
             failed = λ y. clash y (n .unread .2);
           };
-      unread = λ _. (n .unread .0, n .unread .1);
+      unread = λ _. (n .unread .0, n .unread .1, n .unread .2, n .taken);
     }
   where
-    on : (input : List ℕ) → RanOn f notices (r .sent) (r .told .bytes) (r .status) input
+    on : (input : List ℕ) → ReconciledOn f notices (r .sent) (r .told .bytes) (r .status) input
     on input =
         record {
           text = λ _. omega (arith, n .none, ap length (none-written f notices e input));

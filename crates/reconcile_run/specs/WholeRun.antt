@@ -23,7 +23,9 @@ readsRows f notices = eqb (firstNo (loadAsks f)) 0 && eqb (textTold notices .bad
 -- what a file and a text of notices give, with the rows of standard input where these are read
 pub record RowsRun (f notices : List ℕ) (r : Reconciled) : Type 0 where
   pub ran : ReconcileRan f notices (r .input) (r .sent) (r .told .bytes) (r .status)
-  pub unread : readsRows f notices ≡ false → (r .input .left ≡ 18446744073709551615) × (r .input .bytes ≡ 0)
+  -- where no row is read, nothing of standard input was read, no read failed, and standard output took all, which is nothing
+  pub unread : readsRows f notices ≡ false
+      → (r .input .left ≡ 18446744073709551615) × (r .input .bytes ≡ 0) × (r .input .failed ≡ false) × (r .sent .open ≡ true)
 
 -- 'A file that cannot be read .. ends the run with nothing more printed':
 -- nothing was written, nothing else told, no row read, and the status is 2

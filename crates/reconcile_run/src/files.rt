@@ -1,4 +1,4 @@
-// RowsKept master.bin and notices.txt.
+// Reading master.bin and notices.txt.
 ghost use mathlib.Core.Path.{_≡_};
 ghost use mathlib.Core.Bool.{true, false};
 ghost use Prim.Native.Nat.{_≤_};
