@@ -21,8 +21,8 @@ use Rattle.file_text_print.specs.Contents.{partText}
 use Rattle.delivery_questions.specs.QuestionLines.{Question, last, due, tick, cash, size, asks, askedHeld}
 use Rattle.delivery_answers.specs.declared.Standing.{Standing}
 use Rattle.delivery_answers.specs.Numbers.{inEightDigits, decimalShort, numberText}
-use Rattle.delivery_answers.specs.Replies.{noText, okText, lastDayText, dueText, tickText, signText, amountText, cashText, sizeText, questionText, replyText}
-use Rattle.delivery_answers.specs.Replies.{questionRefused, replyRefused, replyLine}
+use Rattle.delivery_answers.specs.Replies.{noText, okText, lastDayText, dueText, tickText, signText, amountText, cashText, sizeText}
+use Rattle.delivery_answers.specs.Replies.{questionText, replyText, questionRefused, replyRefused, replyLine}
 use Rattle.delivery_answers.proofs.QuestionHeld.{reply-text}
 
 -- the first byte of a text, whatever follows it, is no N, 78

@@ -141,7 +141,8 @@ pub record Going (of : List ℕ → Standing) (k : ℕ) (b : Bool) (l : LongLine
   -- a place that begins in the part stays in the part
   pub within : from ≤ length part → r .at ≤ length part
   -- nothing has been done yet, or the buffer has 512 bytes and the place has moved on from one inside the part
-  pub on : ((r ≡ record { number = k; line = l; at = from; length = 0; refused = b }) × (after ≡ before)) ⊎ ((512 ≤ length before) × (from < length part) × (from < r .at))
+  pub on : ((r ≡ record { number = k; line = l; at = from; length = 0; refused = b }) × (after ≡ before))
+      ⊎ ((512 ≤ length before) × (from < length part) × (from < r .at))
 
 module _ (of : List ℕ → Standing) (h : ℕ) (b : Bool) (l : LongLine) (part : List ℕ) (from : ℕ) (before : List ℕ) where
   -- before the first line nothing is written and the place is the first

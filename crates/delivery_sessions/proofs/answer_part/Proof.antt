@@ -11,7 +11,8 @@ use Rattle.delivery_sessions.proofs.answer_part.Tie as tie
 
 abbrev Inv-loop : tie.InvT-loop
 Inv-loop file judged t calls ids refusals₀ part out₀ s₀ refusals out s =
-    Going (standingIn judged file t calls ids (length refusals₀)) (s₀ .number) (s₀ .refused) (s₀ .line) part (s₀ .at) out₀ out s × (length refusals ≡ length refusals₀)
+    Going (standingIn judged file t calls ids (length refusals₀)) (s₀ .number) (s₀ .refused) (s₀ .line) part (s₀ .at) out₀ out s
+    × (length refusals ≡ length refusals₀)
 
 abbrev μ-loop : tie.MeasureT-loop
 μ-loop file judged t calls ids refusals₀ part out₀ s₀ refusals out s = length part - s .at

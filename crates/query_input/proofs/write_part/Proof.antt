@@ -32,7 +32,9 @@ write-out-requires c κs =
     (a .fits, answers (a .text))
 
 same-length : tie.Need-same-length Inv-loop μ-loop
-same-length c = let at-loop = c .before .before .before .before .before .before .before .before .before .before .before .before .before in omega (arith, at-loop .loop .inv .2)
+same-length c =
+    let at-loop = c .before .before .before .before .before .before .before .before .before .before .before .before .before in
+    omega (arith, at-loop .loop .inv .2)
 
 same-length-2 : tie.Need-same-length-2 Inv-loop μ-loop
 same-length-2 c =

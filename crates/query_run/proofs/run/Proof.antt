@@ -32,4 +32,5 @@ returns-2 c =
 pub run-spec : {M : Type 1} → statement M
 run-spec =
     tie.close (tie.spec (λ c. search needs) (λ c. search needs) (λ c. search needs) (λ c κs. tt) (λ c κs. tt) (λ c κs. tt) (λ c κs. tt) (λ c κs. tt) returns
-    (λ c. search needs) slice-aggregate-judged (λ c. search needs) (λ c. search needs) (λ c. search needs) (λ c. search needs) judged-requires (λ c κs. tt) returns-2)
+    (λ c. search needs) slice-aggregate-judged (λ c. search needs) (λ c. search needs) (λ c. search needs) (λ c. search needs) judged-requires
+    (λ c κs. tt) returns-2)
