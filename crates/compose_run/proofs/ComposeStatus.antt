@@ -28,7 +28,8 @@ compose-ran n h status long r t s =
     record { ran = r; ends = s ∙ ap (λ (b : Bool). statusOf (not (h .sent .open)) b) (refused-is (r .input) long e) }
 
 -- a run that read its list
-pub compose-read : (r : ComposeOutcome) (i : Input) → r .input ≡ i → i .left ≡ 0 → i .failed ≡ false → ComposeRan (i .bytes) (r .handed) (r .status) → ComposeEnded r
+pub compose-read : (r : ComposeOutcome) (i : Input) → r .input ≡ i → i .left ≡ 0 → i .failed ≡ false
+    → ComposeRan (i .bytes) (r .handed) (r .status) → ComposeEnded r
 compose-read r i e l f a = rw e record { read = l; ran = λ _. a; unread = λ x. absurd (true≢false (sym x ∙ f)) }
 
 -- a run whose list could not be read to its end

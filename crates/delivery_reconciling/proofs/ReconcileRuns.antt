@@ -136,7 +136,8 @@ module _ (f notices : List ℕ) (verdict : Answer Calendar) (t : NoticesTaken) (
 
     -- the lines of all products after the heading
     pub products-out : (headed : Sent) → (headed .open ≡ true → Grew 0 (length differencesHeading) (headed .bytes))
-        → (r : LinesPrinted) → PlacesOut (openIn verdict f) f (t .date) (t .count) calls ids a rows places (placeCount f) headed r → ProductsOut f notices a rows r
+        → (r : LinesPrinted) → PlacesOut (openIn verdict f) f (t .date) (t .count) calls ids a rows places (placeCount f) headed r
+        → ProductsOut f notices a rows r
     products-out headed h r y =
         let x : PlacesOut (openCall f) f (t .date) (t .count) calls ids a rows places (placeCount f) headed r = rw own-opening at y in
         record {
@@ -252,7 +253,8 @@ module _ (f notices : List ℕ) (verdict : Answer Calendar) (t : NoticesTaken) (
       rw (own-opening f notices verdict t calls ids g, ap (λ (x : NoticesTold). x .opened) (g .held), ap (λ (x : NoticesTold). x .date) (g .held)) refl
 
   module _ (opened : ℕ) (o : Grew 0 (length (partsText (openingText (openIn verdict f) f (t .opened) (t .date)) (placeCount f))) opened)
-      (a : Lists) (bads : List ℕ) (s : RowsKept) (tells : AllBadsTold opened bads s) (input : List ℕ) (e : receiptIn (s .state) a bads ≡ receiptOf f input) where
+      (a : Lists) (bads : List ℕ) (s : RowsKept) (tells : AllBadsTold opened bads s) (input : List ℕ)
+      (e : receiptIn (s .state) a bads ≡ receiptOf f input) where
     told-long : length (reconcileTold f notices input)
         ≡ length (partsText (openingText (openIn verdict f) f (t .opened) (t .date)) (placeCount f))
         + (length (badRowsText bads) + length (lastText (openCall f) f (textTold notices) (receiptIn (s .state) a bads)))

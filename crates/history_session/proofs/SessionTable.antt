@@ -120,7 +120,8 @@ module _ (file : List ℕ) (b : Bool) (t : Table) (c : Command) where
 
   after-close : c .letter ≡ 67 → Keeps (keptAfter (openCall file) (withTable b t) c) (next t c)
   unfolding keptAfter outcomeOf isMove moveOf closeCall moved
-  after-close e = rw e (call-kept b t (closeCall t (c .day)) (refused-keeps t (closeAsks t (c .day)) (moved t (closeDay (t .calendar) (c .day)) (t .date)) refl))
+  after-close e =
+      rw e (call-kept b t (closeCall t (c .day)) (refused-keeps t (closeAsks t (c .day)) (moved t (closeDay (t .calendar) (c .day)) (t .date)) refl))
 
   after-line : Letter (c .letter) → isOpening file c ≡ false → Keeps (keptAfter (openCall file) (withTable b t) c) (next t c)
   after-line (none e) n = after-other e

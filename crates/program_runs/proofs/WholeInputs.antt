@@ -57,6 +57,7 @@ module _ (most : ℕ) (text : List ℕ → List ℕ) (refused : List ℕ → Boo
       }
 
 -- a run with the bytes that came of a file
-pub answers-with : (text : List ℕ → List ℕ → List ℕ) (refused : List ℕ → List ℕ → Bool) (r : AnswerOutcome) (file : List ℕ) → RunAnswered (text file) (refused file) r
+pub answers-with : (text : List ℕ → List ℕ → List ℕ) (refused : List ℕ → List ℕ → Bool) (r : AnswerOutcome) (file : List ℕ)
+    → RunAnswered (text file) (refused file) r
     → length file ≤ 65537 → RunAnsweredWith text refused r
 answers-with text refused r file a h = record { file = file; few = h; is = a }

@@ -16,7 +16,7 @@ use Rattle.file_calendar.specs.declared.FileCalendar.{FileCalendar}
 use Rattle.file_calendar.specs.Calendars.{calendarAnswer}
 use Rattle.file_load.specs.Load.{loadAsks, judgeCall}
 use Rattle.session_lines.specs.declared.Line.{Line}
-use Rattle.session_lines.specs.CommandLines.{emptyLine, fed}
+use Rattle.session_lines.specs.CommandLines.{emptyLine}
 use Rattle.session_lines.proofs.LineFeeding.{fed-holds}
 use Rattle.file_text_print.specs.Contents.{LineWith}
 use Rattle.delivery_notices.specs.declared.NoticesTaken.{NoticesTaken}
@@ -39,7 +39,7 @@ use Rattle.query_input.specs.declared.QueryEnded.{QueryEnded}
 use Rattle.query_run.specs.declared.QuestionsAnswered.{QuestionsAnswered}
 use Rattle.query_run.specs.declared.QueryOutcome.{QueryOutcome}
 use Rattle.query_run.specs.QueryOutcomes.{NothingAnswered, QueryAnswered, runFailed, queryOutcome, QueryRunEnds}
-use borrow.Author.Tests.{le-leb, ne-eqb}
+use borrow.Author.Tests.{le-leb}
 
 -- ---- what is told
 

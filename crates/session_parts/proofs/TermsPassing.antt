@@ -411,7 +411,8 @@ module _ (opening : List ℕ → ℕ → Outcome) (h : Kept) (l : Line) (before 
 
   -- a begun line gets its answer as the last one
   pub last : (after : List ℕ) (next : ℕ) (kept : Kept) → (l .length ≡ 0 → ⊥) → kept ≡ keptAfter opening h (lineCommand l)
-      → Printed before after 0 next (answerText opening h (lineCommand l)) → LastAnswer opening h l before after (record { length = next; refused = kept .refused })
+      → Printed before after 0 next (answerText opening h (lineCommand l))
+      → LastAnswer opening h l before after (record { length = next; refused = kept .refused })
   last after next kept e s p = go (lt-or-ge (length before) 512)
     where
       told : kept .refused ≡ restKept opening h l [] .refused

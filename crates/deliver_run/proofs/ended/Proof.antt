@@ -1,5 +1,5 @@
 -- The status is that of whether a read or a write failed, and whether something was told.
-use mathlib.Core.Path.{_≡_, refl, _∙_, ap}
+use mathlib.Core.Path.{_≡_, refl}
 use mathlib.Core.Bool.{Bool, not, _||_}
 use Prim.Native.Nat.{ℕ}
 use Rattle.program_status.specs.Statuses.{statusOf}
@@ -16,7 +16,8 @@ returns c =
       refl,
       refl,
       refl,
-      same-status (start .args .master .failed) (start .args .notices .failed) _ _ _ _ _ (c .status .ensures) (at-told .before .is-open .ensures) (at-told .has-told .ensures),
+      same-status (start .args .master .failed) (start .args .notices .failed) _ _ _ _ _ (c .status .ensures)
+          (at-told .before .is-open .ensures) (at-told .has-told .ensures),
     )
 
 pub ended-spec : {M : Type 1} → statement M

@@ -1,5 +1,5 @@
 -- A misfit is bad; any other question is answered after its line, and refused where its reply begins with an N.
-use mathlib.Core.Path.{refl, sym, _∙_}
+use mathlib.Core.Path.{sym, _∙_}
 use native.Mathlib.Omega.{arith}
 use Rattle.delivery_answers.proofs.ReplyLengths.{reply-short}
 use Rattle.delivery_queries.proofs.Answering.{short-line, answer-bad, answer-reply, refused-misfit, refused-reply}

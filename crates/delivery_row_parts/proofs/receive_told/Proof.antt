@@ -40,4 +40,5 @@ returns c =
     (before-14 .take-row .ensures) _ refl refl (c .tell-row .ensures)
 
 pub receive-told-spec : {M : Type 1} → statement M
-receive-told-spec = tie.close (tie.spec (λ c κs. tt) tell-row-requires same-length same-length-2 same-length-3 same-length-4 same-length-5 same-length-6 returns)
+receive-told-spec =
+    tie.close (tie.spec (λ c κs. tt) tell-row-requires same-length same-length-2 same-length-3 same-length-4 same-length-5 same-length-6 returns)

@@ -1,7 +1,6 @@
 -- The status is the definition's, of what failed and of what is refused.
 use mathlib.Core.Path.{refl}
 use Rattle.query_run.specs.QueryOutcomes.{runFailed}
-use borrow.Author.Needs.{needs}
 use Rattle.query_run.proofs.outcome.Statement.{statement}
 use Rattle.query_run.proofs.outcome.Tie as tie
 

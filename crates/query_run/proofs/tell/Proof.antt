@@ -3,7 +3,6 @@ use mathlib.Core.Path.{sym}
 use native.Mathlib.Omega.{arith}
 use lib.Seq.{length-take-le}
 use Rattle.query_run.proofs.QueryWholeRun.{told-fits}
-use borrow.Author.Needs.{needs}
 use Rattle.query_run.proofs.tell.Statement.{statement}
 use Rattle.query_run.proofs.tell.Tie as tie
 

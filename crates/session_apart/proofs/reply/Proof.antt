@@ -49,7 +49,11 @@ returns-2 c = λ w.
     (record {
       kept = no-kept-apart verdict f (h .opened) (h .refused) (h .rest) first second k m _ _ b v n;
       text = rw (← no-text-apart verdict f (h .opened) (h .refused) (h .rest) first second k m _ _ b v n) (at-print-refusal .print-refusal .ensures);
-      known = record { calendar = w .calendar; tenth = w .tenth ∙ ap sound (sym (no-table-apart verdict f (h .opened) (h .refused) (h .rest) first second k m _ _ b v n)) };
+      known =
+          record {
+            calendar = w .calendar;
+            tenth = w .tenth ∙ ap sound (sym (no-table-apart verdict f (h .opened) (h .refused) (h .rest) first second k m _ _ b v n));
+          };
     })
 
 -- ---- an accepted call

@@ -1,5 +1,5 @@
 -- What was read of the file lies within its buffer; what `answer_all` promises of it is promised of the run.
-use mathlib.Core.Path.{sym, _∙_}
+use mathlib.Core.Path.{sym}
 use lib.Seq.{length-take-le}
 use borrow.Author.Needs.{needs}
 use Rattle.terms_run.proofs.run.Statement.{statement}

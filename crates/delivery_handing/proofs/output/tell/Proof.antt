@@ -13,7 +13,8 @@ returns c = (refl, λ k s x. omega (arith, c .if1 .taken))
 returns-2 : tie.Need-returns-2
 returns-2 c = (refl, λ k s x. absurd (omega (arith, k, c .if2 .taken)))
 
-within : (c : tie.After-bytes) → c .before .before .before .before .before .args .line .length ≤ length (c .before .before .before .before .before .args .line .bytes)
+within : (c : tie.After-bytes)
+    → c .before .before .before .before .before .args .line .length ≤ length (c .before .before .before .before .before .args .line .bytes)
 within c =
     let start = c .before .before .before .before .before in
     let l : length (start .args .line .bytes) ≡ 64 = simp length-map at (start .good .1 .1 .1 .0 .1 .1 .0 .1 .0 .1) in
