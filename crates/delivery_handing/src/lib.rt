@@ -82,11 +82,11 @@ fn print_place(
     t: NoticesTaken,
     calls: &[u32],
     ids: &[u8],
+    refusals: &mut [u8],
+    out: &mut [u8],
 ) -> DeliveryHanded
-    ensures { λ r. ⌜ (Runs (now (file .entry)) (now (text .entry)) (calendarAnswer judged) t (now (calls .entry)) (now (ids .entry)) → HandedTo (now (file .entry)) (now (text .entry)) p (handed .sent .bytes) (handed .told) → p < placeCount (now (file .entry)) → r .sent .open ≡ true → HandedTo (now (file .entry)) (now (text .entry)) (p + 1) (r .sent .bytes) (r .told)) ⌝ }
+    ensures { λ r. ⌜ (Runs (now (file .entry)) (now (text .entry)) (calendarAnswer judged) t (now (calls .entry)) (now (ids .entry)) → HandedTo (now (file .entry)) (now (text .entry)) p (handed .sent .bytes) (handed .told) → p < placeCount (now (file .entry)) → 6554 ≤ length (now (refusals .entry)) → length (now (out .entry)) ≡ 1024 → r .sent .open ≡ true → HandedTo (now (file .entry)) (now (text .entry)) (p + 1) (r .sent .bytes) (r .told)) ⌝ }
 {
-    let mut refusals = [0u8; 6554];
-    let mut out = [0u8; 1024];
     let part = delivery_parts::deliver_place(
         file,
         judged,
@@ -95,10 +95,10 @@ fn print_place(
         calls,
         ids,
         t.count,
-        &mut refusals,
-        &mut out,
+        refusals,
+        out,
     );
-    let written = output::write_out(handed, file, text, &out, part.length);
+    let written = output::write_out(handed, file, text, out, part.length);
     if !output::is_open(written) {
         return written;
     }
@@ -109,7 +109,7 @@ fn print_place(
         part,
         t.opened,
         calls,
-        &refusals,
+        refusals,
         t.count,
     )
 }
@@ -128,9 +128,22 @@ fn print_places(
 {
     let mut h = handed;
     let places = 15 * (file.len() / 512);
+    let mut refusals = [0u8; 6554];
+    let mut out = [0u8; 1024];
     let mut p: usize = 0;
     while p < places {
-        h = print_place(h, file, judged, text, p, t, calls, ids);
+        h = print_place(
+            h,
+            file,
+            judged,
+            text,
+            p,
+            t,
+            calls,
+            ids,
+            &mut refusals,
+            &mut out,
+        );
         if !output::is_open(h) {
             return h;
         }
