@@ -1,5 +1,5 @@
 -- The rows of the place come next of the rows, and its lines next of what is told: after both, one place more was handed out.
-use mathlib.Core.Path.{_≡_, _∙_, sym, ap}
+use mathlib.Core.Path.{_∙_, sym, ap}
 use mathlib.Core.Bool.{true≢false}
 use native.Mathlib.Omega.{arith}
 use Rattle.questions.proofs.Bools.{said-no, said-yes}
