@@ -7,7 +7,7 @@ use mathlib.Core.Logic.{_⊎_, inl, inr}
 use Prim.Native.Nat.{ℕ, _+_, _-_, _≤_, _<_}
 use native.Mathlib.Omega.{arith}
 use lib.ListN.{length, take, drop, drop-of-length-le, length-drop, length-append}
-use lib.Seq.{receive-all}
+use lib.Seq.{take-all}
 use borrow.Author.Tests.{eq-eqb, ne-eqb}
 use Rattle.questions.proofs.Bools.{lt-or-ge}
 use Rattle.session_lines.specs.declared.Line.{Line}
@@ -214,7 +214,7 @@ unmarked-all part rest z = go (lt-or-ge (length part) 3)
 without-mark : (part : List ℕ) (mark : ℕ) → mark ≡ markLength part → unmarked part ≡ take (length part - mark) (drop mark part)
 unfolding unmarked
 without-mark part mark m =
-    ap (λ (n : ℕ). drop n part) (sym m) ∙ sym (receive-all (length part - mark) (drop mark part) (omega (arith, length-drop mark part)))
+    ap (λ (n : ℕ). drop n part) (sym m) ∙ sym (take-all (length part - mark) (drop mark part) (omega (arith, length-drop mark part)))
 
 module _ (f : List ℕ) (t : Told) (k : LinesRead) (own : k .kept .told ≡ t) (empty : k .line ≡ emptyLong) (nothing : Nothing (k .kept))
     (part : List ℕ) (mark : ℕ) (m : mark ≡ markLength part) (a b : Lists) (r : LinesRead)

@@ -2,6 +2,7 @@
 use Prim.Native.Nat.{_-_}
 use native.Mathlib.Omega.{arith}
 use lib.ListN.{length, drop}
+use Rattle.delivery_items.proofs.LineEnds.{end-on}
 use Rattle.delivery_row_parts.specs.RowParts.{PartTold}
 use Rattle.delivery_row_parts.proofs.PartsTaken.{part-none, part-more, part-all}
 use Rattle.delivery_row_parts.proofs.receive_part.Statement.{statement}
@@ -31,18 +32,19 @@ loop-less c =
     .before .before in
     omega (
       arith,
-      c .before .before .before .before .before .before .before .before .before .before .before .before .before .before .before .before .before .before
-          .before .line-from .ensures .on (before-20 .loop-test .taken),
+      end-on _ _ _ _ (c .before .before .before .before .before .before .before .before .before .before .before .before .before .before .before .before
+          .before .before .before .line-from .ensures) (before-20 .loop-test .taken),
       before-20 .loop-test .taken,
     )
 
 loop-again : tie.Need-loop-again Inv-loop μ-loop
 loop-again c =
-    part-more _ _ _ _ _ _ _
-    (c .before .before .before .before .before .before .before .before .before .before .before .before .before .before .before .before .before .before .before
-    .before .before .loop .inv) _
-    (c .before .before .before .before .before .before .before .before .before .before .before .before .before .before .before .before .before .before
-    .before .line-from .ensures) _ _ (c .before .before .before .before .before .before .before .before .before .before .before .before .receive-end .ensures)
+    let at-line-from =
+    c .before .before .before .before .before .before .before .before .before .before .before .before .before .before .before .before .before .before
+    .before in
+    let at-loop = at-line-from .before .before in
+    part-more _ _ _ _ _ _ (at-loop .loop .at) (at-loop .loop .inv) _ (at-line-from .line-from .ensures) _ _
+    (c .before .before .before .before .before .before .before .before .before .before .before .before .receive-end .ensures)
 
 same-length : tie.Need-same-length Inv-loop μ-loop
 same-length c = c .before .loop .inv .lengths .ids
