@@ -570,7 +570,8 @@ class Debian(Installed):
         self.put_examples(EXAMPLES)
         self.session('chroot', self.path('root'), '/usr/lib/scullpouch/terms')
         self.put_examples(os.path.join(EXAMPLES, 'morning'))
-        self.assertEqual(run('chroot', self.path('root'), '/usr/lib/scullpouch/deliver'), read(EXAMPLES, 'morning', 'delivery.csv'))
+        done = ran('chroot', self.path('root'), '/usr/lib/scullpouch/deliver')
+        self.assertEqual((done.returncode, done.stdout), (status('deliver', done.stdout, done.stderr), read(EXAMPLES, 'morning', 'delivery.csv')))
 
     # dpkg in a system of its own where libc6 of a version is installed and nothing else: its status.
     def dpkg(self, *words, libc6=None):
