@@ -119,9 +119,10 @@ class Arguments(Installed):
             for words in (['--helpp'], ['--hel'], ['-h'], ['--version', '--help'], ['--help', 'x'], ['--' + 'x' * 100]):
                 with self.subTest(f'{name} {words}'):
                     status_, printed, told = self.run_program(name, *words)
-                    self.assertEqual((status_, printed), (2, b''))
-                    self.assertEqual(told, f'{name}: unknown argument; --help says what there is\n'.encode())
-                command = ['sh', '-c', 'printf kept | { "$0" "$@" 2>/dev/null; cat; }', os.path.join(PROGRAMS, name), *words]
+                    line = f'{name}: unknown argument; --help says what there is\n'.encode()
+                    wanted = (2, b'NO 1\n', b'') if name == 'gateway' else (2, b'', line)
+                    self.assertEqual((status_, printed, told), wanted)
+                command = ['sh', '-c', 'printf kept | { "$0" "$@" >/dev/null 2>&1; cat; }', os.path.join(PROGRAMS, name), *words]
                 self.assertEqual(self.run_program(name, command=command)[1], b'kept', f'{name} {words}')
 
     # A help that cannot be written.

@@ -468,7 +468,7 @@ class Tar(Installed):
         file = read(EXAMPLES, 'master.bin')
         self.assertRegex(run(self.command, 'gateway', blocks, input=file), rb'^OK ')
         done = ran(self.command, 'gateway', f'{blocks} ', input=file)
-        self.assertEqual((done.returncode, done.stdout), (1, b'NO 1\n'))
+        self.assertEqual((done.returncode, done.stdout), (2, b'NO 1\n'))
 
     # A word that is no program: status 2, a line, and nothing is read.
     def test_no_program(self):

@@ -46,13 +46,6 @@ pub fn asked_for() -> Request {
     Request::Other
 }
 
-// Whether the first argument begins with a hyphen. Of a longer one than the buffer the first byte is there.
-pub fn begins_with_hyphen() -> bool {
-    let mut word = [0u8; 1];
-    os::arg(1, &mut word);
-    word[0] == b'-'
-}
-
 // The status after a text that was asked for was written.
 pub fn shown(sent: Sent) -> u8
     ensures { λ r. ⌜ r ≡ cond (sent .open) 0 2 ⌝ }

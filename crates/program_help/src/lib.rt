@@ -72,12 +72,12 @@ pub fn decompose_version(sent: Sent) -> Sent
 
 // docs/help/gateway.txt.
 pub fn gateway_help(sent: Sent) -> Sent
-    ensures { λ r. ⌜ (r .open ≡ true → (sent .open ≡ true) × (r .bytes ≡ (sent .bytes + 501) % 2 ^ 64)) ⌝ }
+    ensures { λ r. ⌜ (r .open ≡ true → (sent .open ≡ true) × (r .bytes ≡ (sent .bytes + 496) % 2 ^ 64)) ⌝ }
 {
     streams::write_next(
         sent,
         b"gateway: standard output",
-        b"usage: scullpouch gateway N < master.bin\n\nJudges a master file with one block of it in memory. N is the number of its\nblocks: its bytes / 512, 2 to 128.\n\nReads:    the file from standard input, 512 bytes at a time.\nWrites:   OK and the counts of years and of records, or NO and a number where\n          the file is refused, or N is another number or none.\nExample:  scullpouch gateway 5 < master.bin\nStatus:   0 all well; 1 the file is refused; 2 input or output failed, or wrong\n          arguments.\n",
+        b"usage: scullpouch gateway N < master.bin\n\nJudges a master file with one block of it in memory. N is the number of its\nblocks: its bytes / 512, 2 to 128.\n\nReads:    the file from standard input, 512 bytes at a time.\nWrites:   OK and the counts of years and of records, or NO and a number where\n          the file is refused; NO 1 where N is no number.\nExample:  scullpouch gateway 5 < master.bin\nStatus:   0 all well; 1 the file is refused; 2 input or output failed, or wrong\n          arguments.\n",
     )
 }
 

@@ -92,7 +92,7 @@ pub extern "C" fn scullpouch_program_query() -> i32 {
     }
 }
 
-// `gateway`: its argument is the number of blocks; one that is none of those that it knows and no number gets 1.
+// `gateway`: its argument is the number of blocks. Another one than those that it knows, or none, is no number.
 #[no_mangle]
 pub extern "C" fn scullpouch_program_gateway() -> i32 {
     let none = streams::nothing_sent();
@@ -100,15 +100,17 @@ pub extern "C" fn scullpouch_program_gateway() -> i32 {
     match asked {
         Request::Help => program_arguments::shown(program_help::gateway_help(none)) as i32,
         Request::Version => program_arguments::shown(program_help::gateway_version(none)) as i32,
-        Request::Other => gateway_other(),
-        Request::Nothing => gateway_run::run(gateway_run::number_said()).status as i32,
+        Request::Nothing => gateway_by_number(),
+        Request::Other => gateway_by_number(),
     }
 }
 
-// A run of `gateway`, unless its first argument begins with a hyphen.
-fn gateway_other() -> i32 {
-    if program_arguments::begins_with_hyphen() {
-        return program_arguments::refused(b"gateway") as i32;
+// A run of `gateway`. Where its argument is no number it answers `NO 1` without reading, and the arguments are wrong.
+fn gateway_by_number() -> i32 {
+    let number = gateway_run::number_said();
+    let ended = gateway_run::run(number);
+    if number == 0 {
+        return 2;
     }
-    gateway_run::run(gateway_run::number_said()).status as i32
+    ended.status as i32
 }
