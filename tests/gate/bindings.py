@@ -24,6 +24,7 @@ from tests import ROOT
 from tests.inputs import calls, sessions
 from tests.inputs.runs.case import WHOLE, Chance
 from tests.second import terms
+from tests.second.status import status
 
 GATE = os.path.join(ROOT, 'tests', 'gate')
 BINDINGS = os.path.join(ROOT, 'bindings')
@@ -427,7 +428,8 @@ class Interface(unittest.TestCase):
     def test_command(self):
         command = os.path.join(BUILT.prefix, 'bin', 'scullpouch')
         commands, expected = (read(EXAMPLES, name).encode() for name in ('session.txt', 'session.out'))
-        self.assertEqual(run(command, 'terms', cwd=EXAMPLES, input=commands), expected)
+        ran = subprocess.run([command, 'terms'], cwd=EXAMPLES, input=commands, capture_output=True, timeout=SECONDS)
+        self.assertEqual((ran.returncode, ran.stdout), (status('terms', expected, b''), expected))
         self.assertTrue(run(command, '--version').decode().startswith(f'scullpouch {version()}, commit '))
         part = re.search(r'^## The programs\n(.*?)^## ', read(ROOT, 'docs', 'OPERATIONS.md'), re.M | re.S)[1]
         self.assertEqual(sorted(os.listdir(os.path.join(BUILT.prefix, 'lib', 'scullpouch'))),
@@ -437,7 +439,8 @@ class Interface(unittest.TestCase):
     def test_second_run(self):
         with tempfile.TemporaryDirectory() as folder:
             with open(os.path.join(folder, 'rt'), 'w', encoding='utf-8') as out:
-                out.write("#!/bin/sh\necho 'rt: days proved (unchanged since it was last proved)'\n")
+                out.write(f"#!/bin/sh\n[ \"$1\" != doc ] || exec '{shutil.which('rt')}' doc\n"
+                          "echo 'rt: days proved (unchanged since it was last proved)'\n")
             os.chmod(os.path.join(folder, 'rt'), 0o755)
             environment = {**os.environ, 'PATH': folder + os.pathsep + os.environ['PATH']}
             for _ in range(2):
