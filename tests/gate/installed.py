@@ -43,7 +43,8 @@ judged=$?
 rm -rf "$made"
 exit "$judged"
 '''
-COMPARED = (('terms', 'terms', '--cases', '60'), ('lists', ''), ('confirm', 'confirm'), ('delivery', '', '--cases', '60'))
+COMPARED = (('terms', 'terms', '--cases', '60'), ('lists', '', '--cases', '40'), ('confirm', 'confirm', '--cases', '20'),
+            ('delivery', '', '--cases', '60'))
 
 
 def setUpModule():
