@@ -15,7 +15,7 @@ from .manual import command_page, help_text, page as manual_page
 NAME = 'scullpouch'
 SUMMARY = 'Contract terms of stock futures and stock options'
 MAINTAINER = 'Scullpouch maintainers <maintainers@users.noreply.scullpouch.example>'
-DOCUMENTS = ('README.md', 'CHANGELOG.md', 'docs', 'examples')
+DOCUMENTS = ('README.md', 'CHANGELOG.md', 'CONTRIBUTING.md', 'docs', 'examples', 'page/scullpouch.png', 'tests/README.md')
 NEEDS_KIT = {'examples/run'}  # it proves the programs that it runs
 PYTHON = 'bindings/python/scullpouch/'
 

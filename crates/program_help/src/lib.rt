@@ -6,12 +6,12 @@ ghost use Prim.Native.Nat.{_+_, _%_, _^_};
 
 // docs/help/terms.txt.
 pub fn terms_help(sent: Sent) -> Sent
-    ensures { λ r. ⌜ (r .open ≡ true → (sent .open ≡ true) × (r .bytes ≡ (sent .bytes + 854) % 2 ^ 64)) ⌝ }
+    ensures { λ r. ⌜ (r .open ≡ true → (sent .open ≡ true) × (r .bytes ≡ (sent .bytes + 910) % 2 ^ 64)) ⌝ }
 {
     streams::write_next(
         sent,
         b"terms: standard output",
-        b"usage: scullpouch terms < COMMANDS\n\nSays which maturities of a product are listed on a date, and on which day each\nof them stops trading. A command stands on a line of its own:\n\n  O ID DATE   open the table of a product on a date\n  R DATE      roll the table to a date\n  C DATE      close a day\n\nReads:    master.bin in the folder in which it is started; commands from\n          standard input.\nWrites:   after each command the letter, the date and three counts, and a line\n          for each maturity: listing number, month (of a weekly option the\n          Friday), last trading day, days moved back. NO and a number where a\n          command is refused, BAD for another line.\nExample:  printf 'O AXA 2008-03-20\\nR 2008-03-21\\n' | scullpouch terms\nStatus:   0 all well; 1 an answer is NO or BAD; 2 input or output failed, or\n          wrong arguments.\n",
+        b"usage: scullpouch terms < COMMANDS\n\nSays which maturities of a product are listed on a date, and on which day each\nof them stops trading. A command stands on a line of its own:\n\n  O ID DATE   open the table of a product on a date\n  R DATE      roll the table to a date\n  C DATE      close a day\n\nReads:    master.bin in the folder in which it is started; commands from\n          standard input.\nWrites:   after each command the letter, the date and how many maturities\n          entered, left and were numbered so far, and a line for each maturity:\n          listing number, month (of a weekly option the Friday), last trading\n          day, days moved back. NO and a number where a command is refused, BAD\n          for another line.\nExample:  printf 'O AXA 2008-03-20\\nR 2008-03-21\\n' | scullpouch terms\nStatus:   0 all well; 1 an answer is NO or BAD; 2 input or output failed, or\n          wrong arguments.\n",
     )
 }
 
@@ -50,12 +50,12 @@ pub fn compose_version(sent: Sent) -> Sent
 
 // docs/help/decompose.txt.
 pub fn decompose_help(sent: Sent) -> Sent
-    ensures { λ r. ⌜ (r .open ≡ true → (sent .open ≡ true) × (r .bytes ≡ (sent .bytes + 435) % 2 ^ 64)) ⌝ }
+    ensures { λ r. ⌜ (r .open ≡ true → (sent .open ≡ true) × (r .bytes ≡ (sent .bytes + 422) % 2 ^ 64)) ⌝ }
 {
     streams::write_next(
         sent,
         b"decompose: standard output",
-        b"usage: scullpouch decompose < master.bin\n\nPrints the text of a master file, of which compose makes the file again.\n\nReads:    the file from standard input.\nWrites:   the years, the closed days and the products, a line each; NO and a\n          number where the file is refused.\nExample:  scullpouch decompose < master.bin > master.txt\nStatus:   0 all well; 1 the file is refused; 2 input or output failed, or wrong\n          arguments.\n",
+        b"usage: scullpouch decompose < master.bin\n\nPrints the text of a master file, of which compose makes the file again.\n\nReads:    the file from standard input.\nWrites:   the years, the closed days and the products, a line each; NO and a\n          number where the file is refused.\nExample:  scullpouch decompose < master.bin\nStatus:   0 all well; 1 the file is refused; 2 input or output failed, or wrong\n          arguments.\n",
     )
 }
 
@@ -72,12 +72,12 @@ pub fn decompose_version(sent: Sent) -> Sent
 
 // docs/help/gateway.txt.
 pub fn gateway_help(sent: Sent) -> Sent
-    ensures { λ r. ⌜ (r .open ≡ true → (sent .open ≡ true) × (r .bytes ≡ (sent .bytes + 496) % 2 ^ 64)) ⌝ }
+    ensures { λ r. ⌜ (r .open ≡ true → (sent .open ≡ true) × (r .bytes ≡ (sent .bytes + 527) % 2 ^ 64)) ⌝ }
 {
     streams::write_next(
         sent,
         b"gateway: standard output",
-        b"usage: scullpouch gateway N < master.bin\n\nJudges a master file with one block of it in memory. N is the number of its\nblocks: its bytes / 512, 2 to 128.\n\nReads:    the file from standard input, 512 bytes at a time.\nWrites:   OK and the counts of years and of records, or NO and a number where\n          the file is refused; NO 1 where N is no number.\nExample:  scullpouch gateway 5 < master.bin\nStatus:   0 all well; 1 the file is refused; 2 input or output failed, or wrong\n          arguments.\n",
+        b"usage: scullpouch gateway N < master.bin\n\nJudges a master file with one block of it in memory. N is the number of its\nblocks: its bytes / 512, 2 to 128.\n\nReads:    the file from standard input, 512 bytes at a time.\nWrites:   OK and the counts of years and of records, or NO and a number where\n          the file is refused; NO 1 where N is no number.\nExample:  scullpouch gateway $(($(wc -c < master.bin) / 512)) < master.bin\nStatus:   0 all well; 1 the file is refused; 2 input or output failed, or wrong\n          arguments.\n",
     )
 }
 
@@ -116,12 +116,12 @@ pub fn confirm_version(sent: Sent) -> Sent
 
 // docs/help/deliver.txt.
 pub fn deliver_help(sent: Sent) -> Sent
-    ensures { λ r. ⌜ (r .open ≡ true → (sent .open ≡ true) × (r .bytes ≡ (sent .bytes + 754) % 2 ^ 64)) ⌝ }
+    ensures { λ r. ⌜ (r .open ≡ true → (sent .open ≡ true) × (r .bytes ≡ (sent .bytes + 805) % 2 ^ 64)) ⌝ }
 {
     streams::write_next(
         sent,
         b"deliver: standard output",
-        b"usage: scullpouch deliver > DELIVERY\n\nPrints the tables of all products after the notices of many mornings.\n\nReads:    master.bin and notices.txt in the folder in which it is started. A\n          line of notices.txt is O DATE (the first), R DATE, C DATE, E DATE, or\n          M ID NEW OLD PRICE.\nWrites:   a heading and a row for each maturity of each product: product,\n          number, maturity, last_trading_day, days_back. On standard error the\n          calls that are refused, with the line of their notice; a refused\n          file, or a line that is no notice, and then no row.\nExample:  scullpouch deliver > delivery.csv 2> refused.txt\nStatus:   0 all well; 1 something is refused or bad; 2 input or output failed,\n          or wrong arguments.\n",
+        b"usage: scullpouch deliver > DELIVERY\n\nPrints the tables of all products after the notices of many mornings.\n\nReads:    master.bin and notices.txt in the folder in which it is started. A\n          line of notices.txt is O DATE (the first), R DATE, C DATE, E DATE, or\n          M ID NEW OLD PRICE.\nWrites:   a heading and a row for each maturity of each product: product,\n          number, maturity, last_trading_day, days_back. On standard error the\n          calls that are refused, with the line of their notice, and the rows\n          are delivered all the same; a refused file, or a line that is no\n          notice, and then no row.\nExample:  scullpouch deliver > delivery.csv 2> refused.txt\nStatus:   0 all well; 1 something is refused or bad; 2 input or output failed,\n          or wrong arguments.\n",
     )
 }
 
@@ -138,12 +138,12 @@ pub fn deliver_version(sent: Sent) -> Sent
 
 // docs/help/reconcile.txt.
 pub fn reconcile_help(sent: Sent) -> Sent
-    ensures { λ r. ⌜ (r .open ≡ true → (sent .open ≡ true) × (r .bytes ≡ (sent .bytes + 761) % 2 ^ 64)) ⌝ }
+    ensures { λ r. ⌜ (r .open ≡ true → (sent .open ≡ true) × (r .bytes ≡ (sent .bytes + 828) % 2 ^ 64)) ⌝ }
 {
     streams::write_next(
         sent,
         b"reconcile: standard output",
-        b"usage: scullpouch reconcile < DELIVERY\n\nSays of every product whether the rows of a delivery are those of its table\nafter the notices, in any order.\n\nReads:    master.bin and notices.txt in the folder in which it is started; rows\n          of three fields (product,maturity,last_trading_day) or of the five of\n          deliver from standard input, at most 65,536.\nWrites:   a heading and a line for each maturity that is missing, extra, twice,\n          or has another day or number. On standard error refused openings,\n          rows that are bad, and last the counts.\nExample:  scullpouch reconcile < delivery.csv > reload.csv\nStatus:   0 the delivery is right; 1 something differs, is refused or bad;\n          2 input or output failed, or wrong arguments.\n",
+        b"usage: scullpouch reconcile < DELIVERY\n\nSays of every product whether the rows of a delivery are those of its table\nafter the notices, in any order.\n\nReads:    master.bin and notices.txt in the folder in which it is started; rows\n          of three fields (product,maturity,last_trading_day) or of the five of\n          deliver from standard input, at most 65,536.\nWrites:   a heading and a line for each maturity that is missing, extra, twice,\n          or has another day, number or days_back, and for each product that\n          is not in the file. On standard error refused openings, rows that are\n          bad, and last the counts.\nExample:  scullpouch reconcile < delivery.csv > reload.csv\nStatus:   0 the delivery is right; 1 something differs, is refused or bad;\n          2 input or output failed, or wrong arguments.\n",
     )
 }
 
