@@ -42,7 +42,7 @@ def page(name, text, version):
     """The page scullpouch-NAME(1)."""
     usage, about, parts = taken_apart(text)
     made = [f'.TH SCULLPOUCH\\-{name.upper()} 1 "" "scullpouch {version}" "Scullpouch"',
-            '.SH NAME', escaped(f'scullpouch-{name} - {summary(about)}'),
+            '.nh', '.SH NAME', escaped(f'scullpouch-{name} - {summary(about)}'),
             '.SH SYNOPSIS', '.nf', escaped(usage), '.fi',
             '.SH DESCRIPTION', '.nf', escaped(about), '.fi']
     for label, heading in SECTIONS.items():
@@ -55,7 +55,7 @@ def page(name, text, version):
 def command_page(programs, texts, version):
     """The page scullpouch(1), of the command with the programs as its words."""
     made = ['.TH SCULLPOUCH 1 "" "scullpouch ' + version + '" "Scullpouch"',
-            '.SH NAME', escaped('scullpouch - contract terms of stock futures and stock options'),
+            '.nh', '.SH NAME', escaped('scullpouch - contract terms of stock futures and stock options'),
             '.SH SYNOPSIS', '.nf', escaped('scullpouch PROGRAM [WORD ..]\nscullpouch --help\nscullpouch --version'), '.fi', '.SH PROGRAMS']
     for name in programs:
         made += ['.TP', escaped(f'scullpouch {name}'), escaped(summary(taken_apart(texts[name])[1]))]
