@@ -9,7 +9,7 @@ nothing here passes or fails.
   python3 -m bench.delivery --write FOLDER  writes master.bin, notices.txt, rows and input,
                                             which is the same for terms
 
-Run `rt check deliver reconcile terms` first.
+Run `tools/built deliver reconcile terms` first.
 """
 import os
 import re
@@ -238,7 +238,7 @@ def main(arguments):
     programs = {name: os.path.join(folder, name) for name in ('deliver', 'reconcile', 'terms')}
     for name in ('deliver', 'reconcile'):
         if not os.path.exists(programs[name]):
-            print(f'bench: no {programs[name]}; run `rt check deliver reconcile terms` first', file=sys.stderr)
+            print(f'bench: no {programs[name]}; run `tools/built deliver reconcile terms` first', file=sys.stderr)
             return 2
     file, notices = file_of(), notices_of(ROLLS)
     assert read(notices)[0] == 0

@@ -14,7 +14,7 @@ test: nothing here passes or fails.
     languages            a roll through C, through Python and, where there is cargo,
                          through Rust, where there is a C compiler (cc)
 
-Run `rt check terms compose` first, which builds target/bin/terms and
+Run `tools/built terms compose` first, which builds target/bin/terms and
 target/bin/compose. compose makes one of the files, from the text that
 bench/streams.py writes.
 """
@@ -400,7 +400,7 @@ def main():
         return 2
     for program in (TERMS, COMPOSE):
         if not os.path.exists(program):
-            print(f'bench: no {os.path.relpath(program, ROOT)}; run `rt check terms compose` first', file=sys.stderr)
+            print(f'bench: no {os.path.relpath(program, ROOT)}; run `tools/built terms compose` first', file=sys.stderr)
             return 2
     print('Best of several runs; k are thousands of instructions of terms.')
     print(f'{"":64}{"terms":>12}{"second program":>19}')

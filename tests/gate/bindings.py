@@ -31,7 +31,8 @@ BINDINGS = os.path.join(ROOT, 'bindings')
 EXAMPLES = os.path.join(ROOT, 'examples')
 HEADER = os.path.join('include', 'scullpouch.h')
 MODULE = os.path.join('scullpouch', '__init__.py')
-CRATE = (ROOT, 'crates', 'scullpouch', 'src', 'lib.rt')
+CRATE = (ROOT, 'crates', 'scullpouch_c', 'src', 'lib.rt')
+INTERFACE = (ROOT, 'crates', 'scullpouch', 'src', 'lib.rt')
 FIXED_SCRIPTS, SCRIPTS, CHECKED_SCRIPTS, SESSIONS = 10, 4, 4, 20
 SECONDS = 120
 STACK = 65536
@@ -320,7 +321,7 @@ def structs():
     for folder in sorted(os.listdir(os.path.join(ROOT, 'crates'))):
         path = os.path.join(ROOT, 'crates', folder, 'src', 'lib.rt')
         text = read(path) if os.path.exists(path) else ''
-        for name, body in re.findall(r'^#\[repr\(C\)\]\npub struct (\w+) \{\n(.*?)^\}', text, re.M | re.S):
+        for name, body in re.findall(r'^#\[repr\(C\)\]\n(?:#\[[^\n]*\n)*pub struct (\w+) \{\n(.*?)^\}', text, re.M | re.S):
             found[name] = re.findall(r'^    pub (\w+): (.+),$', body, re.M)
     return found
 
@@ -413,7 +414,7 @@ class Interface(unittest.TestCase):
         self.assertIn(f'#define SCULLPOUCH_INTERFACE {major} ', read(BINDINGS, HEADER))
         self.assertIn(f'\nINTERFACE = {major}\n', read(BINDINGS, 'python', MODULE))
         self.assertIn(f'soname,{soname()} ', read(BINDINGS, 'install'))
-        self.assertIn(f'r ≡ {major} ⌝ }}\n{{\n    {major}\n}}', read(*CRATE).split('scullpouch_interface')[1])
+        self.assertIn(f'result ≡ {major} }}\n{{\n    {major}\n}}', read(*INTERFACE).split('scullpouch_interface')[1])
         self.assertIn(f'the contract has the number, {major};', read(ROOT, 'docs', 'READING.md'))
         for text in (section(), *(read(BINDINGS, *path) for path in (
                 ('README.md',), ('install',), ('python', MODULE)))):
@@ -435,12 +436,11 @@ class Interface(unittest.TestCase):
         self.assertEqual(sorted(os.listdir(os.path.join(BUILT.prefix, 'lib', 'scullpouch'))),
                          sorted(re.findall(r'^### (\w+)$', part, re.M)))
 
-    # Where all is proved, bindings/install says one line; the rt of this test finds all unchanged.
+    # Where all is proved and built, bindings/install says one line; the rt of this test proves and builds nothing.
     def test_second_run(self):
         with tempfile.TemporaryDirectory() as folder:
             with open(os.path.join(folder, 'rt'), 'w', encoding='utf-8') as out:
-                out.write(f"#!/bin/sh\n[ \"$1\" != doc ] || exec '{shutil.which('rt')}' doc\n"
-                          "echo 'rt: days proved (unchanged since it was last proved)'\n")
+                out.write(f"#!/bin/sh\n[ \"$1\" = version ] && exec '{shutil.which('rt')}' version\nexit 9\n")
             os.chmod(os.path.join(folder, 'rt'), 0o755)
             environment = {**os.environ, 'PATH': folder + os.pathsep + os.environ['PATH']}
             for _ in range(2):

@@ -1,6 +1,6 @@
 """Tests of the program terms where a read or a write fails: python3 -m tests.gate.faults
 
-Run `rt check terms` first, which builds target/bin/terms. The tests of reads need
+Run `tools/built terms` first, which builds target/bin/terms. The tests of reads need
 a C compiler (cc), which makes the library of faults/failing_read.c; without one
 they are skipped.
 """
@@ -141,7 +141,7 @@ class Writes(unittest.TestCase):
 
 if __name__ == '__main__':
     if not os.access(PROGRAM, os.X_OK):
-        sys.exit(f'faults: {PROGRAM} is no program; run `rt check terms` first')
+        sys.exit(f'faults: {PROGRAM} is no program; run `tools/built terms` first')
     if not failing.COMPILER:
         print('faults: no C compiler (cc), so the tests of failed reads are skipped', file=sys.stderr)
     unittest.main()

@@ -1,15 +1,13 @@
 """Tests of the programs as they are installed (bindings/programs): python3 -m tests.gate.installed
 
-They are built over the proved archive with a C main of two lines each, and end with a status, which
-is held to the second program's. What they print is compared with the second program by the same
-comparisons as the programs without a status (tests/compare), fewer cases of each where a number is
-given; then their arguments, and reads and writes that fail. Without a C compiler all is left out,
-and a line says so.
+Each is a program of its own, NAME_command, which ends with a status that is held to the second
+program's. What they print is compared with the second program by the same comparisons as the
+programs without a status (tests/compare), fewer cases of each where a number is given; then their
+arguments, and reads and writes that fail.
 """
 
 import errno
 import os
-import shutil
 import stat
 import subprocess
 import sys
@@ -180,7 +178,4 @@ class Faults(Installed):
 
 
 if __name__ == '__main__':
-    if shutil.which('cc') is None:
-        print('left out: the programs as they are installed, as there is no C compiler (cc)')
-    else:
-        unittest.main()
+    unittest.main()

@@ -3,7 +3,7 @@ python3 -m tests.gate.programs
 
 An input that arrives in two writes, the last byte that confirm reads, a listing with
 many entries, one block more than gateway may be handed, and an input that cannot be
-read. What is expected is the second program's. Run `rt check compose decompose confirm
+read. What is expected is the second program's. Run `tools/built compose decompose confirm
 gateway` first, which builds target/bin.
 """
 
@@ -168,5 +168,5 @@ class Unread(unittest.TestCase):
 
 if __name__ == '__main__':
     if not os.access(os.path.join(BIN, 'confirm'), os.X_OK):
-        sys.exit(f'programs: {BIN} has no programs; run `rt check compose decompose confirm gateway` first')
+        sys.exit(f'programs: {BIN} has no programs; run `tools/built compose decompose confirm gateway` first')
     unittest.main()

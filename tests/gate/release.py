@@ -169,21 +169,24 @@ class Sheet(unittest.TestCase):
         self.assertNotIn('gate has passed', self.text)
 
     def test_counts(self):
-        names = [line.split(':')[0] for line in read(ROOT, 'crates.txt').decode().splitlines() if ':' in line and not line.startswith('#')]
+        names = [line.split(':')[0].split()[0] for line in read(ROOT, 'crates.txt').decode().splitlines() if ':' in line and not line.startswith('#')]
         results = {name: os.path.join(TARGET, 'log', f'{name}.res') for name in names}
-        proved = [name for name, path in results.items() if os.path.exists(path) and read(path).strip() in (b'proved', b'built')]
+        proved = [name for name, path in results.items() if os.path.exists(path) and read(path).strip() in (b'proved', b'kept')]
         functions = sum(int(line.split(b' ')[1].split(b'=')[1]) for name in proved
                         for line in read(TARGET, 'log', f'{name}.say').splitlines() if line.startswith(b'logic=proved '))
         edits = len(glob(os.path.join(CLONES[0], 'crates', '*', 'must-fail', '*.edit')))
         self.assertGreater(functions, 0)
-        for line in (f'crates proved: {len(proved)} of {len(names)}', f'functions proved: {functions}', f'refused: 0 of {edits}'):
-            self.assertIn(line + '\n', self.text)
+        for line in (f'crates proved: {len(proved)} of {len(names)}\n', f'functions proved: {functions}', f'refused: 0 of {edits}\n'):
+            self.assertIn(line, self.text)
+        kept = sum(read(path).strip() == b'kept' for path in results.values() if os.path.exists(path))
+        said = f' {kept} were proved by earlier runs of the same files on the same machine\n'
+        self.assertEqual(said in self.text, kept > 0)
 
-    # Every program has its line, and reading and writing are among what is assumed of each.
+    # Every program has its line, and what it calls of the C library is among what is assumed of each.
     def test_assumed(self):
         for name in programs():
             line = re.search(rf'^- {name}: ((?:.*\n)(?:  .*\n)*)', self.text, re.M)[1]
-            self.assertRegex(line, r'libc::read, libc::write|^no log')
+            self.assertRegex(line, r'\b(libc|os)::|^no log|^proved by an earlier run')
 
     @has('nm')
     def test_taken(self):
@@ -219,11 +222,11 @@ class Stops(unittest.TestCase):
     # rt's log where every edit was refused but so many.
     def log(self, but=0):
         edits = sorted(glob(os.path.join(self.clone, 'crates', '*', 'must-fail', '*.edit')))
-        said = ['NOT REFUSED'] * but + ['refused, as it must be (first at proofs/Lib.antt:1:1; 3 s)'] * (len(edits) - but)
+        said = ['NOT REFUSED'] * but + ['refused, as it must be: note: src/lib.rt:1:1: it is not proved'] * (len(edits) - but)
         names = [f'{path.split(os.sep)[-3]}/{os.path.basename(path)[:-len(".edit")]}' for path in edits]
-        lines = [f'rt: must-fail {name}: {one}\n' for name, one in zip(names, said)]
+        lines = [f'rt: must-fail {name}.edit: {one}\n' for name, one in zip(names, said)]
         path = os.path.join(self.folder, 'log')
-        write(''.join([*lines, 'rt: 453 passed, 0 failed\n']).encode(), path)
+        write(''.join([*lines, '453 passed, 0 failed\n']).encode(), path)
         return path
 
     # The gate's mark, by a kit that is none.
@@ -238,8 +241,8 @@ class Stops(unittest.TestCase):
     # Logs of all crates, so that the sheet of a passed commit can be made of any target/.
     def complete_logs(self):
         folder = os.path.join(self.clone, 'target', 'log')
-        for name in re.findall(r'^(\w+):', read(ROOT, 'crates.txt').decode(), re.M):
-            if not os.path.exists(os.path.join(folder, f'{name}.res')) or read(folder, f'{name}.res').strip() not in (b'proved', b'built'):
+        for name in re.findall(r'^(\w+)[\w= ]*:', read(ROOT, 'crates.txt').decode(), re.M):
+            if not os.path.exists(os.path.join(folder, f'{name}.res')) or read(folder, f'{name}.res').strip() not in (b'proved', b'kept'):
                 write(b'proved\n', folder, f'{name}.res')
                 write(b'logic=proved functions=0 sum=0123 native=nat\n', folder, f'{name}.say')
 

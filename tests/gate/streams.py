@@ -174,7 +174,7 @@ if __name__ == '__main__':
         del sys.argv[1:]
     for one in NAMES:
         if not os.access(os.path.join(programs, one), os.X_OK):
-            sys.exit(f'streams: no program {one} in {programs}; run `rt check {one}` first')
+            sys.exit(f'streams: no program {one} in {programs}; run `tools/built {one}` first')
     if not failing.COMPILER:
         print('streams: no C compiler (cc), so the tests of interrupted and short calls are skipped', file=sys.stderr)
     unittest.main()

@@ -10,22 +10,22 @@ import tests
 ROOT = Path(tests.ROOT)
 
 LAWS = """-- Laws of sums.
-use lib.Sums.{add, _+_}
+use Rattle.std.specs.Prelude.{add, ◌+◌}
 
-pub add-zero : (n : Nat) → add n 0 ≡ n
-add-zero n = helper n + 0
+pub add_zero : (n : Nat) → add n 0 ≡ n
+add_zero n = helper n + 0
 
 helper : Nat → Nat
 helper n = n
 """
 PROOF = """-- Shown: a sum, by its law.
-use Rattle·sums.proofs.Sums.{add-zero}
+use Rattle.sums.proofs.Sums.{add_zero}
 
-returns : tie.Need-returns
-returns c = add-zero _
+returns : Goals.returns
+returns c = add_zero _
 
-pub sum-spec : statement
-sum-spec = tie.close (tie.spec returns)
+pub sum_spec : statement
+sum_spec = tie.close (tie.spec returns)
 """
 EDIT = 'file: src/lib.rt\nold: a + b\nnew: a - b\n'
 
@@ -51,7 +51,8 @@ class Planted(unittest.TestCase):
 
     def said(self, tool, *words):
         (self.root / 'tools').mkdir(exist_ok=True)
-        shutil.copy(ROOT / 'tools' / tool, self.root / 'tools' / tool)
+        for name in (tool, 'kit.py'):
+            shutil.copy(ROOT / 'tools' / name, self.root / 'tools' / name)
         done = subprocess.run([self.root / 'tools' / tool, *words], capture_output=True, text=True, check=False)
         return done.returncode, done.stdout.splitlines()
 
@@ -61,12 +62,12 @@ class Laws(Planted):
         self.assertEqual(self.said('laws', '--check'), (0, ['laws: each is cited, and each import is used']))
 
     def test_import_not_used(self):
-        self.write('crates/sums/proofs/Sums.antt', LAWS.replace('{add, _+_}', '{add, less, _+_, _-_}'))
+        self.write('crates/sums/proofs/Sums.antt', LAWS.replace('{add, ◌+◌}', '{add, less, ◌+◌, ◌-◌}'))
         self.assertEqual(self.said('laws', '--check'), (1, ['crates/sums/proofs/Sums.antt:2: less is imported and not used',
-                                                            'crates/sums/proofs/Sums.antt:2: _-_ is imported and not used']))
+                                                            'crates/sums/proofs/Sums.antt:2: ◌-◌ is imported and not used']))
 
     def test_used_in_a_comment_alone(self):
-        self.write('crates/sums/proofs/Sums.antt', LAWS.replace('{add, _+_}', '{add, less, _+_}') + '-- not less\n')
+        self.write('crates/sums/proofs/Sums.antt', LAWS.replace('{add, ◌+◌}', '{add, less, ◌+◌}') + '-- not less\n')
         self.assertEqual(self.said('laws', '--check')[0], 1)
 
     def test_law_not_cited(self):
@@ -83,15 +84,15 @@ class Laws(Planted):
         self.assertEqual(self.said('laws', '--check'), (1, ['crates/sums/proofs/sum/Proof.antt:1: the proof does not begin with what it shows']))
 
     def test_long_line(self):
-        for length, status in ((160, 0), (161, 1)):
+        for length, status in ((180, 0), (181, 1)):
             self.write('crates/sums/proofs/Sums.antt', LAWS + '--'.ljust(length, 'x') + '\n')
             self.assertEqual(self.said('laws', '--check')[0], status)
-        self.assertEqual(self.said('laws', '--check')[1], ['crates/sums/proofs/Sums.antt:9: the line has over 160 characters'])
+        self.assertEqual(self.said('laws', '--check')[1], ['crates/sums/proofs/Sums.antt:9: the line has over 180 characters'])
 
     def test_where_cited(self):
-        self.assertEqual(self.said('laws', 'add-zero')[1], [
-            'crates/sums/proofs/Sums.antt:4: makes add-zero', 'crates/sums/proofs/sum/Proof.antt:2: imports add-zero of Rattle·sums.proofs.Sums',
-            'crates/sums/proofs/sum/Proof.antt:5: cites add-zero'])
+        self.assertEqual(self.said('laws', 'add_zero')[1], [
+            'crates/sums/proofs/Sums.antt:4: makes add_zero', 'crates/sums/proofs/sum/Proof.antt:2: imports add_zero of Rattle.sums.proofs.Sums',
+            'crates/sums/proofs/sum/Proof.antt:5: cites add_zero'])
 
 
 class Texts(Planted):

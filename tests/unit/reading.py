@@ -21,7 +21,7 @@ ROOT = Path(tests.ROOT)
 
 READING = 'docs/READING.md'
 GREGORIAN = 'crates/days/specs/Gregorian.antt'
-ROW = "| 'Weekday = (day + 5) mod 7, Monday 0' | `days` Gregorian: `weekdayOf` | `weekday` | contract | |"
+ROW = "| 'Weekday = (day + 5) mod 7, Monday 0' | `days` Gregorian: `weekday_of` | `weekday` | contract | |"
 
 
 class Copy:
@@ -85,42 +85,42 @@ class Faults(unittest.TestCase):
 
     def test_definition_without_a_row(self):
         text = (self.copy.root / GREGORIAN).read_text(encoding='utf-8')
-        found = self.copy.with_file(GREGORIAN, text + '\n-- a new one\nabbrev pub newOne : ℕ\nnewOne = 1\n')
-        self.named(found, f'{GREGORIAN}: definition `newOne` has no row in {READING}')
+        found = self.copy.with_file(GREGORIAN, text + '\n-- a new one\nabbrev pub new_one : ℕ\nnew_one = 1\n')
+        self.named(found, f'{GREGORIAN}: definition `new_one` has no row in {READING}')
 
     def test_definition_that_lost_its_row(self):
-        self.named(self.copy.with_change(READING, ROW + '\n', ''), f'{GREGORIAN}: definition `weekdayOf` has no row in {READING}')
+        self.named(self.copy.with_change(READING, ROW + '\n', ''), f'{GREGORIAN}: definition `weekday_of` has no row in {READING}')
 
     def test_definition_that_is_only_mentioned(self):
         found, _ = self.in_row('`days` Gregorian', 'see `days` Gregorian')
-        self.named(found, f'{GREGORIAN}: definition `weekdayOf` has no row in {READING}')
+        self.named(found, f'{GREGORIAN}: definition `weekday_of` has no row in {READING}')
 
     def test_definition_that_does_not_exist(self):
-        found, line = self.in_row('`weekdayOf`', '`weekdayOf`, `weekdayFor`')
-        self.named(found, line, f'definition `weekdayFor` does not exist in {GREGORIAN}')
+        found, line = self.in_row('`weekday_of`', '`weekday_of`, `weekday_for`')
+        self.named(found, line, f'definition `weekday_for` does not exist in {GREGORIAN}')
 
     def test_file_of_definitions_that_does_not_exist(self):
-        found, line = self.in_row('`days` Gregorian: `weekdayOf`', '`days` Gregorian: `weekdayOf`; Julian: `weekdayOf`')
-        self.named(found, line, f'definition `weekdayOf` does not exist in crates/days/specs/Julian.antt ({GREGORIAN} has it)')
+        found, line = self.in_row('`days` Gregorian: `weekday_of`', '`days` Gregorian: `weekday_of`; Julian: `weekday_of`')
+        self.named(found, line, f'definition `weekday_of` does not exist in crates/days/specs/Julian.antt ({GREGORIAN} has it)')
 
     def test_crate_that_does_not_exist(self):
-        found, line = self.in_row('`weekdayOf`', '`weekdayOf`; `weeks` Weeks: `weekdayOf`')
+        found, line = self.in_row('`weekday_of`', '`weekday_of`; `weeks` Weeks: `weekday_of`')
         self.named(found, line, 'there is no crate `weeks`')
 
     def test_definition_without_its_crate(self):
-        found, line = self.in_row('`days` Gregorian: `weekdayOf`', '`weekdayOf`')
-        self.named(found, line, 'definition `weekdayOf` stands without its crate and file')
+        found, line = self.in_row('`days` Gregorian: `weekday_of`', '`weekday_of`')
+        self.named(found, line, 'definition `weekday_of` stands without its crate and file')
 
     def test_field_of_two_records(self):
-        found, line = self.in_row('`weekdayOf`', '`weekdayOf`; `session_text` Buffer: `long`')
+        found, line = self.in_row('`weekday_of`', '`weekday_of`; `session_text` Buffer: `long`')
         self.named(found, line, 'field `long` is one of Written and Printed: name the record before it')
 
     def test_word_that_is_not_explained(self):
-        found = self.copy.with_change(GREGORIAN, 'use lib.Dec.{eqb}', 'use lib.Dec.{eqb, neb}')
+        found = self.copy.with_change(GREGORIAN, ', eqb, length}', ', eqb, neb, length}')
         self.named(found, f'{GREGORIAN}: `neb` is used, and the notation in {READING} does not explain it')
 
     def test_declaration_that_does_not_exist(self):
-        found, line = self.in_row('`weekdayOf`', '`weekdayOf`; `calendar`: `struct Covers`')
+        found, line = self.in_row('`weekday_of`', '`weekday_of`; `calendar`: `struct Covers`')
         self.named(found, line, 'no `struct Covers` in the code of `calendar`')
 
     def test_function_that_does_not_exist(self):
@@ -161,15 +161,15 @@ class Faults(unittest.TestCase):
 
     def test_lines_that_are_no_definition(self):
         text = (self.copy.root / GREGORIAN).read_text(encoding='utf-8')
-        found = self.copy.with_file(GREGORIAN, text + '\nnewOne : ℕ\nnewOne = 1\n')
-        self.named(found, GREGORIAN, 'no definition that the reading edition knows: newOne : ℕ')
+        found = self.copy.with_file(GREGORIAN, text + '\nnew_one : ℕ\nnew_one = 1\n')
+        self.named(found, GREGORIAN, 'no definition that the reading edition knows: new_one : ℕ')
 
     def test_page_that_is_changed(self):
         found = self.copy.with_change('docs/reading/days-and-months.html', '(d + 5) % 7', '(d + 4) % 7')
         self.named(found, 'docs/reading/days-and-months.html is not what tools/reading writes')
 
     def test_definition_that_is_changed(self):
-        found = self.copy.with_change(GREGORIAN, 'weekdayOf d = (d + 5) % 7', 'weekdayOf d = (d + 4) % 7')
+        found = self.copy.with_change(GREGORIAN, 'weekday_of d = (d + 5) % 7', 'weekday_of d = (d + 4) % 7')
         self.named(found, 'docs/reading/days-and-months.html is not what tools/reading writes')
 
     def test_page_that_is_missing(self):
@@ -216,9 +216,9 @@ class Edition(unittest.TestCase):
     def test_last_trading_day_begins_with_the_rule(self):
         page = self.pages['last-trading-day.html']
         marks = re.findall(r'class="pair" id="([^"]+)"', page)
-        self.assertEqual(marks[0], 'lastTradingDay')
-        for letters in ('IT', 'isCode', 'oneOfCodes', 'groupCode'):
-            self.assertGreater(marks.index(letters), marks.index('lastDay'), letters)
+        self.assertEqual(marks[0], 'last_trading_day')
+        for letters in ('IT', 'is_code', 'one_of_codes', 'group_code'):
+            self.assertGreater(marks.index(letters), marks.index('last_day'), letters)
 
     def test_pictures(self):
         """Each picture is on one page, with words for those who hear it, and is there."""
@@ -289,9 +289,9 @@ class Ticks(unittest.TestCase):
 
     def test_a_definition_that_changes(self):
         """The rows that name the definition, and no others."""
-        named = self.rows(lambda row: any(getattr(each.what, 'name', '') == 'weekdayOf' for each in row.found['definition'].names))
+        named = self.rows(lambda row: any(getattr(each.what, 'name', '') == 'weekday_of' for each in row.found['definition'].names))
         self.assertTrue(named)
-        self.assertEqual(self.changed(GREGORIAN, 'weekdayOf d = (d + 5) % 7', 'weekdayOf d = (d + 4) % 7'), named)
+        self.assertEqual(self.changed(GREGORIAN, 'weekday_of d = (d + 5) % 7', 'weekday_of d = (d + 4) % 7'), named)
 
     def test_a_sentence_that_changes(self):
         row = self.rows(lambda row: row.cells['sentence'].startswith("'Weekday ="))
@@ -356,17 +356,17 @@ class Kept(unittest.TestCase):
 
 class Days(unittest.TestCase):
     def test_days_as_dates(self):
-        self.assertEqual(days.written_in(['eqb (weekdayOf 3002) 4', 'dayOf 2008 1 1']),
+        self.assertEqual(days.written_in(['eqb (weekday_of 3002) 4', 'day_of 2008 1 1']),
                          ['3,002 is Friday 21 March 2008', '2,922 is Tuesday 1 January 2008'])
 
     def test_no_date(self):
-        self.assertEqual(days.written_in(['dayCall 2001 2 29']), ['29 February 2001 is no date'])
+        self.assertEqual(days.written_in(['day_call 2001 2 29']), ['29 February 2001 is no date'])
 
     def test_months(self):
-        self.assertEqual(days.written_in(['monthNumber 2008 3']), ['month 98 is March 2008'])
+        self.assertEqual(days.written_in(['month_number 2008 3']), ['month 98 is March 2008'])
 
     def test_ends(self):
-        self.assertEqual(days.written_in(['weekdayOf 0', 'weekdayOf 36524']),
+        self.assertEqual(days.written_in(['weekday_of 0', 'weekday_of 36524']),
                          ['0 is Saturday 1 January 2000', '36,524 is Thursday 31 December 2099'])
 
 

@@ -3,10 +3,10 @@ import re
 from html import escape
 from pathlib import Path
 
-USE = re.compile(r'^use Rattle·(\w+?)(?:·specs)?\.specs\.([A-Z]\w*)\.\{([^}]*)\}')
-DECLARED = re.compile(r'^use Rattle·(\w+?)(?:·specs)?\.specs\.declared\.(\w+)\.\{\w+\}')
+USE = re.compile(r'^use Rattle\.(\w+)\.specs\.([A-Z]\w*)\.\{([^}]*)\}')
+DECLARED = re.compile(r'^use Rattle\.(\w+)\.specs\.declared\.(\w+)\.\{\w+\}')
 FOR_PROVER = re.compile(r'^((?:unfoldable |abbrev )?pub) ')
-WORD = re.compile(r'(?<![\w′.-])[A-Za-z][\w′]*(?:-\w+)*(?! =)(?![\w′-])')
+WORD = re.compile(r"(?<![\w'.-])[A-Za-z][\w']*(?:-\w+)*(?! =)(?![\w'-])")
 
 
 class Scope:
@@ -37,7 +37,7 @@ def linked(line, own, scope, address):
     for word in WORD.finditer(line):
         what = scope.known.get(word.group()) if word.group() != own else None
         place = address(what) if what is not None else None
-        if place and not line[:word.start()].endswith(' .'):
+        if place:
             done.append(escape(line[at:word.start()], quote=False))
             done.append(f'<a href="{place}">{word.group()}</a>')
             at = word.end()

@@ -3,7 +3,7 @@ import re
 from datetime import date, timedelta
 
 FIRST = date(2000, 1, 1)
-WRITTEN = re.compile(r'\b(dayOf|dayCall) (\d{4}) (\d{1,2}) (\d{1,2})\b|\b(monthNumber) (\d{4}) (\d{1,2})\b|\b(weekdayOf) (\d+)\b')
+WRITTEN = re.compile(r'\b(day_of|day_call) (\d{4}) (\d{1,2}) (\d{1,2})\b|\b(month_number) (\d{4}) (\d{1,2})\b|\b(weekday_of) (\d+)\b')
 
 
 def grouped(number):

@@ -127,10 +127,10 @@ def stray_blocks(root):
 
 
 def library_words(root):
-    """The words that the specs use from the prover's libraries, each with the first file that does."""
-    words = {}
+    """The words that the specs use from the toolchain's libraries, each with the first file that does."""
+    words, crates = {}, {path.name for path in Path(root).glob('crates/*')}
     for path in sorted(Path(root).glob('crates/*/specs/*.antt')):
-        for names in re.findall(r'^use (?!Rattle·)\S+\{([^}]*)\}', path.read_text(encoding='utf-8'), re.MULTILINE):
-            for name in names.split(','):
-                words.setdefault(name.strip().strip('_'), path.relative_to(root).as_posix())
+        for library, names in re.findall(r'^use Rattle\.(\w+)\.\S+\{([^}]*)\}', path.read_text(encoding='utf-8'), re.MULTILINE):
+            for name in names.split(',') if library not in crates else ():
+                words.setdefault(name.strip().strip('◌'), path.relative_to(root).as_posix())
     return words

@@ -20,7 +20,7 @@ class Mark:
     def __init__(self, text):
         self.commit = ''.join(re.findall(r'^commit (\w+)$', text, re.M))
         self.kit = ''.join(re.findall(r'^kit (.+)$', text, re.M))
-        self.edits = re.findall(r'^rt: must-fail ([^:]+): (.*)$', text, re.M)
+        self.edits = re.findall(r'^rt: must-fail ([^:]+?)(?:\.edit)?: (.*)$', text, re.M)
         self.sums = {name: digest for digest, name in re.findall(r'^([0-9a-f]{64})  (.+)$', text, re.M)}
 
 

@@ -1,4 +1,4 @@
-"""The sheet PROVED.txt: every number is counted in target/log, in the gate's mark or in the folders of edits."""
+"""The sheet PROVED.txt: every number is counted in target/log (tools/built), in the gate's mark or in the folders of edits."""
 import re
 import textwrap
 from typing import NamedTuple
@@ -9,31 +9,36 @@ from .machine import taken
 AXIOMS = re.compile(r'^axioms (\w+): (.*?)(?:, \.\.\.)? \((\d+) of the \d+ declared\)$', re.M)
 EDIT = re.compile(r'crates/(\w+)/must-fail/([^/]+)\.edit')
 REFUSED = 'refused, as it must be'
-RIGHT = ('proved', 'built')  # of a library, of a program
+PROVED, KEPT = 'proved', 'kept'  # by this run; by an earlier one on the same machine, of the same files
+LIBRARY = 'scullpouch_c'  # the crate of the archive
 
 
 class Proved(NamedTuple):
     """What the prover's log says of a crate."""
-    functions: int
-    logic: str  # the sum of the logic by which it was proved
+    functions: int  # 0 where the log has no number
+    logic: str  # the sum of the logic by which it was proved, or ''
     axioms: list  # (library, the names that the log has, how many there are)
+    said: bool  # whether the log has the proof, and not only that an earlier run made it
 
 
 # The crates of crates.txt.
 def crates(checkout):
-    return re.findall(r'^(\w+):', checkout.text('crates.txt'), re.M)
+    return re.findall(r'^(\w+)(?: [\w=+ ]+)?:', checkout.text('crates.txt'), re.M)
 
 
-# What the log has of a crate's last proof, which stays where a later run found the crate unchanged; None where it has none.
+# What the log has of a crate's proof; None where it has none.
 def log_of(checkout, crate):
     folder = checkout.root / 'target' / 'log'
     log, result = folder / f'{crate}.say', folder / f'{crate}.res'
-    if not log.is_file() or not result.is_file() or result.read_text().strip() not in RIGHT:
+    came = result.read_text().strip() if log.is_file() and result.is_file() else ''
+    if came == KEPT:
+        return Proved(0, '', [], False)
+    if came != PROVED:
         return None
     text = log.read_text(encoding='utf-8')
     last = re.search(r'^logic=proved functions=(\d+) .*?sum=(\w+)', text, re.M)
     axioms = [(library, names.split(', '), int(count)) for library, names, count in AXIOMS.findall(text)]
-    return last and Proved(int(last[1]), last[2], axioms)
+    return last and Proved(int(last[1]), last[2], axioms, True)
 
 
 def logs(checkout):
@@ -75,7 +80,7 @@ def wrapped(lines):
 
 def head(checkout, found):
     kit = checkout.kit + ('' if checkout.mark else ' (as the checkout names it)')
-    logic = sorted({log.logic for log in found.values() if log})
+    logic = sorted({log.logic for log in found.values() if log and log.said})
     doubt = '' if checkout.mark else ' on this commit: the numbers below are those of what target/ had, of whatever commit that was'
     return [f'Scullpouch {checkout.version}', '', f'{checkout.verdict.capitalize()}{doubt}.', '', f'commit: {checkout.commit}',
             f'kit: {kit}', f'logic of the proofs: {", ".join(logic) or "none"}']
@@ -83,8 +88,11 @@ def head(checkout, found):
 
 def counts(checkout, found):
     proved = [log for log in found.values() if log]
+    said = [log for log in proved if log.said]
+    earlier = len(proved) - len(said)
+    kept = f' in {len(said)} of them; {earlier} were proved by earlier runs of the same files on the same machine' if earlier else ''
     refused, there = edits(checkout)
-    return [f'crates proved: {len(proved)} of {len(found)}', f'functions proved: {sum(log.functions for log in proved)}',
+    return [f'crates proved: {len(proved)} of {len(found)}', f'functions proved: {sum(log.functions for log in said)}{kept}',
             f'wrong programs (edits) that the prover refused: {refused} of {there}']
 
 
@@ -95,16 +103,16 @@ def named(library, names, count):
 
 
 def assumed(log):
-    if not log:
-        return 'no log'
+    if not log or not log.said:
+        return 'no log' if not log else 'proved by an earlier run, which named them'
     return '; '.join(named(*one) for one in log.axioms) or 'none'
 
 
 def axioms(checkout, found):
     shared = checkout.built(f'staticlib/{checkout.shared_object}')
     called = sorted({name for program in PROGRAMS for name in taken(checkout.built(f'programs/{program}'))})
-    lines = [f'{crate}: {assumed(found[crate])}' for crate in (*PROGRAMS, 'scullpouch')]
-    return ['C functions whose contracts are assumed, as the logs name them (scullpouch is the library for other languages):',
+    lines = [f'{crate}: {assumed(found[crate])}' for crate in (*PROGRAMS, LIBRARY)]
+    return ['C functions whose contracts are assumed, as the logs name them (scullpouch_c is the library for other languages):',
             *wrapped([*lines, f'what the built programs take of the C library: {", ".join(called)}',
                       f'what the shared object takes of it: {", ".join(sorted(taken(shared))) or "nothing"}'])]
 

@@ -1,10 +1,12 @@
 // Prices and ticks, sizes and prices after a measure, and cash.
+#![tactic(auto)]
+
 ghost use Rattle.std.specs.Prelude.{◌≡◌};
 ghost use Rattle.amounts.specs.Prices.{price_right, multiple_of, final_right, contracts_right, nearest, new_size, new_price, ratio_right, measure_right, distance, cash_admitted, cash_of};
 
 // Cash: its sign, which covers both numbers, the amount in 1/10,000 and the rest in 1/100,000,000.
 #[repr(C)]
-#[derive(Drop)]
+#[derive(Clone, Copy)]
 pub struct Amount {
     pub negative: bool,
     pub amount: u64,

@@ -1,4 +1,6 @@
 // The calls of a delivery as programs in other languages make them: `#[repr(C)]` structs of numbers, and lent lists and buffers.
+#![tactic(auto)]
+
 ghost use Rattle.std.specs.Prelude.{◌≡◌, false};
 ghost use Rattle.session_lines.specs.CommandLines.{empty_line, fed};
 ghost use Rattle.file_calendar.specs.Calendars.{calendar_answer};
@@ -17,7 +19,7 @@ use session_lines::Line;
 
 // The number of a refusal, or 0 and a product.
 #[repr(C)]
-#[derive(Drop)]
+#[derive(Clone, Copy)]
 pub struct ProductReply {
     pub refusal: u8,
     pub product: FlatProduct,
@@ -26,7 +28,7 @@ pub struct ProductReply {
 // What a text of notices says: whether the lists had room, the day of the opening, the number of its line,
 // how many notices stand in the lists, and the number of the first bad line, 0 where there is none. With a bad line the others are 0.
 #[repr(C)]
-#[derive(Drop)]
+#[derive(Clone, Copy)]
 pub struct Notices {
     pub fits: bool,
     pub date: u16,
@@ -37,7 +39,7 @@ pub struct Notices {
 
 // The table of a product after the notices, open's refusal, and whether they were taken.
 #[repr(C)]
-#[derive(Drop)]
+#[derive(Clone, Copy)]
 pub struct FlatDelivered {
     pub fits: bool,
     pub refusal: u8,
@@ -46,7 +48,7 @@ pub struct FlatDelivered {
 
 // The number of a refusal, or 0 and a text in a lent buffer: whether there was room, and how long it is.
 #[repr(C)]
-#[derive(Drop)]
+#[derive(Clone, Copy)]
 pub struct TextReply {
     pub refusal: u8,
     pub fits: bool,
@@ -55,7 +57,7 @@ pub struct TextReply {
 
 // A line and how many bytes it has.
 #[repr(C)]
-#[derive(Drop)]
+#[derive(Clone, Copy)]
 pub struct TextLine {
     pub bytes: [u8; 64],
     pub length: usize,

@@ -1,4 +1,6 @@
 // The rows of a delivery that came from elsewhere, and their differences, as programs in other languages ask for them.
+#![tactic(auto)]
+
 ghost use Rattle.std.specs.Prelude.{◌≡◌, cond, [], ◌≤◌, length, take};
 ghost use Rattle.session_lines.specs.CommandLines.{empty_line, fed};
 ghost use Rattle.delivery_products.specs.IdList.{id_in};
@@ -18,7 +20,7 @@ use product::Kind;
 // the number of the last line where it is bad, else 0, whether a line was there that is not empty, and whether there was a good row too many.
 // All zeros before the first line.
 #[repr(C)]
-#[derive(Drop)]
+#[derive(Clone, Copy)]
 pub struct FlatReceipt {
     pub next: usize,
     pub rows: u32,
@@ -31,7 +33,7 @@ pub struct FlatReceipt {
 // Lines of differences in a lent buffer: the number of a refusal, or 0; whether there was room for the places;
 // the key from which the next call goes on, 65,536 where there is no more; how many lines and bytes stand there.
 #[repr(C)]
-#[derive(Drop)]
+#[derive(Clone, Copy)]
 pub struct FoundLines {
     pub refusal: u8,
     pub fits: bool,
@@ -99,7 +101,7 @@ pub fn receive(
     numbers: &mut [u16],
     backs: &mut [u16],
 ) -> FlatReceipt
-    ensures { ReceivedIn file.now s text.now (record { ids = ids.entry.now; keys = keys.old; days = days.old; fulls = fulls.old; numbers = numbers.old; backs = backs.old }) (record { ids = ids.exit.now; keys = keys.new; days = days.new; fulls = fulls.new; numbers = numbers.new; backs = backs.new }) result }
+    ensures { ReceivedIn file.now s text.now (record { ids = ids.old; keys = keys.old; days = days.old; fulls = fulls.old; numbers = numbers.old; backs = backs.old }) (record { ids = ids.new; keys = keys.new; days = days.new; fulls = fulls.new; numbers = numbers.new; backs = backs.new }) result }
 {
     let from = line_start(text, s.next);
     let state = receiving_of(s);
@@ -183,7 +185,7 @@ fn own_lines(
     out: &mut [u8],
 ) -> ReportProgress
     requires { (rows ≤ 65536) × (rows ≤ length places.old) }
-    ensures { (ReportLinesIn kind id (take n maturities) (rows_for id (received_to (record { ids = ids.entry.now; keys = keys.now; days = days.now; fulls = fulls.now; numbers = numbers.now; backs = backs.now }) rows)) from out.old out.new result) × (length places.new ≡ length places.old) }
+    ensures { (ReportLinesIn kind id (take n maturities) (rows_for id (received_to (record { ids = ids.now; keys = keys.now; days = days.now; fulls = fulls.now; numbers = numbers.now; backs = backs.now }) rows)) from out.old out.new result) × (length places.new ≡ length places.old) }
 {
     let size = delivery_receipts::places_of(id, ids, rows, places);
     delivery_reports::print_differences(
@@ -217,7 +219,7 @@ pub fn differences(
     from: u32,
     out: &mut [u8],
 ) -> FoundLines
-    ensures { DifferencesIn product delivered (received_to (record { ids = ids.entry.now; keys = keys.now; days = days.now; fulls = fulls.now; numbers = numbers.now; backs = backs.now }) rows) rows from places.old places.new out.old out.new result }
+    ensures { DifferencesIn product delivered (received_to (record { ids = ids.now; keys = keys.now; days = days.now; fulls = fulls.now; numbers = numbers.now; backs = backs.now }) rows) rows from places.old places.new out.old out.new result }
 {
     if !is_judgeable(product, delivered) {
         return no_lines(10);

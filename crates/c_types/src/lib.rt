@@ -1,4 +1,6 @@
 // Tables, products and answers as programs in other languages hold them: `#[repr(C)]` structs of numbers, a kind by its number.
+#![tactic(auto)]
+
 ghost use Rattle.std.specs.Prelude.{◌≡◌};
 ghost use Rattle.days.specs.Dates.{day_answer, date_answer};
 ghost use Rattle.table_values.specs.Values.{day_reply};
@@ -16,21 +18,21 @@ use table_vendor::Verdict;
 
 // The four bytes of a record's id: 1 to 4 of A–Z and 0–9, then spaces.
 #[repr(C)]
-#[derive(Drop)]
+#[derive(Clone, Copy)]
 pub struct Id {
     pub bytes: [u8; 4],
 }
 
 // The 32 bytes of a product's record.
 #[repr(C)]
-#[derive(Drop)]
+#[derive(Clone, Copy)]
 pub struct FlatRecord {
     pub bytes: [u8; 32],
 }
 
 // A product with its kind as the number that a record has. 24 bytes, the last two of them unused.
 #[repr(C)]
-#[derive(Drop)]
+#[derive(Clone, Copy)]
 pub struct FlatProduct {
     pub id: [u8; 4],
     pub group: [u8; 4],
@@ -43,7 +45,7 @@ pub struct FlatProduct {
 
 // A table whose product is flat.
 #[repr(C)]
-#[derive(Drop)]
+#[derive(Clone, Copy)]
 pub struct FlatTable {
     pub product: FlatProduct,
     pub calendar: Calendar,
@@ -54,7 +56,7 @@ pub struct FlatTable {
 
 // What open, roll, close and reopen give back.
 #[repr(C)]
-#[derive(Drop)]
+#[derive(Clone, Copy)]
 pub struct FlatOutcome {
     pub refusal: u8,
     pub entered: u16,
@@ -64,7 +66,7 @@ pub struct FlatOutcome {
 
 // What a measure gives back.
 #[repr(C)]
-#[derive(Drop)]
+#[derive(Clone, Copy)]
 pub struct FlatMeasured {
     pub refusal: u8,
     pub price: u32,
@@ -73,7 +75,7 @@ pub struct FlatMeasured {
 
 // The number of a refusal, or 0 and a date.
 #[repr(C)]
-#[derive(Drop)]
+#[derive(Clone, Copy)]
 pub struct DateReply {
     pub refusal: u8,
     pub year: u16,
@@ -83,7 +85,7 @@ pub struct DateReply {
 
 // The number of a refusal, or 0 and what is said of a list: yes, or no with a key.
 #[repr(C)]
-#[derive(Drop)]
+#[derive(Clone, Copy)]
 pub struct VerdictReply {
     pub refusal: u8,
     pub same: bool,

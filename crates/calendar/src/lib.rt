@@ -1,11 +1,13 @@
 // The cover, its closed days, its trading days and its exchange days.
+#![tactic(auto)]
+
 ghost use Rattle.std.specs.Prelude.{◌≡◌, ◌&&◌, ◌-◌, ◌≤◌};
 ghost use Rattle.calendar.specs.Bits.{bit_at};
 ghost use Rattle.calendar.specs.Trading.{calendar_of_maps, calendar_with, open_calendar, zero_calendar, valid_cover, cover_start, cover_end, in_cover, slot_of, closed_on, trading_day, in_second_map, exchange_day, next_exchange_day, nth_exchange_day, close_day, reopen_day, closed_weekday};
 
 // A run of whole years.
 #[repr(C)]
-#[derive(Drop)]
+#[derive(Clone, Copy)]
 pub struct Cover {
     pub first_year: u16,
     pub years: u16,
@@ -14,7 +16,7 @@ pub struct Cover {
 // Two maps: the closed days, and those of them on which payments and deliveries run (02, note 4).
 // In each, year k of the cover has the 46 bytes from 46 · k on, in the bit order of the file.
 #[repr(C)]
-#[derive(Drop)]
+#[derive(Clone, Copy)]
 pub struct Calendar {
     pub cover: Cover,
     pub closed: [u8; 736],

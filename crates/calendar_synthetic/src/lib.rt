@@ -1,4 +1,6 @@
 // Made-up calendars for load tests: from the same seed and cover the same closed days.
+#![tactic(auto)]
+
 ghost use Rattle.std.specs.Prelude.{◌≡◌};
 ghost use Rattle.calendar_synthetic.specs.Generated.{next_value, value_at, calendar_at, made_answer, made_call};
 
@@ -6,7 +8,7 @@ use calendar::{Calendar, Cover};
 
 // The refusal, 0 where a calendar was made, and the calendar, zeros with a refusal.
 #[repr(C)]
-#[derive(Drop)]
+#[derive(Clone, Copy)]
 pub struct Made {
     pub refusal: u8,
     pub calendar: Calendar,

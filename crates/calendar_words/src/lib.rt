@@ -1,5 +1,7 @@
 // Words of days: eight weeks of a year's map of closed days as one number, the first day the highest bit; and the bytes of whole maps.
 // The compiler reads the bytes of a word at once, and many bytes of a map.
+#![tactic(auto)]
+
 ghost use Rattle.std.specs.Prelude.{◌≡◌, not, ◌||◌, ◌+◌, ◌-◌, ◌*◌, ◌%◌, ◌≤◌, ◌<◌, eqb, ltb, get_or};
 ghost use Rattle.questions.specs.Search.{every};
 ghost use Rattle.calendar.specs.Bits.{byte_bit, bit_at};

@@ -5,14 +5,14 @@ use compare_text::{end_line, put_byte, put_short, put_size, start_line};
 use file_intake::Intake;
 use file_load::Counts;
 
-fn put_answer(refusal: u8, counts: Counts) {
-    put_byte(refusal);
-    put_short(counts.years);
-    put_short(counts.records);
+fn put_answer(rt: HostRuntime, refusal: u8, counts: Counts) {
+    put_byte(rt, refusal);
+    put_short(rt, counts.years);
+    put_short(rt, counts.records);
 }
 
 // The refusals of three calls: 511 bytes of a block, a final call before it, and the block.
-fn hand_over(state: Intake, block: &[u8]) -> Intake
+fn hand_over(rt: HostRuntime, state: Intake, block: &[u8]) -> Intake
     requires { length block.now ≡ 512 }
 {
     let short = state.take(&block[..511]);
@@ -20,49 +20,49 @@ fn hand_over(state: Intake, block: &[u8]) -> Intake
     let early = before.finish();
     let held = early.state;
     let next = held.take(block);
-    put_byte(short.refusal);
-    put_byte(early.refusal);
-    put_byte(next.refusal);
+    put_byte(rt, short.refusal);
+    put_byte(rt, early.refusal);
+    put_byte(rt, next.refusal);
     next.state
 }
 
 // The same of every block, then the refusal of one too many, and the answer of the final call.
-fn hand_over_all(announced: Intake, file: &[u8]) {
+fn hand_over_all(rt: HostRuntime, announced: Intake, file: &[u8]) {
     let blocks = file.len() / 512;
     let mut state = announced;
     let mut k: usize = 0;
     while k < blocks {
-        state = hand_over(state, file_blocks::block_at(file, k));
+        state = hand_over(rt, state, file_blocks::block_at(file, k));
         k += 1;
     }
     let more = state.take(file_blocks::block_at(file, 0));
     let held = more.state;
     let last = held.finish();
-    put_byte(more.refusal);
-    put_answer(last.refusal, last.counts);
+    put_byte(rt, more.refusal);
+    put_answer(rt, last.refusal, last.counts);
 }
 
 // The calls one by one; the announcement is of the file's whole blocks.
-fn print_calls(file: &[u8]) {
+fn print_calls(rt: HostRuntime, file: &[u8]) {
     let blocks = file.len() / 512;
     if 65535 < blocks {
         return;
     }
     let first = file_intake::announce(blocks as u16);
-    start_line(b'U');
-    put_size(blocks);
-    put_byte(first.refusal);
+    start_line(rt, b'U');
+    put_size(rt, blocks);
+    put_byte(rt, first.refusal);
     if first.refusal == 0 {
         let state = first.state;
-        hand_over_all(state, file);
+        hand_over_all(rt, state, file);
     }
-    end_line();
+    end_line(rt);
 }
 
-pub(crate) fn print(file: &[u8]) {
+pub(crate) fn print(rt: HostRuntime, file: &[u8]) {
     let loaded = file_intake::load_by_blocks(file);
-    start_line(b'B');
-    put_answer(loaded.refusal, loaded.counts);
-    end_line();
-    print_calls(file);
+    start_line(rt, b'B');
+    put_answer(rt, loaded.refusal, loaded.counts);
+    end_line(rt);
+    print_calls(rt, file);
 }

@@ -3,7 +3,7 @@ use calendar::Calendar;
 use compare_text::{end_line, put_short, put_wide, start_line};
 
 // The number of days of the cover that a map has and the sum of their day numbers.
-#[derive(Drop)]
+#[derive(Clone, Copy)]
 struct Days {
     count: u64,
     sum: u64,
@@ -41,24 +41,24 @@ fn second_days(cal: Calendar) -> Days {
 }
 
 // Those of the second map are printed where it has any.
-fn put_second(days: Days) {
+fn put_second(rt: HostRuntime, days: Days) {
     if days.count == 0 {
         return;
     }
-    put_wide(days.count);
-    put_wide(days.sum);
+    put_wide(rt, days.count);
+    put_wide(rt, days.sum);
 }
 
-pub(crate) fn print(file: &[u8]) {
+pub(crate) fn print(rt: HostRuntime, file: &[u8]) {
     let cal = file_calendar::calendar_of(file);
     let cover = cal.cover;
     let closed = closed_days(cal);
     let second = second_days(cal);
-    start_line(b'C');
-    put_short(cover.first_year);
-    put_short(cover.years);
-    put_wide(closed.count);
-    put_wide(closed.sum);
-    put_second(second);
-    end_line();
+    start_line(rt, b'C');
+    put_short(rt, cover.first_year);
+    put_short(rt, cover.years);
+    put_wide(rt, closed.count);
+    put_wide(rt, closed.sum);
+    put_second(rt, second);
+    end_line(rt);
 }

@@ -1,28 +1,31 @@
 // Judges the master files of its data folder and prints what they hold. The second program writes the same text.
 // The file cases has each of them after its length, four bytes big-endian.
+#![tactic(auto)]
+
 mod blockwise;
 mod calendars;
 mod finds;
 
 ghost use Rattle.std.specs.Prelude.{◌<◌};
 
-use compare_text::{end_line, put_byte, put_short, start_line};
+use compare_text::{end_line, open_read, put_byte, put_short, read_full, start_line};
+use std::fs::File;
 
 // The counts of a file, and of an accepted one the calendar and some records; then the answers of loading it block by block.
-fn file_lines(file: &[u8], index: u16) {
+fn file_lines(rt: HostRuntime, file: &[u8], index: u16) {
     let loaded = file_load::load(file);
     let counts = loaded.counts;
-    start_line(b'F');
-    put_short(index);
-    put_byte(loaded.refusal);
-    put_short(counts.years);
-    put_short(counts.records);
-    end_line();
+    start_line(rt, b'F');
+    put_short(rt, index);
+    put_byte(rt, loaded.refusal);
+    put_short(rt, counts.years);
+    put_short(rt, counts.records);
+    end_line(rt);
     if loaded.refusal == 0 {
-        calendars::print(file);
-        finds::print(file);
+        calendars::print(rt, file);
+        finds::print(rt, file);
     }
-    blockwise::print(file);
+    blockwise::print(rt, file);
 }
 
 fn wide(byte: u8) -> usize
@@ -32,9 +35,9 @@ fn wide(byte: u8) -> usize
 }
 
 // The length of the next file; more than any file has where the cases end.
-fn next_length(fd: i32) -> usize {
+fn next_length(from: &mut File) -> usize {
     let mut head = [0u8; 4];
-    let n = io::read_full(fd, &mut head);
+    let n = read_full(from, &mut head);
     if n < 4 {
         return usize::MAX;
     }
@@ -42,34 +45,32 @@ fn next_length(fd: i32) -> usize {
 }
 
 // Reads one file to the start of the buffer and prints its lines; whether there was one.
-fn one(fd: i32, buffer: &mut [u8], index: u16) -> bool {
-    let n = next_length(fd);
+fn one(rt: HostRuntime, from: &mut File, buffer: &mut [u8], index: u16) -> bool {
+    let n = next_length(from);
     if buffer.len() < n {
         return false;
     }
-    if io::read_full(fd, &mut buffer[..n]) < n {
+    if read_full(from, &mut buffer[..n]) < n {
         return false;
     }
-    file_lines(&buffer[..n], index);
+    file_lines(rt, &buffer[..n], index);
     true
 }
 
 // At most 1,000 files.
-fn all(fd: i32, buffer: &mut [u8]) {
+fn all(rt: HostRuntime, from: &mut File, buffer: &mut [u8]) {
     let mut index: u16 = 0;
     while index < 1000 {
-        if !one(fd, buffer, index) {
+        if !one(rt, from, buffer, index) {
             return;
         }
         index += 1;
     }
 }
 
-fn main() {
+fn main(rt: HostRuntime) {
     let mut buffer = [0u8; 66048];
-    let fd = os::open_read(b"cases");
-    if 0 <= fd {
-        all(fd, &mut buffer);
-        libc::close(fd);
+    if let Some(mut cases) = open_read(rt, b"cases") {
+        all(rt, &mut cases, &mut buffer);
     }
 }

@@ -23,7 +23,7 @@ const PLACE: u8 = b'P';
 const COUNT: u8 = b'N';
 
 // The queue after a record of the script, and the tables to be rolled.
-#[derive(Drop)]
+#[derive(Clone, Copy)]
 pub struct QueueCalled {
     pub queue: Queue,
     pub taken: Queue,
@@ -39,11 +39,11 @@ fn used(count: u16) -> usize
     count as usize
 }
 
-fn put_first(tables: [u16; 200], n: usize)
+fn put_first(rt: HostRuntime, tables: [u16; 200], n: usize)
     requires { n ≤ 200 }
 {
     for i in 0..n {
-        put_short(tables[i]);
+        put_short(rt, tables[i]);
     }
 }
 
@@ -65,12 +65,12 @@ fn sum_from(tables: [u16; 200], n: usize) -> u32
 }
 
 // The count, the used places, and the sum of the others.
-fn put_queue(q: Queue) {
+fn put_queue(rt: HostRuntime, q: Queue) {
     let tables = q.tables;
     let n = used(q.count);
-    put_short(q.count);
-    put_first(tables, n);
-    put_long(sum_from(tables, n));
+    put_short(rt, q.count);
+    put_first(rt, tables, n);
+    put_long(rt, sum_from(tables, n));
 }
 
 // A step that takes no table.
@@ -82,31 +82,31 @@ fn only(queue: Queue) -> QueueCalled
 }
 
 // The line of a joining or leaving.
-fn change(letter: u8, number: u16, c: Changed) -> QueueCalled
+fn change(rt: HostRuntime, letter: u8, number: u16, c: Changed) -> QueueCalled
     ensures { queue_right result.taken ≡ true }
 {
     let queue = c.queue;
-    start_line(letter);
-    put_short(number);
-    put_short(c.refusal as u16);
-    put_queue(queue);
-    end_line();
+    start_line(rt, letter);
+    put_short(rt, number);
+    put_short(rt, c.refusal as u16);
+    put_queue(rt, queue);
+    end_line(rt);
     only(queue)
 }
 
 // The line of a call of the round.
-fn handle(q: Queue, letter: u8, b: u16) -> QueueCalled
+fn handle(rt: HostRuntime, q: Queue, letter: u8, b: u16) -> QueueCalled
     ensures { queue_right result.taken ≡ true }
 {
     let h = q.handle(b);
     let taken = h.taken;
     let queue = h.queue;
-    start_line(letter);
-    put_short(b);
-    put_short(h.refusal as u16);
-    put_queue(taken);
-    put_queue(queue);
-    end_line();
+    start_line(rt, letter);
+    put_short(rt, b);
+    put_short(rt, h.refusal as u16);
+    put_queue(rt, taken);
+    put_queue(rt, queue);
+    end_line(rt);
     QueueCalled { queue, taken }
 }
 
@@ -128,17 +128,17 @@ fn with_count(q: Queue, count: u16) -> Queue {
 }
 
 // One record of the script.
-pub(crate) fn step(q: Queue, r: Record) -> QueueCalled
+pub(crate) fn step(rt: HostRuntime, q: Queue, r: Record) -> QueueCalled
     ensures { queue_right result.taken ≡ true }
 {
     let letter = r.letter;
     let number = r.number;
     match letter {
         EMPTY => only(Queue::empty()),
-        JOIN => change(letter, number, q.join(number)),
-        LEAVE => change(letter, number, q.leave(number)),
-        HANDLE => only(handle(q, letter, number).queue),
-        MORNING => handle(q, letter, number),
+        JOIN => change(rt, letter, number, q.join(number)),
+        LEAVE => change(rt, letter, number, q.leave(number)),
+        HANDLE => only(handle(rt, q, letter, number).queue),
+        MORNING => handle(rt, q, letter, number),
         PLACE => only(with_place(q, number, r.second)),
         COUNT => only(with_count(q, number)),
         _ => only(q),

@@ -10,7 +10,7 @@ use table::{Outcome, Table};
 const OPEN: u8 = b'O';
 
 // The tables of a host, by their numbers.
-#[derive(Drop)]
+#[derive(Clone, Copy)]
 pub struct Host {
     pub tables: [Table; 200],
 }
@@ -22,26 +22,26 @@ pub(crate) fn nothing_opened() -> Host {
 }
 
 // The table's number, the refusal, the date, the counts of months that entered and left, and of numbers given.
-fn outcome_line(letter: u8, number: u16, o: Outcome) {
+fn outcome_line(rt: HostRuntime, letter: u8, number: u16, o: Outcome) {
     let t = o.table;
-    start_line(letter);
-    put_short(number);
-    put_short(o.refusal as u16);
-    put_short(t.date);
-    put_short(o.entered);
-    put_short(o.left);
-    put_short(t.given);
-    end_line();
+    start_line(rt, letter);
+    put_short(rt, number);
+    put_short(rt, o.refusal as u16);
+    put_short(rt, t.date);
+    put_short(rt, o.entered);
+    put_short(rt, o.left);
+    put_short(rt, t.given);
+    end_line(rt);
 }
 
-fn open(file: &[u8], host: Host, r: Record) -> Host {
+fn open(rt: HostRuntime, file: &[u8], host: Host, r: Record) -> Host {
     let number = r.number;
     if 199 < number {
         return host;
     }
     let id = r.id;
     let o = table::zero_table().open(file, id, r.second);
-    outcome_line(b'O', number, o);
+    outcome_line(rt, b'O', number, o);
     let t = o.table;
     let mut tables = host.tables;
     tables[number as usize] = t;
@@ -49,7 +49,7 @@ fn open(file: &[u8], host: Host, r: Record) -> Host {
 }
 
 // Rolls the tables that were taken, in their order. Each of their numbers is that of a table.
-fn roll_taken(host: Host, taken: Queue, date: u16) -> Host
+fn roll_taken(rt: HostRuntime, host: Host, taken: Queue, date: u16) -> Host
     requires { queue_right taken ≡ true }
 {
     let numbers = taken.tables;
@@ -61,7 +61,7 @@ fn roll_taken(host: Host, taken: Queue, date: u16) -> Host
         let place = number as usize;
         let t = tables[place];
         let o = t.roll(date);
-        outcome_line(b'R', number, o);
+        outcome_line(rt, b'R', number, o);
         let rolled = o.table;
         tables[place] = rolled;
         i += 1;
@@ -70,11 +70,11 @@ fn roll_taken(host: Host, taken: Queue, date: u16) -> Host
 }
 
 // The host after a record of the script.
-pub(crate) fn step(file: &[u8], host: Host, r: Record, taken: Queue) -> Host
+pub(crate) fn step(rt: HostRuntime, file: &[u8], host: Host, r: Record, taken: Queue) -> Host
     requires { queue_right taken ≡ true }
 {
     if r.letter == OPEN {
-        return open(file, host, r);
+        return open(rt, file, host, r);
     }
-    roll_taken(host, taken, r.second)
+    roll_taken(rt, host, taken, r.second)
 }

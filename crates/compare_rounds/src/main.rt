@@ -1,32 +1,35 @@
 // A morning's round: runs a script of calls on a queue of tables and rolls the tables of a master file that the calls take.
 // The second program writes the same text.
+#![tactic(auto)]
+
 mod calls;
 mod host;
 mod reading;
 
+use compare_text::open_read;
 use rounds::Queue;
+use std::fs::File;
 
-fn run(fd: i32, file: &[u8]) {
+fn run(rt: HostRuntime, from: &mut File, file: &[u8]) {
     let mut queue = Queue::empty();
     let mut host = host::nothing_opened();
     let mut turns: u32 = 1000000;
     while 0 < turns {
-        let r = reading::next(fd);
+        let r = reading::next(from);
         if r.letter == 0 {
             break;
         }
-        let c = calls::step(queue, r);
+        let c = calls::step(rt, queue, r);
         queue = c.queue;
-        host = host::step(file, host, r, c.taken);
+        host = host::step(rt, file, host, r, c.taken);
         turns -= 1;
     }
 }
 
-fn main() {
+fn main(rt: HostRuntime) {
     let mut file = io::large_buffer();
-    let n = reading::read_master(&mut file);
-    let fd = os::open_read(b"script.bin");
-    if 0 <= fd {
-        run(fd, &file[..n]);
+    let n = reading::read_master(rt, &mut file);
+    if let Some(mut script) = open_read(rt, b"script.bin") {
+        run(rt, &mut script, &file[..n]);
     }
 }

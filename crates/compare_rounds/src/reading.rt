@@ -1,8 +1,11 @@
 // Reading the script, a record of 16 bytes at a time, and the master file.
 ghost use Rattle.io.specs.Counts.{IsPrefixLen};
 
+use compare_text::{read_file, read_full};
+use std::fs::File;
+
 // A record: its letter, two numbers and an id; the letter is 0 where the script has ended.
-#[derive(Drop)]
+#[derive(Clone, Copy)]
 pub struct Record {
     pub letter: u8,
     pub number: u16,
@@ -15,9 +18,9 @@ fn two(high: u8, low: u8) -> u16 {
     256 * (high as u16) + (low as u16)
 }
 
-pub(crate) fn next(fd: i32) -> Record {
+pub(crate) fn next(from: &mut File) -> Record {
     let mut bytes = [0u8; 16];
-    let n = io::read_full(fd, &mut bytes);
+    let n = read_full(from, &mut bytes);
     let letter = if n < 16 { 0 } else { bytes[0] };
     Record {
         letter,
@@ -28,14 +31,8 @@ pub(crate) fn next(fd: i32) -> Record {
 }
 
 // Reads the master file to the start of buf. One that cannot be opened counts as empty.
-pub(crate) fn read_master(buf: &mut [u8]) -> usize
+pub(crate) fn read_master(rt: HostRuntime, buf: &mut [u8]) -> usize
     ensures { IsPrefixLen result buf.new }
 {
-    let fd = os::open_read(b"master.bin");
-    if fd < 0 {
-        return 0;
-    }
-    let n = io::read_full(fd, buf);
-    libc::close(fd);
-    n
+    read_file(rt, b"master.bin", buf)
 }

@@ -3,91 +3,91 @@ use compare_text::{end_line, put_short, start_line};
 use days::{DateAnswer, DayAnswer};
 
 // Number, first day, weekday of that day, length.
-fn months() {
+fn months(rt: HostRuntime) {
     for k in 0..1200u16 {
         let first = days::first_day(k);
-        start_line(b'M');
-        put_short(k);
-        put_short(first);
-        put_short(days::weekday(first));
-        put_short(days::month_length(2000 + k / 12, k % 12 + 1));
-        end_line();
+        start_line(rt, b'M');
+        put_short(rt, k);
+        put_short(rt, first);
+        put_short(rt, days::weekday(first));
+        put_short(rt, days::month_length(2000 + k / 12, k % 12 + 1));
+        end_line(rt);
     }
 }
 
 // Refusal and day number of a date.
-fn date(year: u16, month: u16, day: u16) {
-    start_line(b'D');
-    put_short(year);
-    put_short(month);
-    put_short(day);
+fn date(rt: HostRuntime, year: u16, month: u16, day: u16) {
+    start_line(rt, b'D');
+    put_short(rt, year);
+    put_short(rt, month);
+    put_short(rt, day);
     match days::day_of_date(year, month, day) {
         DayAnswer::Day(number) => {
-            put_short(0);
-            put_short(number);
+            put_short(rt, 0);
+            put_short(rt, number);
         }
         DayAnswer::NotADate => {
-            put_short(23);
-            put_short(0);
+            put_short(rt, 23);
+            put_short(rt, 0);
         }
     }
-    end_line();
+    end_line(rt);
 }
 
-fn month_dates(year: u16) {
+fn month_dates(rt: HostRuntime, year: u16) {
     for month in 0..14u16 {
-        date(year, month, 0);
-        date(year, month, 1);
-        date(year, month, 28);
-        date(year, month, 29);
-        date(year, month, 30);
-        date(year, month, 31);
-        date(year, month, 32);
+        date(rt, year, month, 0);
+        date(rt, year, month, 1);
+        date(rt, year, month, 28);
+        date(rt, year, month, 29);
+        date(rt, year, month, 30);
+        date(rt, year, month, 31);
+        date(rt, year, month, 32);
     }
 }
 
-fn all_dates() {
+fn all_dates(rt: HostRuntime) {
     for year in 1996..2104u16 {
-        month_dates(year);
+        month_dates(rt, year);
     }
 }
 
 // Refusal and date of a day number.
-fn number(n: u16) {
-    start_line(b'N');
-    put_short(n);
+fn number(rt: HostRuntime, n: u16) {
+    start_line(rt, b'N');
+    put_short(rt, n);
     match days::date_of_day(n) {
         DateAnswer::Is(d) => {
-            put_short(0);
-            put_short(d.year);
-            put_short(d.month);
-            put_short(d.day);
+            put_short(rt, 0);
+            put_short(rt, d.year);
+            put_short(rt, d.month);
+            put_short(rt, d.day);
         }
         DateAnswer::NotADay => {
-            put_short(23);
-            put_short(0);
-            put_short(0);
-            put_short(0);
+            put_short(rt, 23);
+            put_short(rt, 0);
+            put_short(rt, 0);
+            put_short(rt, 0);
         }
     }
-    end_line();
+    end_line(rt);
 }
 
-fn spread_numbers() {
+fn spread_numbers(rt: HostRuntime) {
     for i in 0..1772u16 {
-        number(37 * i);
+        number(rt, 37 * i);
     }
 }
 
-fn last_numbers() {
+fn last_numbers(rt: HostRuntime) {
     for n in 36490..36561u16 {
-        number(n);
+        number(rt, n);
     }
 }
 
-pub(crate) fn print() {
-    months();
-    all_dates();
-    spread_numbers();
-    last_numbers();
+pub(crate) fn print(rt: HostRuntime) {
+    months(rt);
+    all_dates(rt);
+    spread_numbers(rt);
+    last_numbers(rt);
 }

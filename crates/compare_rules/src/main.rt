@@ -1,4 +1,6 @@
 // Prints what the libraries answer to many inputs, section by section. The second program writes the same text.
+#![tactic(auto)]
+
 mod calendars;
 mod dates;
 mod listings;
@@ -7,11 +9,11 @@ mod patterns;
 mod products;
 mod second_maps;
 
-fn main() {
-    dates::print();
-    calendars::print();
-    products::print();
-    listings::print();
-    second_maps::print();
-    made_up::print();
+fn main(rt: HostRuntime) {
+    dates::print(rt);
+    calendars::print(rt);
+    products::print(rt);
+    listings::print(rt);
+    second_maps::print(rt);
+    made_up::print(rt);
 }

@@ -10,44 +10,44 @@ pub(crate) fn no_table() -> Table {
     t
 }
 
-pub(crate) fn open(bytes: [u8; 16]) -> Table {
+pub(crate) fn open(rt: HostRuntime, bytes: [u8; 16]) -> Table {
     let id = [bytes[4], bytes[5], bytes[6], bytes[7]];
     let mut file = io::large_buffer();
-    let n = read_master(bytes[1], &mut file);
+    let n = read_master(rt, bytes[1], &mut file);
     let o = table::zero_table().open(&file[..n], id, two(bytes[2], bytes[3]));
-    put_outcome(b'O', o);
+    put_outcome(rt, b'O', o);
     let t = o.table;
     t
 }
 
-pub(crate) fn roll(t: Table, date: u16) -> Table {
+pub(crate) fn roll(rt: HostRuntime, t: Table, date: u16) -> Table {
     let o = t.roll(date);
-    put_outcome(b'R', o);
+    put_outcome(rt, b'R', o);
     let next = o.table;
     next
 }
 
-pub(crate) fn close(t: Table, day: u16) -> Table {
+pub(crate) fn close(rt: HostRuntime, t: Table, day: u16) -> Table {
     let o = t.close(day);
-    put_outcome(b'C', o);
+    put_outcome(rt, b'C', o);
     let next = o.table;
     next
 }
 
-pub(crate) fn reopen(t: Table, day: u16) -> Table {
+pub(crate) fn reopen(rt: HostRuntime, t: Table, day: u16) -> Table {
     let o = t.reopen(day);
-    put_outcome(b'E', o);
+    put_outcome(rt, b'E', o);
     let next = o.table;
     next
 }
 
 // p, q and the price stand where cash has its three numbers.
-pub(crate) fn measure(t: Table, bytes: [u8; 16]) -> Table {
+pub(crate) fn measure(rt: HostRuntime, t: Table, bytes: [u8; 16]) -> Table {
     let p = two(bytes[6], bytes[7]);
     let q = two(bytes[10], bytes[11]);
     let price = four(bytes[12], bytes[13], bytes[14], bytes[15]);
     let m = table_measures::measure(t, p, q, price);
-    put_measured(m);
+    put_measured(rt, m);
     let next = m.table;
     next
 }

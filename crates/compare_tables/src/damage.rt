@@ -233,15 +233,15 @@ fn number_if(field: u8, changed: u8, number: u16, value: u16) -> u16 {
 }
 
 // The table with one field changed: i is the place in it, where it has places. All fields but the size have 16 bits or fewer.
-pub(crate) fn damage(t: Table, field: u8, i: u16, value: u32) -> Table {
+pub(crate) fn damage(rt: HostRuntime, t: Table, field: u8, i: u16, value: u32) -> Table {
     let p = t.product;
     let cal = t.calendar;
     let old = t.maturities;
-    start_line(b'D');
-    put_short(field as u16);
-    put_short(i);
-    put_long(value);
-    end_line();
+    start_line(rt, b'D');
+    put_short(rt, field as u16);
+    put_short(rt, i);
+    put_long(rt, value);
+    end_line(rt);
     let short = (value % 65536) as u16;
     let product = damage_product(p, field, i, value);
     let calendar = damage_calendar(cal, field, i, short);

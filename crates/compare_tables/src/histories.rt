@@ -5,6 +5,7 @@ use crate::reading::{four, next, read_master, two};
 use crate::show::put_table;
 use compare_text::{end_line, put_long, put_short, start_line};
 use history_replay::Replay;
+use std::fs::File;
 use table::Table;
 
 // A number, or the most it may be.
@@ -46,14 +47,14 @@ fn call_in(bytes: [u8; 16]) -> [u32; 4] {
 }
 
 // The calls of the next n records, four numbers each.
-fn read_calls(fd: i32, n: usize) -> [u32; 1024]
+fn read_calls(from: &mut File, n: usize) -> [u32; 1024]
     requires { n ≤ 256 }
     ensures { length result ≡ 1024 }
 {
     let mut calls = [0u32; 1024];
     let mut i: usize = 0;
     while i < n {
-        let record = next(fd);
+        let record = next(from);
         let bytes = record.bytes;
         let numbers = call_in(bytes);
         calls[4 * i] = numbers[0];
@@ -66,37 +67,38 @@ fn read_calls(fd: i32, n: usize) -> [u32; 1024]
 }
 
 // The answer of each call: refusal, entered, left, price.
-fn put_answers(answers: [u32; 1024], n: usize)
+fn put_answers(rt: HostRuntime, answers: [u32; 1024], n: usize)
     requires { n ≤ 256 }
 {
     let mut i: usize = 0;
     while i < n {
-        start_line(b'A');
-        put_long(answers[4 * i]);
-        put_long(answers[4 * i + 1]);
-        put_long(answers[4 * i + 2]);
-        put_long(answers[4 * i + 3]);
-        end_line();
+        start_line(rt, b'A');
+        put_long(rt, answers[4 * i]);
+        put_long(rt, answers[4 * i + 1]);
+        put_long(rt, answers[4 * i + 2]);
+        put_long(rt, answers[4 * i + 3]);
+        end_line(rt);
         i += 1;
     }
 }
 
 // Whether the lists fit, open's refusal, and the table.
-fn put_replay(r: Replay) {
+fn put_replay(rt: HostRuntime, r: Replay) {
     let t = r.table;
-    start_line(b'H');
+    start_line(rt, b'H');
     if r.fits {
-        put_short(1);
+        put_short(rt, 1);
     } else {
-        put_short(0);
+        put_short(rt, 0);
     }
-    put_short(r.refusal as u16);
-    put_table(t);
-    end_line();
+    put_short(rt, r.refusal as u16);
+    put_table(rt, t);
+    end_line(rt);
 }
 
 // Opens a table, runs on it the calls whose numbers are lent, and prints the answers of n calls from a buffer of which a part is lent.
 fn replay(
+    rt: HostRuntime,
     bytes: [u8; 16],
     calls: [u32; 1024],
     n: usize,
@@ -109,7 +111,7 @@ fn replay(
     let date = two(bytes[2], bytes[3]);
     let mut answers = [0u32; 1024];
     let mut file = io::large_buffer();
-    let size = read_master(bytes[1], &mut file);
+    let size = read_master(rt, bytes[1], &mut file);
     let r = history_replay::run(
         &file[..size],
         id,
@@ -117,18 +119,18 @@ fn replay(
         &calls[..numbers_lent],
         &mut answers[..buffer_lent],
     );
-    put_replay(r);
-    put_answers(answers, n);
+    put_replay(rt, r);
+    put_answers(rt, answers, n);
     let t = r.table;
     t
 }
 
 // A history of the calls in the records that follow.
 // The record says how many there are, how many of their numbers are lent, and the length of the buffer that is lent.
-pub(crate) fn run(fd: i32, bytes: [u8; 16]) -> Table {
+pub(crate) fn run(rt: HostRuntime, from: &mut File, bytes: [u8; 16]) -> Table {
     let n = at_most(two(bytes[8], bytes[9]), 256);
     let numbers_lent = at_most(two(bytes[10], bytes[11]), 1024);
     let buffer_lent = at_most(two(bytes[12], bytes[13]), 1024);
-    let calls = read_calls(fd, n);
-    replay(bytes, calls, n, numbers_lent, buffer_lent)
+    let calls = read_calls(from, n);
+    replay(rt, bytes, calls, n, numbers_lent, buffer_lent)
 }

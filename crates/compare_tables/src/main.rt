@@ -1,4 +1,6 @@
 // Runs a script of table calls on master files and prints every outcome. The second program writes the same text.
+#![tactic(auto)]
+
 mod calls;
 mod damage;
 mod histories;
@@ -6,8 +8,9 @@ mod reading;
 mod show;
 mod value_calls;
 
-use compare_text::{end_line, start_line};
+use compare_text::{end_line, open_read, start_line};
 use reading::{four, two};
+use std::fs::File;
 use table::Table;
 
 // The letters of the operations.
@@ -30,56 +33,56 @@ const SAVE: u8 = b'S';
 const RESTORE: u8 = b'B';
 
 // The table of the script and the saved one.
-#[derive(Drop)]
+#[derive(Clone, Copy)]
 pub struct State {
     pub table: Table,
     pub saved: Table,
 }
 
 // The operations that may change the table.
-fn table_step(fd: i32, bytes: [u8; 16], t: Table) -> Table {
+fn table_step(rt: HostRuntime, from: &mut File, bytes: [u8; 16], t: Table) -> Table {
     let operation = bytes[0];
     let number = two(bytes[2], bytes[3]);
     let value = four(bytes[4], bytes[5], bytes[6], bytes[7]);
     match operation {
-        OPEN => calls::open(bytes),
-        ROLL => calls::roll(t, number),
-        CLOSE => calls::close(t, number),
-        REOPEN => calls::reopen(t, number),
-        MEASURE => calls::measure(t, bytes),
-        DAMAGE => damage::damage(t, bytes[1], number, value),
-        HISTORY => histories::run(fd, bytes),
+        OPEN => calls::open(rt, bytes),
+        ROLL => calls::roll(rt, t, number),
+        CLOSE => calls::close(rt, t, number),
+        REOPEN => calls::reopen(rt, t, number),
+        MEASURE => calls::measure(rt, t, bytes),
+        DAMAGE => damage::damage(rt, t, bytes[1], number, value),
+        HISTORY => histories::run(rt, from, bytes),
         _ => t,
     }
 }
 
 // One record of the script.
-fn step(fd: i32, bytes: [u8; 16], state: State) -> State {
+fn step(rt: HostRuntime, from: &mut File, bytes: [u8; 16], state: State) -> State {
     let operation = bytes[0];
     let t = state.table;
     let saved = state.saved;
     if operation == SAVE {
-        start_line(b'S');
-        end_line();
+        start_line(rt, b'S');
+        end_line(rt);
         return State { table: t, saved: t };
     }
     if operation == RESTORE {
-        start_line(b'B');
-        end_line();
+        start_line(rt, b'B');
+        end_line(rt);
         return State {
             table: saved,
             saved: saved,
         };
     }
-    value_calls::print(bytes, t);
-    let next = table_step(fd, bytes, t);
+    value_calls::print(rt, bytes, t);
+    let next = table_step(rt, from, bytes, t);
     State {
         table: next,
         saved: saved,
     }
 }
 
-fn run_script(fd: i32) {
+fn run_script(rt: HostRuntime, from: &mut File) {
     let empty = calls::no_table();
     let mut state = State {
         table: empty,
@@ -87,19 +90,18 @@ fn run_script(fd: i32) {
     };
     let mut turns: u32 = 1000000;
     while 0 < turns {
-        let record = reading::next(fd);
+        let record = reading::next(from);
         if !record.there {
             break;
         }
         let bytes = record.bytes;
-        state = step(fd, bytes, state);
+        state = step(rt, from, bytes, state);
         turns -= 1;
     }
 }
 
-fn main() {
-    let fd = os::open_read(b"script.bin");
-    if 0 <= fd {
-        run_script(fd);
+fn main(rt: HostRuntime) {
+    if let Some(mut script) = open_read(rt, b"script.bin") {
+        run_script(rt, &mut script);
     }
 }

@@ -1,16 +1,19 @@
 // Reading the script, a record of 16 bytes at a time, and the master files.
 ghost use Rattle.io.specs.Counts.{IsPrefixLen};
 
+use compare_text::{read_file, read_full};
+use std::fs::File;
+
 // A record, and whether the script had one more.
-#[derive(Drop)]
+#[derive(Clone, Copy)]
 pub struct Record {
     pub there: bool,
     pub bytes: [u8; 16],
 }
 
-pub(crate) fn next(fd: i32) -> Record {
+pub(crate) fn next(from: &mut File) -> Record {
     let mut bytes = [0u8; 16];
-    let n = io::read_full(fd, &mut bytes);
+    let n = read_full(from, &mut bytes);
     Record {
         there: n == 16,
         bytes,
@@ -28,7 +31,7 @@ pub(crate) fn four(a: u8, b: u8, c: u8, d: u8) -> u32 {
 }
 
 // Reads a master file, named by two digits, to the start of buf. One that cannot be opened counts as empty.
-pub(crate) fn read_master(number: u8, buf: &mut [u8]) -> usize
+pub(crate) fn read_master(rt: HostRuntime, number: u8, buf: &mut [u8]) -> usize
     ensures { IsPrefixLen result buf.new }
 {
     let tens = b'0' + number / 10;
@@ -36,11 +39,5 @@ pub(crate) fn read_master(number: u8, buf: &mut [u8]) -> usize
     let path = [
         b'm', b'a', b's', b't', b'e', b'r', tens, ones, b'.', b'b', b'i', b'n',
     ];
-    let fd = os::open_read(&path);
-    if fd < 0 {
-        return 0;
-    }
-    let n = io::read_full(fd, buf);
-    libc::close(fd);
-    n
+    read_file(rt, &path, buf)
 }

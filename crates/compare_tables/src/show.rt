@@ -67,56 +67,56 @@ fn product_sum(p: Product) -> u32 {
     mix(mix_bytes(markets, codes), p.tick as u32)
 }
 
-fn put_maturities(maturities: [Maturity; 15]) {
+fn put_maturities(rt: HostRuntime, maturities: [Maturity; 15]) {
     for i in 0..15usize {
         let m = maturities[i];
-        put_short(m.key);
-        put_short(m.day);
-        put_short(m.back);
-        put_short(m.number);
+        put_short(rt, m.key);
+        put_short(rt, m.day);
+        put_short(rt, m.back);
+        put_short(rt, m.number);
     }
 }
 
-fn put_second(sum: u32) {
+fn put_second(rt: HostRuntime, sum: u32) {
     if sum == 0 {
         return;
     }
-    put_long(sum);
+    put_long(rt, sum);
 }
 
-pub(crate) fn put_table(t: Table) {
+pub(crate) fn put_table(rt: HostRuntime, t: Table) {
     let cal = t.calendar;
     let cover = cal.cover;
     let p = t.product;
     let maturities = t.maturities;
-    put_short(t.date);
-    put_short(t.given);
-    put_short(cover.first_year);
-    put_short(cover.years);
-    put_long(map_sum(&cal.closed));
-    put_long(product_sum(p));
-    put_long(p.size);
-    put_maturities(maturities);
-    put_second(map_sum(&cal.exchange));
+    put_short(rt, t.date);
+    put_short(rt, t.given);
+    put_short(rt, cover.first_year);
+    put_short(rt, cover.years);
+    put_long(rt, map_sum(&cal.closed));
+    put_long(rt, product_sum(p));
+    put_long(rt, p.size);
+    put_maturities(rt, maturities);
+    put_second(rt, map_sum(&cal.exchange));
 }
 
 // Refusal, entered, left and the table.
-pub(crate) fn put_outcome(letter: u8, o: Outcome) {
+pub(crate) fn put_outcome(rt: HostRuntime, letter: u8, o: Outcome) {
     let t = o.table;
-    start_line(letter);
-    put_short(o.refusal as u16);
-    put_short(o.entered);
-    put_short(o.left);
-    put_table(t);
-    end_line();
+    start_line(rt, letter);
+    put_short(rt, o.refusal as u16);
+    put_short(rt, o.entered);
+    put_short(rt, o.left);
+    put_table(rt, t);
+    end_line(rt);
 }
 
 // Refusal, the new price and the table.
-pub(crate) fn put_measured(m: Measured) {
+pub(crate) fn put_measured(rt: HostRuntime, m: Measured) {
     let t = m.table;
-    start_line(b'Z');
-    put_short(m.refusal as u16);
-    put_long(m.price);
-    put_table(t);
-    end_line();
+    start_line(rt, b'Z');
+    put_short(rt, m.refusal as u16);
+    put_long(rt, m.price);
+    put_table(rt, t);
+    end_line(rt);
 }

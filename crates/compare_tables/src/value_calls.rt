@@ -13,62 +13,62 @@ const TICK: u8 = b'T';
 
 const CASH: u8 = b'Q';
 
-fn last_trading_day(t: Table, key: u16) {
+fn last_trading_day(rt: HostRuntime, t: Table, key: u16) {
     let r = table_values::last_trading_day(t, key);
-    start_line(b'L');
-    put_short(r.refusal as u16);
-    put_short(r.day);
-    put_short(r.back);
-    end_line();
+    start_line(rt, b'L');
+    put_short(rt, r.refusal as u16);
+    put_short(rt, r.day);
+    put_short(rt, r.back);
+    end_line(rt);
 }
 
-fn due(t: Table, day: u16) {
+fn due(rt: HostRuntime, t: Table, day: u16) {
     let r = table_values::due(t, day);
-    start_line(b'U');
-    put_short(r.refusal as u16);
-    put_short(r.day);
-    end_line();
+    start_line(rt, b'U');
+    put_short(rt, r.refusal as u16);
+    put_short(rt, r.day);
+    end_line(rt);
 }
 
-fn tick(t: Table, price: u32) {
+fn tick(rt: HostRuntime, t: Table, price: u32) {
     let refusal = table_prices::tick(t, price);
-    start_line(b'T');
-    put_short(refusal as u16);
-    end_line();
+    start_line(rt, b'T');
+    put_short(rt, refusal as u16);
+    end_line(rt);
 }
 
 // 1 where the sign is negative and 0 where it is positive, the amount and the rest.
-fn put_cash(cash: Amount) {
+fn put_cash(rt: HostRuntime, cash: Amount) {
     if cash.negative {
-        put_short(1);
+        put_short(rt, 1);
     } else {
-        put_short(0);
+        put_short(rt, 0);
     }
-    put_wide(cash.amount);
-    put_short(cash.rest);
+    put_wide(rt, cash.amount);
+    put_short(rt, cash.rest);
 }
 
-fn cash(t: Table, contracts: u32, agreed: u32, last: u32) {
+fn cash(rt: HostRuntime, t: Table, contracts: u32, agreed: u32, last: u32) {
     let r = table_prices::cash(t, contracts, agreed, last);
     let cash = r.cash;
-    start_line(b'Q');
-    put_short(r.refusal as u16);
-    put_cash(cash);
-    end_line();
+    start_line(rt, b'Q');
+    put_short(rt, r.refusal as u16);
+    put_cash(rt, cash);
+    end_line(rt);
 }
 
 // Refusal and value of a record's call, where it is one of these.
-pub(crate) fn print(bytes: [u8; 16], t: Table) {
+pub(crate) fn print(rt: HostRuntime, bytes: [u8; 16], t: Table) {
     let operation = bytes[0];
     let number = two(bytes[2], bytes[3]);
     let first = four(bytes[4], bytes[5], bytes[6], bytes[7]);
     let second = four(bytes[8], bytes[9], bytes[10], bytes[11]);
     let third = four(bytes[12], bytes[13], bytes[14], bytes[15]);
     match operation {
-        LAST_TRADING_DAY => last_trading_day(t, number),
-        DUE => due(t, number),
-        TICK => tick(t, first),
-        CASH => cash(t, first, second, third),
+        LAST_TRADING_DAY => last_trading_day(rt, t, number),
+        DUE => due(rt, t, number),
+        TICK => tick(rt, t, first),
+        CASH => cash(rt, t, first, second, third),
         _ => {}
     }
 }

@@ -1,9 +1,12 @@
 // Judges the lists of its data folder by tables that it opens from its master file, and prints the verdicts. The second program writes the same text.
 // The file lists has of each list 1, the product's id, the date, 1 where the count given is to be wrong, the count of numbers, and the numbers;
 // all but the id in two bytes, big-endian.
+#![tactic(auto)]
+
 ghost use Rattle.std.specs.Prelude.{◌≤◌, ◌<◌, length};
 
-use compare_text::{end_line, put_byte, put_short, start_line};
+use compare_text::{end_line, open_read, put_byte, put_short, read_file, read_full, start_line};
+use std::fs::File;
 use table::Table;
 use table_vendor::Verdict;
 
@@ -14,9 +17,9 @@ fn wide(byte: u8) -> u16
 }
 
 // The next number; 0 where the lists end.
-fn next_number(fd: i32) -> u16 {
+fn next_number(from: &mut File) -> u16 {
     let mut head = [0u8; 2];
-    let n = io::read_full(fd, &mut head);
+    let n = read_full(from, &mut head);
     if n < 2 {
         return 0;
     }
@@ -24,9 +27,9 @@ fn next_number(fd: i32) -> u16 {
 }
 
 // The next id.
-fn next_id(fd: i32) -> [u8; 4] {
+fn next_id(from: &mut File) -> [u8; 4] {
     let mut id = [0u8; 4];
-    io::read_full(fd, &mut id);
+    read_full(from, &mut id);
     id
 }
 
@@ -37,10 +40,10 @@ fn put_number(list: &mut [u16], at: usize, n: u16) {
 }
 
 // The next n numbers, at the start of a list.
-fn fill(fd: i32, list: &mut [u16], n: usize) {
+fn fill(from: &mut File, list: &mut [u16], n: usize) {
     let mut i: usize = 0;
     while i < n {
-        put_number(list, i, next_number(fd));
+        put_number(list, i, next_number(from));
         i += 1;
     }
 }
@@ -73,56 +76,54 @@ fn damaged(t: Table, wrong: u16) -> Table {
 }
 
 // A line: the refusal, 1 for a yes, and the key.
-fn verdict_line(refusal: u8, same: u8, key: u16) {
-    start_line(b'V');
-    put_byte(refusal);
-    put_byte(same);
-    put_short(key);
-    end_line();
+fn verdict_line(rt: HostRuntime, refusal: u8, same: u8, key: u16) {
+    start_line(rt, b'V');
+    put_byte(rt, refusal);
+    put_byte(rt, same);
+    put_short(rt, key);
+    end_line(rt);
 }
 
 // What is said of the numbers of a list.
-fn print_verdict(t: Table, list: &[u16], count: usize) {
+fn print_verdict(rt: HostRuntime, t: Table, list: &[u16], count: usize) {
     let n = within(list, count);
     match table_vendor::judge(t, &list[..n]) {
-        Verdict::Same => verdict_line(0, 1, 0),
-        Verdict::Differs(key) => verdict_line(0, 0, key),
-        Verdict::Unsound => verdict_line(10, 0, 0),
+        Verdict::Same => verdict_line(rt, 0, 1, 0),
+        Verdict::Differs(key) => verdict_line(rt, 0, 0, key),
+        Verdict::Unsound => verdict_line(rt, 10, 0, 0),
     }
 }
 
 // The next list and its verdict.
-fn one(fd: i32, file: &[u8], list: &mut [u16]) {
-    let id = next_id(fd);
-    let date = next_number(fd);
-    let wrong = next_number(fd);
-    let n = next_number(fd) as usize;
-    fill(fd, list, n);
+fn one(rt: HostRuntime, from: &mut File, file: &[u8], list: &mut [u16]) {
+    let id = next_id(from);
+    let date = next_number(from);
+    let wrong = next_number(from);
+    let n = next_number(from) as usize;
+    fill(from, list, n);
     let o = table::zero_table().open(file, id, date);
     let opened = o.table;
     let t = damaged(opened, wrong);
-    print_verdict(t, list, n);
+    print_verdict(rt, t, list, n);
 }
 
 // At most 10,000 lists.
-fn all(fd: i32, file: &[u8], list: &mut [u16]) {
+fn all(rt: HostRuntime, from: &mut File, file: &[u8], list: &mut [u16]) {
     let mut turns: u16 = 0;
     while turns < 10000 {
-        if next_number(fd) != 1 {
+        if next_number(from) != 1 {
             return;
         }
-        one(fd, file, list);
+        one(rt, from, file, list);
         turns += 1;
     }
 }
 
-fn main() {
+fn main(rt: HostRuntime) {
     let mut file = [0u8; 65537];
     let mut list = [0u16; 1024];
-    let from = os::open_read(b"master.bin");
-    let size = io::read_full(from, &mut file);
-    libc::close(from);
-    let fd = os::open_read(b"lists");
-    all(fd, &file[..size], &mut list);
-    libc::close(fd);
+    let size = read_file(rt, b"master.bin", &mut file);
+    if let Some(mut lists) = open_read(rt, b"lists") {
+        all(rt, &mut lists, &file[..size], &mut list);
+    }
 }

@@ -1,4 +1,6 @@
 // The whole input of the program `confirm`, and the line that it prints.
+#![tactic(auto)]
+
 ghost use Rattle.std.specs.Prelude.{◌≡◌, [], ◌+◌, ◌≤◌, length, take};
 ghost use Rattle.session_lines.specs.CommandLines.{empty_line, lines_from};
 ghost use Rattle.table_vendor.specs.Vendor.{verdict_answer};

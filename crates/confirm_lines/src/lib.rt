@@ -1,4 +1,6 @@
 // The lines of a vendor's listing, as the program `confirm` reads them, and the names of maturities as it prints them.
+#![tactic(auto)]
+
 ghost use Rattle.std.specs.Prelude.{◌≡◌};
 ghost use Rattle.session_lines.specs.CommandLines.{command_of};
 ghost use Rattle.session_text.specs.TermsText.{last_digit, month_text, day_text};
@@ -9,7 +11,7 @@ use session_lines::{Command, Line};
 use table::{Outcome, Table};
 
 // Whether a line is one of a listing, the key in it and the last trading day.
-#[derive(Drop)]
+#[derive(Clone, Copy)]
 pub struct EntryRead {
     pub there: bool,
     pub key: u16,
@@ -163,7 +165,7 @@ pub fn day_name(day: u16) -> DayName
 
 // What is known of an input after some of its lines: whether the last was bad, the number of a refused call,
 // whether an open was called, whether the listing has begun, the table, and the entry of the last line.
-#[derive(Drop)]
+#[derive(Clone, Copy)]
 pub struct ListingSoFar {
     pub bad: bool,
     pub refusal: u8,

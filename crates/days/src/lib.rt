@@ -1,4 +1,6 @@
 // Day numbers of 2000 to 2099, their dates, months, years and weekdays.
+#![tactic(auto)]
+
 ghost use Rattle.std.specs.Prelude.{◌≡◌, true, ◌+◌, ◌≤◌, ◌<◌};
 ghost use Rattle.days.specs.Gregorian.{leap_year, month_length, weekday_of, follows_months};
 ghost use Rattle.days.specs.Dates.{valid_date, month_of, day_call, date_call, day_answer, date_answer, first_of, year_of, year_start, day_in_year, march_in, start_in};

@@ -1,4 +1,6 @@
 // What `query` answers, in lines of at most 64 bytes: what stands after a question, and the line of a bad one.
+#![tactic(auto)]
+
 ghost use Rattle.std.specs.Prelude.{◌≡◌, ◌<◌};
 ghost use Rattle.session_lines.specs.CommandLines.{empty_line};
 ghost use Rattle.file_text_print.specs.Contents.{LineWith};
@@ -16,7 +18,7 @@ use table_values::{DayReply, LastDayReply};
 
 // What is known of the product with an id: whether the file has it, whether it is a weekly one,
 // the number of its refused opening, 0 where it has a table, and the table.
-#[derive(Drop)]
+#[derive(Clone, Copy)]
 pub struct Standing {
     pub known: bool,
     pub weekly: bool,

@@ -1,4 +1,6 @@
 // A call of a lent list on a table apart from the two maps of its calendar, which are lent.
+#![tactic(auto)]
+
 ghost use Rattle.std.specs.Prelude.{◌≡◌};
 ghost use Rattle.table.specs.Table.{sound};
 ghost use Rattle.history.specs.Book.{roll, close};
@@ -12,7 +14,7 @@ use session_apart::Rest;
 use session_lines::Command;
 
 // What a call on a table apart gives back: the number of its refusal, and the rest of the table after it.
-#[derive(Drop)]
+#[derive(Clone, Copy)]
 pub struct MadeApart {
     pub refusal: u8,
     pub rest: Rest,

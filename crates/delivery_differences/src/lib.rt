@@ -1,4 +1,6 @@
 // The differences between the rows that were delivered for one product and the maturities that its table lists.
+#![tactic(auto)]
+
 ghost use Rattle.std.specs.Prelude.{◌≡◌, ◌+◌, ◌≤◌, min, get_or, take, drop};
 ghost use Rattle.table_vendor.specs.Vendor.{times};
 ghost use Rattle.delivery_differences.specs.Differences.{row_entries, first_row, not_listed, right_of, why_from, is_same, differs_in, difference_of, next_difference, row_at, rows_at};
@@ -7,7 +9,7 @@ ghost use Rattle.delivery_differences.specs.DifferencePasses.{row_keys_at, matur
 use listing::Maturity;
 
 // Why a key differs.
-#[derive(Drop)]
+#[derive(Clone, Copy)]
 pub enum Why {
     Same,
     Missing,
@@ -20,7 +22,7 @@ pub enum Why {
 
 // A row as it was delivered: the key of a month or a Friday and the last trading day;
 // of a full one, which has five fields, also the listing number and the days back.
-#[derive(Drop)]
+#[derive(Clone, Copy)]
 pub struct DeliveredRow {
     pub key: u16,
     pub day: u16,
@@ -30,21 +32,21 @@ pub struct DeliveredRow {
 }
 
 // Whether a key is listed, and its maturity; zeros where it is not.
-#[derive(Drop)]
+#[derive(Clone, Copy)]
 pub struct Right {
     pub listed: bool,
     pub maturity: Maturity,
 }
 
 // How often a key was delivered, up to 2, and its first row.
-#[derive(Drop)]
+#[derive(Clone, Copy)]
 pub struct KeyStanding {
     pub count: u8,
     pub row: DeliveredRow,
 }
 
 // Why a key differs, its first row, and the maturity that is right.
-#[derive(Drop)]
+#[derive(Clone, Copy)]
 pub struct Difference {
     pub why: Why,
     pub delivered: DeliveredRow,

@@ -1,4 +1,6 @@
 // What `deliver` hands out where rows are printed: to standard output the rows, and on standard error the refused calls.
+#![tactic(auto)]
+
 mod output;
 
 ghost use Rattle.std.specs.Prelude.{◌≡◌, ◌+◌, ◌<◌, ◌≤◌, true, [], length, if◌then◌else◌};
@@ -16,6 +18,7 @@ pub use output::{DeliveryHanded, has_told, is_open, nothing_handed, tell};
 
 // Tells the refused calls of a place, which have to be the next of what is told. A text of 65,536 bytes has at most 6,553 notices; of more nothing is told.
 fn tell_place(
+    rt: HostRuntime,
     handed: DeliveryHanded,
     file: &[u8],
     text: &[u8],
@@ -38,7 +41,7 @@ fn tell_place(
     let mut i: u32 = 0;
     while i < count + 1 {
         let line = delivery_refusals::refusal_line(id, opened, part.refusal, calls, refusals, i);
-        h = output::tell(h, file, text, line);
+        h = output::tell(rt, h, file, text, line);
         i += 1;
     }
     h
@@ -46,6 +49,7 @@ fn tell_place(
 
 // Tells the measures of ids that the file has not, which have to be the next of what is told.
 fn tell_unknown(
+    rt: HostRuntime,
     handed: DeliveryHanded,
     file: &[u8],
     text: &[u8],
@@ -59,7 +63,7 @@ fn tell_unknown(
     let mut i: u32 = 0;
     while i < count {
         let line = delivery_refusals::unknown_measure_line(file, calls, ids, i);
-        h = output::tell(h, file, text, line);
+        h = output::tell(rt, h, file, text, line);
         i += 1;
     }
     h
@@ -67,6 +71,7 @@ fn tell_unknown(
 
 // Writes the rows of a place and tells its refused calls. After a write that fails nothing is told.
 fn print_place(
+    rt: HostRuntime,
     handed: DeliveryHanded,
     file: &[u8],
     judged: FileCalendar,
@@ -83,17 +88,18 @@ fn print_place(
     let part = delivery_parts::deliver_place(
         file, judged, p, t.date, calls, ids, t.count, refusals, out,
     );
-    let written = output::write_out(handed, file, text, out, part.length);
+    let written = output::write_out(rt, handed, file, text, out, part.length);
     if !output::is_open(written) {
         return written;
     }
     tell_place(
-        written, file, text, part, t.opened, calls, refusals, t.count,
+        rt, written, file, text, part, t.opened, calls, refusals, t.count,
     )
 }
 
 // The rows and the refused calls of every place, in the file's order. A write that fails ends the run.
 fn print_places(
+    rt: HostRuntime,
     handed: DeliveryHanded,
     file: &[u8],
     judged: FileCalendar,
@@ -111,6 +117,7 @@ fn print_places(
     let mut p: usize = 0;
     while p < places {
         h = print_place(
+            rt,
             h,
             file,
             judged,
@@ -133,6 +140,7 @@ fn print_places(
 // What an accepted file and notices without a bad line give: the heading and the rows, the refused calls, the measures of unknown ids.
 // Where standard output took all, as many bytes as the definition's two texts have, each as the next of its text.
 pub fn print_all(
+    rt: HostRuntime,
     file: &[u8],
     judged: FileCalendar,
     text: &[u8],
@@ -143,6 +151,7 @@ pub fn print_all(
     ensures { Runs file.now text.now (calendar_answer judged) t calls.now ids.now → result.sent.open ≡ true → (result.sent.bytes ≡ length (deliver_text file.now text.now)) × (result.told ≡ length (deliver_refusals file.now text.now)) }
 {
     let headed = output::write_line(
+        rt,
         output::nothing_handed(),
         file,
         text,
@@ -151,9 +160,9 @@ pub fn print_all(
     if !output::is_open(headed) {
         return headed;
     }
-    let printed = print_places(headed, file, judged, text, t, calls, ids);
+    let printed = print_places(rt, headed, file, judged, text, t, calls, ids);
     if !output::is_open(printed) {
         return printed;
     }
-    tell_unknown(printed, file, text, calls, ids, t.count)
+    tell_unknown(rt, printed, file, text, calls, ids, t.count)
 }

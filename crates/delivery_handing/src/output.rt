@@ -8,7 +8,7 @@ use streams::Sent;
 
 // What standard output has taken of a delivery, and how many bytes were told of it, modulo 2^64.
 // Its fields are private: only this file makes one. Its counts are promised only where what write_out and tell were given comes next of the two texts.
-#[derive(Drop)]
+#[derive(Clone, Copy)]
 pub struct DeliveryHanded {
     sent: Sent,
     told: u64,
@@ -39,6 +39,7 @@ pub fn has_told(handed: DeliveryHanded) -> bool
 // Writes the first n bytes of a buffer: where they are the next of the rows of a file and notices after those that were written, their number is counted.
 // Where standard output does not take them, one line on standard error says why. Of more bytes than the buffer has none is written.
 pub(crate) fn write_out(
+    rt: HostRuntime,
     handed: DeliveryHanded,
     file: &[u8],
     text: &[u8],
@@ -50,7 +51,7 @@ pub(crate) fn write_out(
     if out.len() < n {
         return handed;
     }
-    let sent = streams::write_next(handed.sent, b"deliver: standard output", &out[..n]);
+    let sent = streams::write_next(rt, handed.sent, b"deliver: standard output", &out[..n]);
     DeliveryHanded {
         sent,
         told: handed.told,
@@ -59,6 +60,7 @@ pub(crate) fn write_out(
 
 // Writes a line, which has to be the next of the rows.
 pub(crate) fn write_line(
+    rt: HostRuntime,
     handed: DeliveryHanded,
     file: &[u8],
     text: &[u8],
@@ -67,12 +69,18 @@ pub(crate) fn write_line(
     ensures { (line.length ≤ 64 → handed.sent.bytes ≤ 1000000 → NextOf (deliver_text file.now text.now) handed.sent.bytes (take line.length line.bytes) → result.sent.open ≡ true → result.sent.bytes ≡ handed.sent.bytes + line.length) × (result.told ≡ handed.told) }
 {
     let bytes = line.bytes;
-    write_out(handed, file, text, &bytes, line.length)
+    write_out(rt, handed, file, text, &bytes, line.length)
 }
 
 // Writes a line to standard error: where it is the next of what is told of a file and notices, its bytes are counted.
 // Nothing is written where it has no bytes, or more than 64.
-pub fn tell(handed: DeliveryHanded, file: &[u8], text: &[u8], line: Line) -> DeliveryHanded
+pub fn tell(
+    rt: HostRuntime,
+    handed: DeliveryHanded,
+    file: &[u8],
+    text: &[u8],
+    line: Line,
+) -> DeliveryHanded
     ensures { (result.sent ≡ handed.sent) × (line.length ≤ 64 → handed.told ≤ 1000000000000 → NextOf (deliver_refusals file.now text.now) handed.told (take line.length line.bytes) → result.told ≡ handed.told + line.length) }
 {
     let n = line.length;
@@ -83,7 +91,7 @@ pub fn tell(handed: DeliveryHanded, file: &[u8], text: &[u8], line: Line) -> Del
         return handed;
     }
     let bytes = line.bytes;
-    streams::tell(&bytes[..n]);
+    streams::tell(rt, &bytes[..n]);
     let sent = handed.sent;
     let told = std::num::wrapping_add_u64(handed.told, n as u64);
     DeliveryHanded { sent, told }

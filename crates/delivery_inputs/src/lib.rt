@@ -1,4 +1,6 @@
 // A line of standard input into lent lists, and what is told of it.
+#![tactic(auto)]
+
 ghost use Rattle.std.specs.Prelude.{◌≡◌};
 ghost use Rattle.session_lines.specs.CommandLines.{empty_line};
 ghost use Rattle.file_text_print.specs.Contents.{LineWith};
@@ -10,7 +12,7 @@ use delivery_receipts::Receiving;
 use session_lines::Line;
 
 // What a line brought: what was received, how many lines were bad, at most 999,999,999, and what is told of the line.
-#[derive(Drop)]
+#[derive(Clone, Copy)]
 pub struct RowTaken {
     pub state: Receiving,
     pub bad: u32,
@@ -59,7 +61,7 @@ pub fn take_row(
     numbers: &mut [u16],
     backs: &mut [u16],
 ) -> RowTaken
-    ensures { RowIn file.now state bad line (record { ids = ids.entry.now; keys = keys.old; days = days.old; fulls = fulls.old; numbers = numbers.old; backs = backs.old }) (record { ids = ids.exit.now; keys = keys.new; days = days.new; fulls = fulls.new; numbers = numbers.new; backs = backs.new }) result }
+    ensures { RowIn file.now state bad line (record { ids = ids.old; keys = keys.old; days = days.old; fulls = fulls.old; numbers = numbers.old; backs = backs.old }) (record { ids = ids.new; keys = keys.new; days = days.new; fulls = fulls.new; numbers = numbers.new; backs = backs.new }) result }
 {
     let after = delivery_receipts::receive_line(
         file, state, line, ids, keys, days, fulls, numbers, backs,

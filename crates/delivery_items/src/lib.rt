@@ -1,4 +1,6 @@
 // A line of the rows that `reconcile` reads.
+#![tactic(auto)]
+
 ghost use Rattle.std.specs.Prelude.{◌≡◌, ◌≤◌, eqb, length, take, drop};
 ghost use Rattle.delivery_items.specs.Items.{separator, fields_of, unquoted, raw_field, field_at, no_item, maturity_read, key_read, short_item, full_item, fields_item, item_of, is_product_word, headed, line_read, empty_long, lengthened, held_read};
 ghost use Rattle.delivery_items.specs.LineFields.{SeparatorFrom};
@@ -9,7 +11,7 @@ use session_lines::Command;
 
 // A row: the id, the key of a month or of a weekly option's Friday, and the last trading day;
 // of a full one, which has five fields, also the listing number and the days back. Another line is none, with zeros.
-#[derive(Drop)]
+#[derive(Clone, Copy)]
 pub struct ItemRead {
     pub there: bool,
     pub id: [u8; 4],
@@ -22,7 +24,7 @@ pub struct ItemRead {
 }
 
 // What a line says: whether it is empty, whether its first field is `product`, and its row.
-#[derive(Drop)]
+#[derive(Clone, Copy)]
 pub struct LineRead {
     pub empty: bool,
     pub heading: bool,
@@ -30,7 +32,7 @@ pub struct LineRead {
 }
 
 // A line: its first 255 bytes and their number, and whether a byte after them is no blank.
-#[derive(Drop)]
+#[derive(Clone, Copy)]
 pub struct LongLine {
     pub bytes: [u8; 255],
     pub length: usize,
@@ -38,7 +40,7 @@ pub struct LongLine {
 }
 
 // A line, the place in a part of the input after it, and whether a line feed ended it.
-#[derive(Drop)]
+#[derive(Clone, Copy)]
 pub struct LineEnd {
     pub line: LongLine,
     pub next: usize,

@@ -1,4 +1,6 @@
 // The lines of differences to standard output: of the products in the file's order, and of the ids that are not in the file.
+#![tactic(auto)]
+
 ghost use Rattle.std.specs.Prelude.{◌≡◌, true, ◌++◌, ◌≤◌, length, take};
 ghost use Rattle.file_calendar.specs.Calendars.{calendar_answer};
 ghost use Rattle.table.specs.Table.{open_in};
@@ -16,7 +18,7 @@ use file_calendar::FileCalendar;
 use streams::Sent;
 
 // What was written, and how many lines were.
-#[derive(Drop)]
+#[derive(Clone, Copy)]
 pub struct LinesPrinted {
     pub sent: Sent,
     pub lines: u64,
@@ -24,6 +26,7 @@ pub struct LinesPrinted {
 
 // Writes the lines of a product that stand at the start of a buffer, which have to be those of the keys from one on up to the next.
 fn write_keys(
+    rt: HostRuntime,
     sent: Sent,
     l: PlaceListed,
     places: &[u16],
@@ -40,11 +43,12 @@ fn write_keys(
     ensures { Wrote sent p.length result }
 {
     let n = p.length;
-    streams::write_next(sent, b"reconcile: standard output", &out[..n])
+    streams::write_next(rt, sent, b"reconcile: standard output", &out[..n])
 }
 
 // The lines of a product by its rows at some places of five lists.
 fn print_keys(
+    rt: HostRuntime,
     sent: Sent,
     l: PlaceListed,
     places: &[u16],
@@ -69,7 +73,7 @@ fn print_keys(
             &mut out,
         );
         so_far = write_keys(
-            so_far, l, places, keys, days, fulls, numbers, backs, from, p, &out,
+            rt, so_far, l, places, keys, days, fulls, numbers, backs, from, p, &out,
         );
         lines += p.lines as u64;
         from = p.next;
@@ -106,6 +110,7 @@ fn listed_of(
 
 // The lines of the product at a place.
 fn print_place(
+    rt: HostRuntime,
     sent: Sent,
     file: &[u8],
     judged: FileCalendar,
@@ -122,7 +127,7 @@ fn print_place(
     backs: &[u16],
     places: &mut [u16],
 ) -> LinesPrinted
-    ensures { PlaceOut (open_in (calendar_answer judged) file.now) file.now t.date t.count calls.now of.now (record { ids = ids.entry.now; keys = keys.now; days = days.now; fulls = fulls.now; numbers = numbers.now; backs = backs.now }) rows (length places.old) place sent result }
+    ensures { PlaceOut (open_in (calendar_answer judged) file.now) file.now t.date t.count calls.now of.now (record { ids = ids.now; keys = keys.now; days = days.now; fulls = fulls.now; numbers = numbers.now; backs = backs.now }) rows (length places.old) place sent result }
 {
     let l = listed_of(file, judged, place, t, calls, of);
     if !l.holds {
@@ -130,11 +135,22 @@ fn print_place(
     }
     let id = l.id;
     let size = delivery_receipts::places_of(id, ids, rows, places);
-    print_keys(sent, l, &places[..size], keys, days, fulls, numbers, backs)
+    print_keys(
+        rt,
+        sent,
+        l,
+        &places[..size],
+        keys,
+        days,
+        fulls,
+        numbers,
+        backs,
+    )
 }
 
 // The lines of all products, in the file's order. Of a file of more than 65,537 bytes, one more than a file may have, nothing is written.
 pub fn print_places(
+    rt: HostRuntime,
     sent: Sent,
     file: &[u8],
     judged: FileCalendar,
@@ -150,7 +166,7 @@ pub fn print_places(
     backs: &[u16],
     places: &mut [u16],
 ) -> LinesPrinted
-    ensures places_out { length file.now ≤ 65537 → PlacesOut (open_in (calendar_answer judged) file.now) file.now t.date t.count calls.now of.now (record { ids = ids.entry.now; keys = keys.now; days = days.now; fulls = fulls.now; numbers = numbers.now; backs = backs.now }) rows (length places.old) (place_count file.now) sent result }
+    ensures places_out { length file.now ≤ 65537 → PlacesOut (open_in (calendar_answer judged) file.now) file.now t.date t.count calls.now of.now (record { ids = ids.now; keys = keys.now; days = days.now; fulls = fulls.now; numbers = numbers.now; backs = backs.now }) rows (length places.old) (place_count file.now) sent result }
     ensures lines_bound { result.lines ≤ 125829120 }
 {
     let mut so_far = sent;
@@ -165,8 +181,8 @@ pub fn print_places(
     let mut p: usize = 0;
     while p < count {
         let part = print_place(
-            so_far, file, judged, p, t, calls, of, rows, ids, keys, days, fulls, numbers, backs,
-            places,
+            rt, so_far, file, judged, p, t, calls, of, rows, ids, keys, days, fulls, numbers,
+            backs, places,
         );
         so_far = part.sent;
         lines += part.lines;
@@ -180,6 +196,7 @@ pub fn print_places(
 
 // Writes the lines of ids that stand at the start of a buffer, which have to be those of the rows from one on up to the next.
 fn write_strangers(
+    rt: HostRuntime,
     sent: Sent,
     file: &[u8],
     ids: &[u8],
@@ -191,11 +208,17 @@ fn write_strangers(
     ensures { Wrote sent p.length result }
 {
     let n = p.length;
-    streams::write_next(sent, b"reconcile: standard output", &out[..n])
+    streams::write_next(rt, sent, b"reconcile: standard output", &out[..n])
 }
 
 // The lines of the ids that are not in the file.
-pub fn print_strangers(sent: Sent, file: &[u8], rows: u32, ids: &[u8]) -> LinesPrinted
+pub fn print_strangers(
+    rt: HostRuntime,
+    sent: Sent,
+    file: &[u8],
+    rows: u32,
+    ids: &[u8],
+) -> LinesPrinted
     ensures { StrangersOut file.now ids.now rows sent result }
 {
     let mut out = io::buffer();
@@ -204,7 +227,7 @@ pub fn print_strangers(sent: Sent, file: &[u8], rows: u32, ids: &[u8]) -> LinesP
     let mut from: u32 = 0;
     while from < rows {
         let p = delivery_reconciled::print_strangers(file, ids, rows, from, &mut out);
-        so_far = write_strangers(so_far, file, ids, from, p, &out);
+        so_far = write_strangers(rt, so_far, file, ids, from, p, &out);
         lines += p.lines as u64;
         from = p.next;
     }

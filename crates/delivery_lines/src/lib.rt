@@ -1,4 +1,6 @@
 // A line of `notices.txt`, and the words of which lines of a delivery are made.
+#![tactic(auto)]
+
 ghost use Rattle.std.specs.Prelude.{◌≡◌, ◌+◌, ◌*◌, ◌≤◌, get_or, length, take};
 ghost use Rattle.file_text_lines.specs.Entries.{word_at, id_bytes};
 ghost use Rattle.delivery_lines.specs.NoticeLines.{blank, trimmed, mark_length, held, number_held, whole_word, price_held, is_id, date_letter, day_line_held, day_said, measure_said, words_said, trimmed_said, said_by, line_held};
@@ -9,7 +11,7 @@ use session_lines::Command;
 
 // A line: the letter O, R, C, E or M, the day of the first four, the id, p, q and the price of an M.
 // A line that says nothing has the letter #, a bad one 0. Numbers of 1,000,000,000 and more are held as that.
-#[derive(Drop)]
+#[derive(Clone, Copy)]
 pub struct NoticeLine {
     pub letter: u8,
     pub day: u16,

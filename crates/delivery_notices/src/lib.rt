@@ -1,4 +1,6 @@
 // A text of notices to its date and to two lent lists: the calls, five numbers each, and the ids, four bytes each.
+#![tactic(auto)]
+
 ghost use Rattle.std.specs.Prelude.{◌≡◌, true, ◌+◌, ◌*◌, ◌≤◌, ◌<◌, length, set, take};
 ghost use Rattle.delivery_lines.specs.NoticeLines.{Said, bad, said_by, line_held};
 ghost use Rattle.delivery_notices.specs.Notices.{nothing_told, lines_told};
@@ -9,7 +11,7 @@ use delivery_lines::NoticeLine;
 
 // What the lines so far say: whether the lists have room, the number of the line of the O, 0 before it, and its date,
 // how many notices stand in the lists, how many lines there were up to the first bad one, and the number of that one, 0 where there is none.
-#[derive(Drop)]
+#[derive(Clone, Copy)]
 pub struct NoticesTaken {
     pub fits: bool,
     pub opened: u32,

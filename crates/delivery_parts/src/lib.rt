@@ -1,4 +1,6 @@
 // A delivery place by place.
+#![tactic(auto)]
+
 ghost use Rattle.std.specs.Prelude.{◌≡◌};
 ghost use Rattle.file_calendar.specs.Calendars.{calendar_answer};
 ghost use Rattle.table.specs.Table.{open_in};
@@ -8,7 +10,7 @@ use file_calendar::FileCalendar;
 
 // What a place gives: whether the buffers have room, whether it holds a record, its product's id, open's refusal,
 // and how many bytes of rows stand in the buffer.
-#[derive(Drop)]
+#[derive(Clone, Copy)]
 pub struct PlacePart {
     pub fits: bool,
     pub holds: bool,

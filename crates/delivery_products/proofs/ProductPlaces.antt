@@ -96,7 +96,7 @@ module _ (f : List ℕ) (p : ℕ) (a : first_no (load_asks f) ≡ 0) (h : is_rec
         holds = h;
         there = rw place_is (lt-ltb p (place_count f) (record-inside f p h));
         is = place-holds f p a h ∙ rw place_is;
-        same-id = rw place_is (ids-agree f p);
+        same_id = rw place_is (ids-agree f p);
       }
 
 -- the product that an id finds is the one at its place

@@ -1,4 +1,6 @@
 // The products of a master file, place by place.
+#![tactic(auto)]
+
 ghost use Rattle.std.specs.Prelude.{◌≡◌};
 ghost use Rattle.delivery_products.specs.IdList.{id_in};
 ghost use Rattle.delivery_products.specs.ProductsByPlace.{no_product, place_call, place_answer};
@@ -6,7 +8,7 @@ ghost use Rattle.delivery_products.specs.ProductsByPlace.{no_product, place_call
 use product::Product;
 
 // The refusal, 0 where the place holds a record, and the record's product, zeros with a refusal.
-#[derive(Drop)]
+#[derive(Clone, Copy)]
 pub struct PlaceProduct {
     pub refusal: u8,
     pub product: Product,

@@ -1,4 +1,6 @@
 // What `query` answers to one line, in a lent buffer.
+#![tactic(auto)]
+
 ghost use Rattle.std.specs.Prelude.{◌≡◌, true, ◌&&◌, ◌+◌, ◌≤◌, length, take};
 ghost use Rattle.product.specs.Fields.{is_weekly};
 ghost use Rattle.file_load.specs.Load.{found, product_of};
@@ -17,14 +19,14 @@ use file_load::Found;
 use session_lines::Line;
 
 // Whether the file has a product with an id, and whether that is a weekly one.
-#[derive(Drop)]
+#[derive(Clone, Copy)]
 struct KnownId {
     known: bool,
     weekly: bool,
 }
 
 // The place after an answer in a buffer, and whether the answer is `NO n` or `BAD K`.
-#[derive(Drop)]
+#[derive(Clone, Copy)]
 pub struct LineAnswer {
     pub next: usize,
     pub refused: bool,

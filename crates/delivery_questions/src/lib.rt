@@ -1,4 +1,6 @@
 // A line of what `query` reads.
+#![tactic(auto)]
+
 ghost use Rattle.std.specs.Prelude.{◌≡◌};
 ghost use Rattle.file_text_lines.specs.Entries.{word_at};
 ghost use Rattle.delivery_questions.specs.QuestionLines.{is_word, last_asked, due_asked, tick_asked, three_asked, cash_asked, size_asked, words_asked, trimmed_asked, asked_by, bare_held, one_held, day_question_held, asked_held};
@@ -8,7 +10,7 @@ use session_lines::Command;
 // A question: its first letter, l, d, t, c or s, the id, the key of `last`, and whether it is a Friday, or the day of `due`,
 // the price of `tick` or the contracts of `cash`, and its two prices.
 // A line that asks nothing has the letter #, a bad one 0. Numbers of 1,000,000,000 and more are held as that.
-#[derive(Drop)]
+#[derive(Clone, Copy)]
 pub struct QuestionLine {
     pub letter: u8,
     pub id: [u8; 4],

@@ -1,4 +1,6 @@
 // The rows that `reconcile` reads, line by line into lent lists.
+#![tactic(auto)]
+
 ghost use Rattle.std.specs.Prelude.{◌≡◌, ◌+◌, ◌*◌, ◌≤◌, ◌<◌, false, not, ◌&&◌, cond, leb, length, set};
 ghost use Rattle.questions.specs.Search.{every};
 ghost use Rattle.file_load.specs.Products.{same_id};
@@ -12,7 +14,7 @@ use file_load::Found;
 
 // How many good rows there are, whether a line was there that is not empty, how many lines there were,
 // whether there was a good row too many, and the number of the last line where it is bad, else 0.
-#[derive(Drop)]
+#[derive(Clone, Copy)]
 pub struct Receiving {
     pub rows: u32,
     pub begun: bool,
@@ -124,7 +126,7 @@ fn store_row(
     backs: &mut [u16],
 )
     requires { (4 * i + 4 ≤ length ids.old) × (i < length keys.old) × (i < length days.old) × (i < length fulls.old) × (i < length numbers.old) × (i < length backs.old) }
-    ensures { RowStored i item (record { ids = ids.entry.now; keys = keys.old; days = days.old; fulls = fulls.old; numbers = numbers.old; backs = backs.old }) (record { ids = ids.exit.now; keys = keys.new; days = days.new; fulls = fulls.new; numbers = numbers.new; backs = backs.new }) }
+    ensures { RowStored i item (record { ids = ids.old; keys = keys.old; days = days.old; fulls = fulls.old; numbers = numbers.old; backs = backs.old }) (record { ids = ids.new; keys = keys.new; days = days.new; fulls = fulls.new; numbers = numbers.new; backs = backs.new }) }
 {
     let id = item.id;
     let at = 4 * i;
@@ -151,7 +153,7 @@ pub fn receive_line(
     numbers: &mut [u16],
     backs: &mut [u16],
 ) -> Receiving
-    ensures { RowLineIn file.now s line (record { ids = ids.entry.now; keys = keys.old; days = days.old; fulls = fulls.old; numbers = numbers.old; backs = backs.old }) (record { ids = ids.exit.now; keys = keys.new; days = days.new; fulls = fulls.new; numbers = numbers.new; backs = backs.new }) result }
+    ensures { RowLineIn file.now s line (record { ids = ids.old; keys = keys.old; days = days.old; fulls = fulls.old; numbers = numbers.old; backs = backs.old }) (record { ids = ids.new; keys = keys.new; days = days.new; fulls = fulls.new; numbers = numbers.new; backs = backs.new }) result }
 {
     let room = room_of(
         ids.len(),

@@ -1,4 +1,6 @@
 // What `reconcile` prints of a place, of the ids that are not in the file, and what it tells.
+#![tactic(auto)]
+
 ghost use Rattle.std.specs.Prelude.{◌≡◌, cond, ◌+◌, ◌≤◌, eqb, length};
 ghost use Rattle.std.proofs.Math.Seq.{paste};
 ghost use Rattle.session_lines.specs.CommandLines.{empty_line};
@@ -16,7 +18,7 @@ use session_lines::Line;
 
 // What a place holds: whether the buffer has room for the refusals, whether there is a record, the id and the kind of its product,
 // and how many of 15 maturities its table lists after the notices; none without a table.
-#[derive(Drop)]
+#[derive(Clone, Copy)]
 pub struct PlaceListed {
     pub fits: bool,
     pub holds: bool,

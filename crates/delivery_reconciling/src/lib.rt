@@ -1,4 +1,6 @@
 // What `reconcile` tells before it reads rows, the openings that were refused, and what it prints after them, the lines that differ under their heading.
+#![tactic(auto)]
+
 ghost use Rattle.std.specs.Prelude.{◌≡◌, true, ◌+◌, ◌≤◌, length};
 ghost use Rattle.questions.specs.Search.{some};
 ghost use Rattle.session_lines.specs.CommandLines.{empty_line};
@@ -20,7 +22,7 @@ use session_lines::Line;
 use streams::{Sent, Told};
 
 // What was told, and whether an opening was refused.
-#[derive(Drop)]
+#[derive(Clone, Copy)]
 pub struct OpeningsTold {
     pub told: Told,
     pub refused: bool,
@@ -28,6 +30,7 @@ pub struct OpeningsTold {
 
 // Tells a line, which has to be that of the refused opening at a place, or to have no bytes.
 fn tell_opening(
+    rt: HostRuntime,
     told: Told,
     file: &[u8],
     judged: FileCalendar,
@@ -40,11 +43,17 @@ fn tell_opening(
 {
     let bytes = line.bytes;
     let n = line.length;
-    streams::tell_next(told, &bytes[..n])
+    streams::tell_next(rt, told, &bytes[..n])
 }
 
 // Tells the openings that were refused, in the file's order.
-pub fn tell_openings(told: Told, file: &[u8], judged: FileCalendar, t: NoticesTaken) -> OpeningsTold
+pub fn tell_openings(
+    rt: HostRuntime,
+    told: Told,
+    file: &[u8],
+    judged: FileCalendar,
+    t: NoticesTaken,
+) -> OpeningsTold
     ensures grew { Grew told.bytes (length (parts_text (opening_text (open_in (calendar_answer judged) file.now) file.now t.opened t.date) (place_count file.now))) result.told.bytes }
     ensures refused_value { result.refused ≡ some (place_count file.now) (opening_refused (open_in (calendar_answer judged) file.now) file.now t.date) }
 {
@@ -54,7 +63,7 @@ pub fn tell_openings(told: Told, file: &[u8], judged: FileCalendar, t: NoticesTa
     let mut p: usize = 0;
     while p < places {
         let line = delivery_reconciled::opening_line(file, judged, p, t.date, t.opened);
-        so_far = tell_opening(so_far, file, judged, t, p, line);
+        so_far = tell_opening(rt, so_far, file, judged, t, p, line);
         refused = refused | (0 < line.length);
         p += 1;
     }
@@ -65,18 +74,19 @@ pub fn tell_openings(told: Told, file: &[u8], judged: FileCalendar, t: NoticesTa
 }
 
 // Writes a line before anything else, which has to be the heading.
-fn write_heading(line: Line) -> Sent
+fn write_heading(rt: HostRuntime, line: Line) -> Sent
     requires { LineWith empty_line differences_heading line }
     ensures { result.open ≡ true → Grew 0 (length differences_heading) result.bytes }
 {
     let bytes = line.bytes;
     let n = line.length;
     let nothing = streams::nothing_sent();
-    streams::write_next(nothing, b"reconcile: standard output", &bytes[..n])
+    streams::write_next(rt, nothing, b"reconcile: standard output", &bytes[..n])
 }
 
 // The lines of all products, which come after the heading.
 fn print_products(
+    rt: HostRuntime,
     headed: Sent,
     file: &[u8],
     judged: FileCalendar,
@@ -94,15 +104,17 @@ fn print_products(
     places: &mut [u16],
 ) -> LinesPrinted
     ensures lines_bound { result.lines ≤ 125829120 }
-    ensures products_out { Runs file.now text.now (calendar_answer judged) t calls.now of.now → rows ≤ 65536 → 65536 ≤ length places.old → (headed.open ≡ true → Grew 0 (length differences_heading) headed.bytes) → ProductsOut file.now text.now (record { ids = ids.entry.now; keys = keys.now; days = days.now; fulls = fulls.now; numbers = numbers.now; backs = backs.now }) rows result }
+    ensures products_out { Runs file.now text.now (calendar_answer judged) t calls.now of.now → rows ≤ 65536 → 65536 ≤ length places.old → (headed.open ≡ true → Grew 0 (length differences_heading) headed.bytes) → ProductsOut file.now text.now (record { ids = ids.now; keys = keys.now; days = days.now; fulls = fulls.now; numbers = numbers.now; backs = backs.now }) rows result }
 {
     delivery_judging::print_places(
-        headed, file, judged, t, calls, of, rows, ids, keys, days, fulls, numbers, backs, places,
+        rt, headed, file, judged, t, calls, of, rows, ids, keys, days, fulls, numbers, backs,
+        places,
     )
 }
 
 // The lines of the ids that are not in the file, which come after those of the products.
 fn print_others(
+    rt: HostRuntime,
     own: LinesPrinted,
     file: &[u8],
     text: &[u8],
@@ -116,9 +128,9 @@ fn print_others(
 ) -> LinesPrinted
     requires { own.lines ≤ 125829120 }
     ensures lines_bound { result.lines ≤ 125829120 + rows }
-    ensures differences_out { ProductsOut file.now text.now (record { ids = ids.entry.now; keys = keys.now; days = days.now; fulls = fulls.now; numbers = numbers.now; backs = backs.now }) rows own → DifferencesOut file.now text.now (record { ids = ids.entry.now; keys = keys.now; days = days.now; fulls = fulls.now; numbers = numbers.now; backs = backs.now }) rows result }
+    ensures differences_out { ProductsOut file.now text.now (record { ids = ids.now; keys = keys.now; days = days.now; fulls = fulls.now; numbers = numbers.now; backs = backs.now }) rows own → DifferencesOut file.now text.now (record { ids = ids.now; keys = keys.now; days = days.now; fulls = fulls.now; numbers = numbers.now; backs = backs.now }) rows result }
 {
-    let others = delivery_judging::print_strangers(own.sent, file, rows, ids);
+    let others = delivery_judging::print_strangers(rt, own.sent, file, rows, ids);
     let sent = others.sent;
     let lines = own.lines + others.lines;
     LinesPrinted { sent, lines }
@@ -126,6 +138,7 @@ fn print_others(
 
 // The lines of differences under their heading, by a file that is accepted and notices with no bad line; there is room for the places of 65,536 rows.
 pub fn print_all(
+    rt: HostRuntime,
     file: &[u8],
     judged: FileCalendar,
     text: &[u8],
@@ -142,14 +155,14 @@ pub fn print_all(
     places: &mut [u16],
 ) -> LinesPrinted
     ensures lines_bound { result.lines ≤ 125829120 + rows }
-    ensures differences_out { Runs file.now text.now (calendar_answer judged) t calls.now of.now → rows ≤ 65536 → 65536 ≤ length places.old → DifferencesOut file.now text.now (record { ids = ids.entry.now; keys = keys.now; days = days.now; fulls = fulls.now; numbers = numbers.now; backs = backs.now }) rows result }
+    ensures differences_out { Runs file.now text.now (calendar_answer judged) t calls.now of.now → rows ≤ 65536 → 65536 ≤ length places.old → DifferencesOut file.now text.now (record { ids = ids.now; keys = keys.now; days = days.now; fulls = fulls.now; numbers = numbers.now; backs = backs.now }) rows result }
 {
-    let headed = write_heading(delivery_reports::heading_line());
+    let headed = write_heading(rt, delivery_reports::heading_line());
     let own = print_products(
-        headed, file, judged, text, t, calls, of, rows, ids, keys, days, fulls, numbers, backs,
+        rt, headed, file, judged, text, t, calls, of, rows, ids, keys, days, fulls, numbers, backs,
         places,
     );
     print_others(
-        own, file, text, rows, ids, keys, days, fulls, numbers, backs,
+        rt, own, file, text, rows, ids, keys, days, fulls, numbers, backs,
     )
 }

@@ -1,4 +1,6 @@
 // The lines that tell what was refused.
+#![tactic(auto)]
+
 ghost use Rattle.std.specs.Prelude.{◌≡◌};
 ghost use Rattle.file_load.specs.Load.{found};
 ghost use Rattle.session_lines.specs.CommandLines.{empty_line};

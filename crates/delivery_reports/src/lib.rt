@@ -1,4 +1,6 @@
 // The lines that `reconcile` prints of a product, in a lent buffer.
+#![tactic(auto)]
+
 ghost use Rattle.std.specs.Prelude.{◌≡◌, ◌+◌, ◌≤◌, length, take};
 ghost use Rattle.std.proofs.Math.Seq.{paste};
 ghost use Rattle.session_lines.specs.CommandLines.{empty_line};
@@ -12,7 +14,7 @@ use product::Kind;
 use session_lines::Line;
 
 // The next key that differs, 65,536 where there is none, how many bytes of the text stand in the buffer, and how many lines they are.
-#[derive(Drop)]
+#[derive(Clone, Copy)]
 pub struct ReportProgress {
     pub next: u32,
     pub length: usize,

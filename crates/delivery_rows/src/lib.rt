@@ -1,4 +1,6 @@
 // The rows of a delivery, in a lent buffer.
+#![tactic(auto)]
+
 ghost use Rattle.std.specs.Prelude.{◌≡◌, ◌+◌, ◌≤◌, length};
 ghost use Rattle.std.proofs.Math.Seq.{paste};
 ghost use Rattle.session_lines.specs.CommandLines.{empty_line};

@@ -1,4 +1,6 @@
 // The answers of `query` to all lines that end in a part of its input, and to a last line that no line feed ends.
+#![tactic(auto)]
+
 ghost use Rattle.std.specs.Prelude.{◌≡◌, true, ◌<◌, length};
 ghost use Rattle.session_text.specs.Buffer.{roomy};
 ghost use Rattle.session_parts.specs.TermsParts.{another};
@@ -12,7 +14,7 @@ use file_calendar::FileCalendar;
 
 // The number of the line that is begun, its bytes so far, the place in the part of the input, how many bytes of answers stand in the buffer,
 // and whether an answer so far is `NO n` or `BAD K`.
-#[derive(Drop)]
+#[derive(Clone, Copy)]
 pub struct QueryProgress {
     pub number: u64,
     pub line: LongLine,

@@ -1,4 +1,6 @@
 // The table of a product after the notices of two lent lists.
+#![tactic(auto)]
+
 ghost use Rattle.std.specs.Prelude.{◌≡◌, not, ◌||◌, ◌+◌, ◌*◌, ◌≤◌, ◌<◌, eqb, length, get_or};
 ghost use Rattle.file_calendar.specs.Calendars.{calendar_answer};
 ghost use Rattle.table.specs.Table.{open_in, sound};
@@ -16,7 +18,7 @@ use session_apart::Rest;
 use table::Table;
 
 // What a product's notices end with: whether the buffer has room for the refusals, open's refusal, and the table.
-#[derive(Drop)]
+#[derive(Clone, Copy)]
 pub struct Delivered {
     pub fits: bool,
     pub refusal: u8,

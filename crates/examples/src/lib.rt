@@ -1,1 +1,2 @@
 // Definitions and proofs only: the worked examples marked P.
+#![tactic(auto)]

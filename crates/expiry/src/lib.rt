@@ -1,4 +1,6 @@
 // Third Fridays, weekly Fridays, anchors and last trading days. A maturity is named by its key: its month, or the day number of its Friday.
+#![tactic(auto)]
+
 ghost use Rattle.std.specs.Prelude.{◌≡◌, cond, ◌-◌, ◌≤◌};
 ghost use Rattle.questions.specs.Search.{latest};
 ghost use Rattle.calendar.specs.Trading.{calendar_with, cover_end, trading_day};
@@ -9,7 +11,7 @@ use calendar::{Calendar, Cover};
 use product::Kind;
 
 // A last trading day, and the number of days it stepped back from its anchor.
-#[derive(Drop)]
+#[derive(Clone, Copy)]
 pub struct LastDay {
     pub day: u16,
     pub back: u16,

@@ -1,4 +1,6 @@
 // The blocks of a master file, their checks and their headers: questions 1 to 3.
+#![tactic(auto)]
+
 ghost use Rattle.std.specs.Prelude.{◌≡◌, ◌&&◌, ◌+◌, ◌*◌, ◌%◌, ◌≤◌, ◌<◌, eqb, length, get_or};
 ghost use Rattle.file_blocks.specs.Blocks.{block_count, block_of, number_at, zeros, weighted_sum, check_right, block_kind_right, header_right, length_right, checks_right, headers_right};
 

@@ -1,4 +1,6 @@
 // The calendar blocks of a master file: question 4, and the calendar that they make.
+#![tactic(auto)]
+
 ghost use Rattle.std.specs.Prelude.{◌≡◌, ◌≤◌, ◌<◌};
 ghost use Rattle.questions.specs.Search.{every};
 ghost use Rattle.calendar.specs.Trading.{may_close, bits_clean};
@@ -9,7 +11,7 @@ use calendar::{Calendar, Cover};
 
 // A refusal, or 0 and the file's calendar.
 #[repr(C)]
-#[derive(Drop)]
+#[derive(Clone, Copy)]
 pub struct FileCalendar {
     pub refusal: u8,
     pub calendar: Calendar,

@@ -1,4 +1,6 @@
 // The file of a calendar and a list of records, judged before it is written: questions 3 to 8 and 25.
+#![tactic(auto)]
+
 ghost use Rattle.std.specs.Prelude.{◌≡◌, ◌&&◌, ◌+◌, ◌*◌, ◌/◌, ◌%◌, ◌≤◌, ◌<◌, leb, length};
 ghost use Rattle.questions.specs.Questions.{first_no};
 ghost use Rattle.file_draft.specs.Drafts.{list_record, list_id, blocks_in, write_asks, years_right, counts_right, years_of_map, within_cover, list_right, list_rises};

@@ -1,4 +1,6 @@
 // The places of a master file that hold records, and the ids there: question 8.
+#![tactic(auto)]
+
 ghost use Rattle.std.specs.Prelude.{◌≡◌, not, ◌||◌, cond, ◌≤◌, leb};
 ghost use Rattle.file_ids.specs.Ids.{place_count, is_record, record_count, id_at, byte_rises, id_rises, ids_rise};
 

@@ -1,5 +1,7 @@
 // Loading a master file with one block of memory: questions 1 to 8, block by block.
 // No function here makes a calendar or reads the table of first days: days are judged on the lent block, years by arithmetic.
+#![tactic(auto)]
+
 ghost use Rattle.std.specs.Prelude.{◌≡◌, true, not, ◌&&◌, ◌||◌, cond, ◌+◌, ◌-◌, ◌*◌, ◌≤◌, ◌<◌, eqb, length};
 ghost use Rattle.questions.specs.Questions.{first_no};
 ghost use Rattle.days.specs.Dates.{year_start};
@@ -13,7 +15,7 @@ use file_load::{Counts, Loaded};
 
 // What is carried from block to block: seven numbers and an id, 18 bytes.
 #[repr(C)]
-#[derive(Drop)]
+#[derive(Clone, Copy)]
 pub struct Intake {
     // the number of blocks announced, 2 to 128
     pub announced: u16,
@@ -35,7 +37,7 @@ pub struct Intake {
 
 // The refusal of an announcement or of a block, 0 where it is accepted, and the state.
 #[repr(C)]
-#[derive(Drop)]
+#[derive(Clone, Copy)]
 pub struct Taken {
     pub refusal: u8,
     pub state: Intake,
@@ -43,7 +45,7 @@ pub struct Taken {
 
 // The refusal of the final call, 0 for an accepted file, the counts, zeros with a refusal, and the state as it came.
 #[repr(C)]
-#[derive(Drop)]
+#[derive(Clone, Copy)]
 pub struct Finished {
     pub refusal: u8,
     pub counts: Counts,

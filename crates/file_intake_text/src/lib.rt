@@ -1,4 +1,6 @@
 // What a run of `gateway` ends with.
+#![tactic(auto)]
+
 ghost use Rattle.std.specs.Prelude.{◌≡◌, ◌≤◌};
 ghost use Rattle.session_text.specs.TermsText.{last_digit};
 ghost use Rattle.file_intake.specs.Intake.{finished_answer};
@@ -7,7 +9,7 @@ ghost use Rattle.file_intake_text.specs.GatewayTexts.{refused_end, ended_answer,
 use file_intake::Finished;
 
 // The refusal, 0 for an accepted file, and the counts, zeros with a refusal: 6 bytes.
-#[derive(Drop)]
+#[derive(Clone, Copy)]
 pub struct Ended {
     pub refusal: u8,
     pub years: u16,

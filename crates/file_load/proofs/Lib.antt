@@ -3,4 +3,3 @@ pub mod RisingIds
 pub mod LoadAnswers
 pub mod Accepting
 pub mod Halving
-pub mod ReaderWalks

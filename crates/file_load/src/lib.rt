@@ -1,4 +1,6 @@
 // The master file: questions 1 to 9, and the products that it holds.
+#![tactic(auto)]
+
 ghost use Rattle.std.specs.Prelude.{◌≡◌, true, ◌+◌, ◌*◌, ◌≤◌, ◌<◌};
 ghost use Rattle.file_blocks.specs.Blocks.{block_count};
 ghost use Rattle.file_calendar.specs.Calendars.{order_right, calendar_of, calendar_answer, calendars_clean};
@@ -12,7 +14,7 @@ use product::Product;
 
 // The counts of years and of records.
 #[repr(C)]
-#[derive(Drop)]
+#[derive(Clone, Copy)]
 pub struct Counts {
     pub years: u16,
     pub records: u16,
@@ -20,21 +22,21 @@ pub struct Counts {
 
 // The refusal, 0 for an accepted file, and the counts, zeros with a refusal.
 #[repr(C)]
-#[derive(Drop)]
+#[derive(Clone, Copy)]
 pub struct Loaded {
     pub refusal: u8,
     pub counts: Counts,
 }
 
 // A record's block and its number in the block.
-#[derive(Drop)]
+#[derive(Clone, Copy)]
 pub struct Place {
     pub block: usize,
     pub record: usize,
 }
 
 // A walk over the records of a lent file: the file with a block and a record number.
-#[derive(Drop)]
+#[derive(Clone, Copy)]
 struct Reader<'a> {
     file: &'a [u8],
     block: usize,
@@ -42,7 +44,7 @@ struct Reader<'a> {
 }
 
 // The block and the number of a record, or the refusal 9.
-#[derive(Drop)]
+#[derive(Clone, Copy)]
 pub enum Found {
     At(usize, usize),
     Nothing,

@@ -1,4 +1,6 @@
 // The records of a master file's product blocks: question 7.
+#![tactic(auto)]
+
 ghost use Rattle.std.specs.Prelude.{◌≡◌, not, ◌&&◌, ◌||◌, ◌<◌, eqb, length};
 ghost use Rattle.questions.specs.Search.{every};
 ghost use Rattle.file_blocks.specs.Blocks.{block_count, block_of, is_products, number_at};

@@ -1,4 +1,6 @@
 // Where a master file's text is at fault: the first line for questions 5, 7 and 8, kept line by line, and the first day for 6.
+#![tactic(auto)]
+
 ghost use Rattle.std.specs.Prelude.{◌≡◌, ◌+◌, ◌≤◌};
 ghost use Rattle.file_records.specs.Records.{four_bytes};
 ghost use Rattle.calendar.specs.Trading.{calendar_with, some_trades};
@@ -8,14 +10,14 @@ use calendar::{Calendar, Cover};
 use file_text_lines::Entry;
 
 // A line at fault: its number, 0 where there is none, and the id of its product, zeros where it names none.
-#[derive(Drop)]
+#[derive(Clone, Copy)]
 pub struct Fault {
     pub line: u32,
     pub id: [u8; 4],
 }
 
 // The id of the last product so far, and the first line at fault for each question.
-#[derive(Drop)]
+#[derive(Clone, Copy)]
 pub struct Faults {
     pub last: [u8; 4],
     pub five: Fault,

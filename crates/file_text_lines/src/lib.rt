@@ -1,4 +1,6 @@
 // The lines of a list, from which a master file is made: a line of any length to an entry.
+#![tactic(auto)]
+
 ghost use Rattle.std.specs.Prelude.{◌≡◌, ◌≤◌, length, get_or};
 ghost use Rattle.file_text_lines.specs.Entries.{words_of, word_at, word_number, pointed, shares_read, part_read, other_entry, letter_form, cover_at, cover_entry, seed_entry, day_entry, product_form, id_bytes, line_record, product_entry, line_entry};
 
@@ -6,21 +8,21 @@ use calendar::Cover;
 use session_lines::Line;
 
 // Whether there is a number, and which.
-#[derive(Drop)]
+#[derive(Clone, Copy)]
 pub struct NumberRead {
     pub there: bool,
     pub value: u32,
 }
 
 // Whether there is a cover, and which.
-#[derive(Drop)]
+#[derive(Clone, Copy)]
 pub struct CoverRead {
     pub there: bool,
     pub cover: Cover,
 }
 
 // An entry: the letter Y, S, C, X or P, the cover of a Y or S, the seed of an S, the day of a C or X, the record of a P. Another line has no letter, 0.
-#[derive(Drop)]
+#[derive(Clone, Copy)]
 pub struct Entry {
     pub letter: u8,
     pub cover: Cover,

@@ -1,4 +1,6 @@
 // The text of what a master file holds, line by line: the form that lists have.
+#![tactic(auto)]
+
 ghost use Rattle.std.specs.Prelude.{◌≡◌, [], ◌∷◌, ◌+◌, ◌≤◌, length};
 ghost use Rattle.std.proofs.Math.Seq.{paste};
 ghost use Rattle.calendar.specs.Trading.{cover_start};
@@ -12,7 +14,7 @@ use product::Kind;
 use session_lines::Line;
 
 // The next line of the text, and how many bytes of it stand in the buffer.
-#[derive(Drop)]
+#[derive(Clone, Copy)]
 pub struct PrintProgress {
     pub next: usize,
     pub length: usize,

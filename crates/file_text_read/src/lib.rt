@@ -1,4 +1,6 @@
 // A list taken in line by line: the calendar and the records of a master file, and the file.
+#![tactic(auto)]
+
 ghost use Rattle.std.specs.Prelude.{◌≡◌, ◌≤◌, length, take};
 ghost use Rattle.file_text_faults.specs.Faults.{no_fault};
 ghost use Rattle.file_text_read.specs.Lists.{nothing_taken, close_exchange_day, entry_fits, calendar_after_entry, with_record, records_after, next_line, line_told, EntryIn, idle_day, content_in, RecordsIn, ListLineIn, PartIn, EndIn, composed, composed_file};
@@ -11,7 +13,7 @@ use file_text_lines::Entry;
 // What the lines so far say: whether one says something, the calendar, whether the first of these was an `S`,
 // how many bytes of records stand in the buffer, the first lines at fault,
 // how many lines were taken, up to the first that is none of a list's, and the number of that one, 0 where there is none.
-#[derive(Drop)]
+#[derive(Clone, Copy)]
 pub struct ListTaken {
     pub begun: bool,
     pub calendar: Calendar,
@@ -23,7 +25,7 @@ pub struct ListTaken {
 }
 
 // What the lines so far say, and the line begun.
-#[derive(Drop)]
+#[derive(Clone, Copy)]
 pub struct ListProgress {
     pub taken: ListTaken,
     pub line: LongLine,
@@ -31,7 +33,7 @@ pub struct ListProgress {
 
 // The number of the first line that is none of a list's, the refusal, the first line at fault, the first day without trading,
 // and the file's length, each 0 where there is none.
-#[derive(Drop)]
+#[derive(Clone, Copy)]
 pub struct Composed {
     pub bad: u32,
     pub refusal: u8,

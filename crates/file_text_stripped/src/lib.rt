@@ -1,4 +1,6 @@
 // A line of a master file's text as it stands there: blanks at its end, a mark before the first, comments and empty lines.
+#![tactic(auto)]
+
 ghost use Rattle.std.specs.Prelude.{◌≡◌, ◌≤◌, length, take};
 ghost use Rattle.file_text_stripped.specs.Said.{nothing_entry, text_said, bare_text, shown_text, held_said};
 

@@ -1,4 +1,6 @@
 // Writing a master file into a lent buffer.
+#![tactic(auto)]
+
 ghost use Rattle.std.specs.Prelude.{◌≡◌, ◌++◌, ◌+◌, ◌*◌, ◌%◌, ◌≤◌, ◌<◌, length, drop, set};
 ghost use Rattle.std.proofs.Math.Seq.{paste};
 ghost use Rattle.calendar.specs.Trading.{calendar_of_maps};
@@ -11,7 +13,7 @@ use product::Product;
 
 // The refusal, 0 where a file was written, and its length, 0 with a refusal.
 #[repr(C)]
-#[derive(Drop)]
+#[derive(Clone, Copy)]
 pub struct WrittenFile {
     pub refusal: u8,
     pub length: usize,

@@ -1,6 +1,9 @@
 // The number of blocks that is said beforehand.
 ghost use Rattle.std.specs.Prelude.{◌≤◌};
 
+use std::env::FillError;
+use std::rt::Env;
+
 fn wide(digit: u8) -> u16
     ensures { result ≤ 255 }
 {
@@ -28,12 +31,23 @@ fn number_of(text: &[u8]) -> u16 {
     number
 }
 
+// Whether the program was started with an argument of this number; its own name is 0.
+fn is_there(rt: HostRuntime, i: usize) -> bool {
+    let mut text = [0u8; 1];
+    match rt.arg(i, &mut text) {
+        Err(FillError::NotPresent) => false,
+        _ => true,
+    }
+}
+
 // The number that the program's one argument says in up to 8 digits; 0 where it has none, or more than one.
-pub fn number_said() -> u16 {
-    if os::arg_count() != 2 {
+pub fn number_said(rt: HostRuntime) -> u16 {
+    if !is_there(rt, 1) | is_there(rt, 2) {
         return 0;
     }
     let mut text = [0u8; 8];
-    let n = os::arg(1, &mut text);
-    number_of(&text[..n])
+    match rt.arg(1, &mut text) {
+        Ok(n) => number_of(&text[..n]),
+        Err(_) => 0,
+    }
 }

@@ -1,4 +1,6 @@
 // A run of `gateway`: loads the master file on standard input with one block of memory. The number of blocks is said beforehand.
+#![tactic(auto)]
+
 mod input;
 mod output;
 
@@ -13,14 +15,14 @@ pub use output::LineHanded;
 use streams::Input;
 
 // What a run ended with, and how far standard input was read.
-#[derive(Drop)]
+#[derive(Clone, Copy)]
 pub struct BlocksRead {
     pub ended: Ended,
     pub input: Input,
 }
 
 // How far standard input was read, what was handed out, and the status.
-#[derive(Drop)]
+#[derive(Clone, Copy)]
 pub struct GatewayOutcome {
     pub input: Input,
     pub sent: LineHanded,
@@ -29,7 +31,7 @@ pub struct GatewayOutcome {
 
 // Hands over the blocks of standard input as they are read, up to its end or to the first that is refused.
 // A read that fails is told, and gets 1.
-fn read_blocks(number: u16, announced: Intake) -> BlocksRead
+fn read_blocks(rt: HostRuntime, number: u16, announced: Intake) -> BlocksRead
     requires { IntakeReached number announced × (announced.taken ≡ 0) }
     ensures { GatewaySays number result.input (ended_text result.ended) }
 {
@@ -37,10 +39,11 @@ fn read_blocks(number: u16, announced: Intake) -> BlocksRead
     let mut state = announced;
     let mut input = streams::nothing_read();
     while 0 < streams::reads_left(input) {
-        let got = streams::read_on(input, 512, &mut block);
+        let read = streams::read_on_or_error(rt, input, 512, &mut block);
+        let got = read.part;
         input = got.input;
         if streams::has_failed(input) {
-            output::tell_failure(true, true);
+            output::tell_failure(rt, true, true, read.error);
             let ended = file_intake_text::refused(1);
             return BlocksRead { ended, input };
         }
@@ -60,7 +63,7 @@ fn read_blocks(number: u16, announced: Intake) -> BlocksRead
 }
 
 // Announces the number of blocks; one that is refused is answered before any block is read.
-fn load(number: u16) -> BlocksRead
+fn load(rt: HostRuntime, number: u16) -> BlocksRead
     ensures { GatewaySays number result.input (ended_text result.ended) }
 {
     let first = file_intake::announce(number);
@@ -70,17 +73,17 @@ fn load(number: u16) -> BlocksRead
         return BlocksRead { ended, input };
     }
     let state = first.state;
-    read_blocks(number, state)
+    read_blocks(rt, number, state)
 }
 
 // Loads the file of so many blocks and hands out its line.
-pub fn run(number: u16) -> GatewayOutcome
+pub fn run(rt: HostRuntime, number: u16) -> GatewayOutcome
     ensures { GatewayEnded number result }
 {
-    let r = load(number);
+    let r = load(rt, number);
     let input = r.input;
     let ended = r.ended;
-    let sent = output::write_line(number, input, ended);
+    let sent = output::write_line(rt, number, input, ended);
     let failed = streams::has_failed(input) | !output::is_open(sent);
     let status = program_status::status(failed, ended.refusal != 0);
     GatewayOutcome {

@@ -1,16 +1,24 @@
 // The line that is printed, piece by piece, and what is told on standard error.
-// No buffer stands beside the block: `io::write_all`, which `os::fail` calls, has one of 4,096 bytes.
+// No buffer stands beside the block: what tells the system's words for an error, in `streams`, has several.
 ghost use Rattle.std.specs.Prelude.{◌≡◌, true, ◌+◌, length};
 ghost use Rattle.session_text.specs.TermsText.{decimal};
 ghost use Rattle.file_text_print.specs.WholeText.{NextOf};
 ghost use Rattle.file_intake_text.specs.GatewayTexts.{GatewaySays, ended_text};
 
 use file_intake_text::Ended;
-use libc::{EBADF, EIO, EISDIR, ENOSPC, STDOUT_FILENO};
-use streams::Input;
+use streams::{Input, STDOUT_FILENO};
+
+// The numbers of errors, as Linux has them.
+const EIO: i32 = 5;
+
+const EBADF: i32 = 9;
+
+const EISDIR: i32 = 21;
+
+const ENOSPC: i32 = 28;
 
 // Whether standard output has taken all that was handed to it, and how many bytes were handed to it. Its fields are private: only this file makes one.
-#[derive(Drop)]
+#[derive(Clone, Copy)]
 pub struct LineHanded {
     open: bool,
     bytes: usize,
@@ -34,43 +42,43 @@ pub(crate) fn is_open(sent: LineHanded) -> bool
 }
 
 // Tells the system's name of a reason.
-fn tell_reason(error: i32) {
+fn tell_reason(rt: HostRuntime, error: i32) {
     if error == EIO {
-        streams::tell(b"EIO\n");
+        streams::tell(rt, b"EIO\n");
     } else if error == EISDIR {
-        streams::tell(b"EISDIR\n");
+        streams::tell(rt, b"EISDIR\n");
     } else if error == ENOSPC {
-        streams::tell(b"ENOSPC\n");
+        streams::tell(rt, b"ENOSPC\n");
     } else if error == EBADF {
-        streams::tell(b"EBADF\n");
+        streams::tell(rt, b"EBADF\n");
     } else {
-        streams::tell(b"unknown\n");
+        streams::tell(rt, b"unknown\n");
     }
 }
 
 // Tells that a read or a write failed, and why; a write of no bytes has no reason.
-pub(crate) fn tell_failure(reading: bool, failed: bool) {
-    let error = os::errno();
-    streams::tell(b"gateway: standard ");
+pub(crate) fn tell_failure(rt: HostRuntime, reading: bool, failed: bool, error: i32) {
+    streams::tell(rt, b"gateway: standard ");
     if reading {
-        streams::tell(b"input: ");
+        streams::tell(rt, b"input: ");
     } else {
-        streams::tell(b"output: ");
+        streams::tell(rt, b"output: ");
     }
     if failed {
-        tell_reason(error);
+        tell_reason(rt, error);
     } else {
-        streams::tell(b"0 bytes\n");
+        streams::tell(rt, b"0 bytes\n");
     }
 }
 
 // Writes all of bytes, and answers whether standard output took them. Where it did not, one line on standard error says why.
-fn put(bytes: &[u8]) -> bool {
+fn put(rt: HostRuntime, bytes: &[u8]) -> bool {
     let mut done: usize = 0;
     while done < bytes.len() {
-        let part = streams::write_some(STDOUT_FILENO, &bytes[done..]);
+        let attempt = streams::write_or_error(rt, STDOUT_FILENO, &bytes[done..]);
+        let part = attempt.moved;
         if part.length == 0 {
-            tell_failure(false, part.failed);
+            tell_failure(rt, false, part.failed, attempt.error);
             return false;
         }
         done += part.length;
@@ -79,7 +87,7 @@ fn put(bytes: &[u8]) -> bool {
 }
 
 // Writes a piece, which has to be the next of the line after those before it. After a write that failed nothing more is written.
-fn write_piece(sent: LineHanded, e: Ended, piece: &[u8]) -> LineHanded
+fn write_piece(rt: HostRuntime, sent: LineHanded, e: Ended, piece: &[u8]) -> LineHanded
     requires { NextOf (ended_text e) sent.bytes piece.now }
     ensures { (result.bytes ≡ sent.bytes + length piece.now) × (result.open ≡ true → sent.open ≡ true) }
 {
@@ -87,34 +95,35 @@ fn write_piece(sent: LineHanded, e: Ended, piece: &[u8]) -> LineHanded
     if !sent.open {
         return LineHanded { open: false, bytes };
     }
-    let open = put(piece);
+    let open = put(rt, piece);
     LineHanded { open, bytes }
 }
 
-// Writes a number.
-fn write_number(sent: LineHanded, e: Ended, n: u16) -> LineHanded
+// Writes a number. Where it is a function of its own, its registers and buffers stand beside the block a second time.
+#[inline(always)]
+fn write_number(rt: HostRuntime, sent: LineHanded, e: Ended, n: u16) -> LineHanded
     requires { NextOf (ended_text e) sent.bytes (decimal n) }
     ensures { result.bytes ≡ sent.bytes + length (decimal n) }
 {
     let digits = file_intake_text::five_digits(n);
     let from = 5 - file_intake_text::digit_count(n);
-    write_piece(sent, e, &digits[from..])
+    write_piece(rt, sent, e, &digits[from..])
 }
 
 // Writes the line of what the run ended with, all of it, which has to be what is said after these reads.
-pub(crate) fn write_line(blocks: u16, input: Input, e: Ended) -> LineHanded
+pub(crate) fn write_line(rt: HostRuntime, blocks: u16, input: Input, e: Ended) -> LineHanded
     requires { GatewaySays blocks input (ended_text e) }
     ensures { result.bytes ≡ length (ended_text e) }
 {
     let none = nothing_sent();
     if e.refusal != 0 {
-        let word = write_piece(none, e, b"NO ");
-        let number = write_number(word, e, e.refusal as u16);
-        return write_piece(number, e, b"\n");
+        let word = write_piece(rt, none, e, b"NO ");
+        let number = write_number(rt, word, e, e.refusal as u16);
+        return write_piece(rt, number, e, b"\n");
     }
-    let word = write_piece(none, e, b"OK ");
-    let years = write_number(word, e, e.years);
-    let space = write_piece(years, e, b" ");
-    let records = write_number(space, e, e.records);
-    write_piece(records, e, b"\n")
+    let word = write_piece(rt, none, e, b"OK ");
+    let years = write_number(rt, word, e, e.years);
+    let space = write_piece(rt, years, e, b" ");
+    let records = write_number(rt, space, e, e.records);
+    write_piece(rt, records, e, b"\n")
 }

@@ -1,1 +1,2 @@
 // Definitions and laws only: what one closure of a day can reach.
+#![tactic(auto)]

@@ -1,4 +1,6 @@
 // A history replayed: a table is opened, and a lent list of calls is run on it.
+#![tactic(auto)]
+
 ghost use Rattle.std.specs.Prelude.{◌≡◌, ◌+◌, ◌*◌, ◌%◌, ◌≤◌, length, set};
 ghost use Rattle.table.specs.Table.{open_call};
 ghost use Rattle.history.specs.History.{unpriced, uncounted, table_call};
@@ -10,7 +12,7 @@ use table_measures::Measured;
 
 // What a run of calls ends with: whether the list has whole calls, each of a kind of 0 to 3, and the buffer room for their answers,
 // open's refusal, and the table.
-#[derive(Drop)]
+#[derive(Clone, Copy)]
 pub struct Replay {
     pub fits: bool,
     pub refusal: u8,

@@ -1,4 +1,6 @@
 // The front and the listed maturities of a product on a date.
+#![tactic(auto)]
+
 ghost use Rattle.std.specs.Prelude.{◌≡◌, false, ◌&&◌, leb, get_or, replicate, ◌-◌, ◌≤◌, ◌<◌};
 ghost use Rattle.product.specs.Fields.{kind_number};
 ghost use Rattle.calendar.specs.Trading.{cover_start, calendar_with};
@@ -12,7 +14,7 @@ use product::Kind;
 // A listed maturity: its key, which is its month or the day number of its Friday, its last trading day,
 // and how many days that day lies before the anchor. A listing that is not yet numbered has number 0.
 #[repr(C)]
-#[derive(Drop)]
+#[derive(Clone, Copy)]
 pub struct Maturity {
     pub key: u16,
     pub day: u16,
@@ -24,7 +26,7 @@ pub struct Maturity {
 pub type Places = [Maturity; 15];
 
 // A fresh listing: complete where all its maturities are in the cover. Unused places are zero.
-#[derive(Drop)]
+#[derive(Clone, Copy)]
 pub struct Listing {
     pub complete: bool,
     pub maturities: [Maturity; 15],

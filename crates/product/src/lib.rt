@@ -1,4 +1,6 @@
 // Products: their kinds and fields, the Italian groups and the days to settlement.
+#![tactic(auto)]
+
 ghost use Rattle.std.specs.Prelude.{◌≡◌, [], ◌∷◌, ◌+◌, ◌*◌, ◌<◌};
 ghost use Rattle.product.specs.Fields.{kind_number, kind_call, kind_answer, is_future, is_weekly, letter, digit, id_character, id_byte, id_of_length, id_right, first_digit, group_right, market_right, kind_right, size_right, file_size_right, tick_right, is_code, currency_right, fields_right, product_right, zero_product};
 ghost use Rattle.product.specs.Settlement.{italian, group_number, option_days, settlement_days};
@@ -13,14 +15,14 @@ const GB: u16 = 0x4742;
 const IE: u16 = 0x4945;
 
 // The text by which a future is listed.
-#[derive(Drop)]
+#[derive(Clone, Copy)]
 pub enum ListingText {
     Of2008,
     Of2005,
 }
 
 // An option's longest time to maturity.
-#[derive(Drop)]
+#[derive(Clone, Copy)]
 pub enum Term {
     Months12,
     Months24,
@@ -29,21 +31,21 @@ pub enum Term {
 }
 
 // A product's kind.
-#[derive(Drop)]
+#[derive(Clone, Copy)]
 pub enum Kind {
     Future(ListingText),
     Option(Term),
 }
 
 // The kind with a number, or the refusal 7.
-#[derive(Drop)]
+#[derive(Clone, Copy)]
 pub enum KindAnswer {
     Is(Kind),
     NotAKind,
 }
 
 // A product's fields, as in its record; the size in ten-thousandths of a share.
-#[derive(Drop)]
+#[derive(Clone, Copy)]
 pub struct Product {
     pub id: [u8; 4],
     pub group: [u8; 4],

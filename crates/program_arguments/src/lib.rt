@@ -1,11 +1,15 @@
 // What a program is asked for by its arguments, and what it answers where that is no run.
 // Nothing can say which arguments there are, so what is asked for is tested (tests/gate/installed.py); promised is the status.
+#![tactic(auto)]
+
 ghost use Rattle.std.specs.Prelude.{◌≡◌, cond};
 
+use std::env::FillError;
+use std::rt::Env;
 use streams::Sent;
 
 // Nothing, or one of the two words that every program knows, or something else.
-#[derive(Drop)]
+#[derive(Clone, Copy)]
 pub enum Request {
     Nothing,
     Help,
@@ -27,17 +31,25 @@ fn is_version(word: [u8; 10]) -> bool {
     dashes & first & (word[5] == b's') & (word[6] == b'i') & (word[7] == b'o') & (word[8] == b'n')
 }
 
+// Whether the program was started with an argument of this number; its own name is 0.
+fn is_there(rt: HostRuntime, i: usize) -> bool {
+    let mut word = [0u8; 1];
+    match rt.arg(i, &mut word) {
+        Err(FillError::NotPresent) => false,
+        _ => true,
+    }
+}
+
 // What a program is asked for. Of a word that is longer than any known one the length is 0.
-pub fn asked_for() -> Request {
-    let count = os::arg_count();
-    if count < 2 {
+pub fn asked_for(rt: HostRuntime) -> Request {
+    if !is_there(rt, 1) {
         return Request::Nothing;
     }
-    if 2 < count {
+    if is_there(rt, 2) {
         return Request::Other;
     }
     let mut word = [0u8; 10];
-    let n = os::arg(1, &mut word);
+    let n = rt.arg(1, &mut word).unwrap_or(0);
     if (n == 6) & is_help(word) {
         return Request::Help;
     }
@@ -58,10 +70,10 @@ pub fn shown(sent: Sent) -> u8
 }
 
 // Tells that the arguments of a program are none of those that it knows; nothing is read. The status is 2.
-pub fn refused(program: &[u8]) -> u8
+pub fn refused(rt: HostRuntime, program: &[u8]) -> u8
     ensures { result ≡ 2 }
 {
-    streams::tell(program);
-    streams::tell(b": unknown argument; --help says what there is\n");
+    streams::tell(rt, program);
+    streams::tell(rt, b": unknown argument; --help says what there is\n");
     2
 }

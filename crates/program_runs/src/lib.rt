@@ -1,4 +1,6 @@
 // The end of a run that answers one input: what was read, what was written, and the status.
+#![tactic(auto)]
+
 ghost use Rattle.std.specs.Prelude.{◌≡◌, false};
 ghost use Rattle.program_status.specs.Statuses.{status_of};
 ghost use Rattle.program_runs.specs.AnsweredRuns.{failed_in};
@@ -6,7 +8,7 @@ ghost use Rattle.program_runs.specs.AnsweredRuns.{failed_in};
 use streams::{Input, Sent};
 
 // How far standard input was read, what standard output has taken, and the status.
-#[derive(Drop)]
+#[derive(Clone, Copy)]
 pub struct AnswerOutcome {
     pub input: Input,
     pub sent: Sent,
@@ -14,13 +16,14 @@ pub struct AnswerOutcome {
 }
 
 // What was written of an input, and whether something is refused there.
-#[derive(Drop)]
+#[derive(Clone, Copy)]
 pub struct Said {
     pub sent: Sent,
     pub refused: bool,
 }
 
 // Whether a read of standard input failed, or standard output did not take all.
+#[tactic(auto, unfolding(crate::specs::AnsweredRuns::failed_in))]
 fn has_failed(input: Input, sent: Sent) -> bool
     ensures { result ≡ failed_in input sent }
 {

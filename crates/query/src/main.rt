@@ -1,4 +1,6 @@
 // The program `query`: reads master.bin and notices.txt, and answers the questions of standard input by the tables after the notices.
-fn main() {
-    programs::scullpouch_program_query();
+#![tactic(auto)]
+
+fn main(rt: HostRuntime) {
+    query_program::scullpouch_program_query(rt);
 }

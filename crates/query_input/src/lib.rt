@@ -1,4 +1,6 @@
 // The questions of standard input, read part by part, and the answers of `query`, written as they come.
+#![tactic(auto)]
+
 mod input;
 mod output;
 
@@ -17,14 +19,14 @@ use streams::{Input, Sent};
 
 // What is kept from one part of the input to the next: the number of the line that is begun, its bytes so far, whether an answer was refused,
 // and what has been written.
-#[derive(Drop)]
+#[derive(Clone, Copy)]
 pub struct QueryCarried {
     pub progress: QueryProgress,
     pub sent: Sent,
 }
 
 // How far the input was read, what has been written, and whether an answer is `NO n` or `BAD K`.
-#[derive(Drop)]
+#[derive(Clone, Copy)]
 pub struct QueryEnded {
     pub input: Input,
     pub sent: Sent,
@@ -33,6 +35,7 @@ pub struct QueryEnded {
 
 // Writes the answers to all lines that end in a part of the input. A write that fails ends the run.
 fn write_part(
+    rt: HostRuntime,
     k: QueryCarried,
     file: &[u8],
     judged: FileCalendar,
@@ -52,7 +55,7 @@ fn write_part(
     s.at = 0;
     while s.at < part.len() {
         let p = delivery_sessions::answer_part(file, judged, t, calls, ids, refusals, s, part, out);
-        sent = output::write_out(sent, file, judged, t, calls, ids, room, part, s, p, out);
+        sent = output::write_out(rt, sent, file, judged, t, calls, ids, room, part, s, p, out);
         s = p;
         if !streams::is_open(sent) {
             return QueryCarried { progress: s, sent };
@@ -63,6 +66,7 @@ fn write_part(
 
 // Writes the answers to all lines that end in the first part of the input, which is taken without its mark.
 fn write_first(
+    rt: HostRuntime,
     file: &[u8],
     judged: FileCalendar,
     t: NoticesTaken,
@@ -86,11 +90,23 @@ fn write_first(
     };
     let k = QueryCarried { progress, sent };
     let mark = delivery_lines::mark_length(part);
-    write_part(k, file, judged, t, calls, ids, refusals, &part[mark..], out)
+    write_part(
+        rt,
+        k,
+        file,
+        judged,
+        t,
+        calls,
+        ids,
+        refusals,
+        &part[mark..],
+        out,
+    )
 }
 
 // Writes the answer to a last line that no line feed ends, after an input that was read to its end.
 fn write_last(
+    rt: HostRuntime,
     file: &[u8],
     judged: FileCalendar,
     t: NoticesTaken,
@@ -109,7 +125,9 @@ fn write_last(
     let a = delivery_sessions::answer_last(file, judged, t, calls, ids, refusals, s, out);
     let mut p = s;
     p.length = a.next;
-    let sent = output::write_out(k.sent, file, judged, t, calls, ids, room, file, s, p, out);
+    let sent = output::write_out(
+        rt, k.sent, file, judged, t, calls, ids, room, file, s, p, out,
+    );
     QueryEnded {
         input,
         sent,
@@ -119,6 +137,7 @@ fn write_last(
 
 // Reads the input part by part, up to its end. What is answered is written before the next read.
 fn write_rest(
+    rt: HostRuntime,
     file: &[u8],
     judged: FileCalendar,
     t: NoticesTaken,
@@ -136,10 +155,21 @@ fn write_rest(
     let mut k = first;
     let mut input = begun;
     while 0 < streams::reads_left(input) {
-        let read = input::read_part(input, &mut part);
+        let read = input::read_part(rt, input, &mut part);
         input = read.input;
         let n = read.length;
-        k = write_part(k, file, judged, t, calls, ids, refusals, &part[..n], out);
+        k = write_part(
+            rt,
+            k,
+            file,
+            judged,
+            t,
+            calls,
+            ids,
+            refusals,
+            &part[..n],
+            out,
+        );
         if !streams::is_open(k.sent) {
             return ended(k, input);
         }
@@ -147,7 +177,7 @@ fn write_rest(
     if streams::has_failed(input) {
         return ended(k, input);
     }
-    write_last(file, judged, t, calls, ids, refusals, k, input, out)
+    write_last(rt, file, judged, t, calls, ids, refusals, k, input, out)
 }
 
 // A run that ends here.
@@ -178,6 +208,7 @@ fn nothing_answered(input: Input) -> QueryEnded
 // Answers the questions of standard input by a file with its verdict and the notices of two lists.
 // A lent buffer takes a byte for each notice; where it has no room for them no notice is taken.
 pub fn answer_input(
+    rt: HostRuntime,
     file: &[u8],
     judged: FileCalendar,
     t: NoticesTaken,
@@ -189,18 +220,32 @@ pub fn answer_input(
 {
     let mut part = io::large_buffer();
     let mut out = io::large_buffer();
-    let read = input::read_first(streams::nothing_read(), &mut part);
+    let read = input::read_first(rt, streams::nothing_read(), &mut part);
     let begun = read.input;
     if streams::has_failed(begun) {
         return nothing_answered(begun);
     }
     let n = read.length;
-    let k = write_first(file, judged, t, calls, ids, refusals, &part[..n], &mut out);
+    let k = write_first(
+        rt,
+        file,
+        judged,
+        t,
+        calls,
+        ids,
+        refusals,
+        &part[..n],
+        &mut out,
+    );
     if !streams::is_open(k.sent) {
         return ended(k, begun);
     }
     if n < 3 {
-        return write_last(file, judged, t, calls, ids, refusals, k, begun, &mut out);
+        return write_last(
+            rt, file, judged, t, calls, ids, refusals, k, begun, &mut out,
+        );
     }
-    write_rest(file, judged, t, calls, ids, refusals, k, begun, &mut out)
+    write_rest(
+        rt, file, judged, t, calls, ids, refusals, k, begun, &mut out,
+    )
 }

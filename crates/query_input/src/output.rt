@@ -13,6 +13,7 @@ use streams::Sent;
 // so many refusals have room where what is known of a product is worked out.
 // Where the output does not take them, one line on standard error says why.
 pub(crate) fn write_out(
+    rt: HostRuntime,
     sent: Sent,
     file: &[u8],
     judged: FileCalendar,
@@ -29,5 +30,5 @@ pub(crate) fn write_out(
     ensures { result.open ≡ true → result.bytes ≡ counted sent.bytes to.length }
 {
     let n = to.length;
-    streams::write_next(sent, b"query: standard output", &out[..n])
+    streams::write_next(rt, sent, b"query: standard output", &out[..n])
 }

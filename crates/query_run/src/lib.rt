@@ -1,4 +1,6 @@
 // A run of the program `query`: master.bin and notices.txt are read, and the questions of standard input are answered by the tables after the notices.
+#![tactic(auto)]
+
 ghost use Rattle.std.specs.Prelude.{◌≡◌, true, false, ◌≤◌, length, take};
 ghost use Rattle.session_lines.specs.CommandLines.{empty_line};
 ghost use Rattle.file_text_print.specs.Contents.{LineWith};
@@ -15,7 +17,7 @@ use streams::{Input, Sent, Told, Transfer};
 
 // How far standard input was read, what has been written, how much was told of the two files,
 // and whether the file or a notice is refused or an answer is `NO n` or `BAD K`.
-#[derive(Drop)]
+#[derive(Clone, Copy)]
 pub struct QuestionsAnswered {
     pub input: Input,
     pub sent: Sent,
@@ -24,7 +26,7 @@ pub struct QuestionsAnswered {
 }
 
 // A run: what was read of master.bin and of notices.txt, what was answered, and the status.
-#[derive(Drop)]
+#[derive(Clone, Copy)]
 pub struct QueryOutcome {
     pub file: Transfer,
     pub notices: Transfer,
@@ -33,20 +35,20 @@ pub struct QueryOutcome {
 }
 
 // What was read of the notices, and what was answered.
-#[derive(Drop)]
+#[derive(Clone, Copy)]
 struct NoticesRun {
     notices: Transfer,
     answered: QuestionsAnswered,
 }
 
 // Tells a line on standard error, which has to be what is told of a file and of notices.
-fn tell(file: &[u8], text: &[u8], line: Line) -> Told
+fn tell(rt: HostRuntime, file: &[u8], text: &[u8], line: Line) -> Told
     requires { LineWith empty_line (query_told file.now text.now) line }
     ensures { result.bytes ≡ length (query_told file.now text.now) }
 {
     let bytes = line.bytes;
     let n = line.length;
-    streams::tell_next(streams::nothing_told(), &bytes[..n])
+    streams::tell_next(rt, streams::nothing_told(), &bytes[..n])
 }
 
 // A run that reads nothing of standard input and writes nothing.
@@ -80,6 +82,7 @@ fn questions_answered(ended: QueryEnded) -> QuestionsAnswered
 
 // What a file with its verdict and a text of notices give: a refused file and a bad line are told; without them the questions are answered.
 fn answer(
+    rt: HostRuntime,
     file: &[u8],
     judged: FileCalendar,
     text: &[u8],
@@ -92,25 +95,25 @@ fn answer(
 {
     if judged.refusal != 0 {
         let line = delivery_refusals::master_line(judged.refusal);
-        return nothing_answered(tell(file, text, line), true);
+        return nothing_answered(tell(rt, file, text, line), true);
     }
     let t = delivery_notices::read_notices(text, calls, ids);
     if t.bad != 0 {
         let line = delivery_refusals::bad_notice_line(t.bad);
-        return nothing_answered(tell(file, text, line), true);
+        return nothing_answered(tell(rt, file, text, line), true);
     }
-    let ended = query_input::answer_input(file, judged, t, calls, ids, refusals);
+    let ended = query_input::answer_input(rt, file, judged, t, calls, ids, refusals);
     questions_answered(ended)
 }
 
 // The notices, which are read where the file is accepted. Of those that cannot be read the system's reason is told.
-fn notices_of(refusal: u8, text: &mut [u8]) -> Transfer
+fn notices_of(rt: HostRuntime, refusal: u8, text: &mut [u8]) -> Transfer
     ensures { Within result text.new }
 {
     if refusal != 0 {
         return nothing_moved();
     }
-    streams::read_file_or_tell(b"query: notices.txt", b"notices.txt", text)
+    streams::read_file_or_tell(rt, b"query: notices.txt", b"notices.txt", text)
 }
 
 // A file that was not read.
@@ -125,6 +128,7 @@ fn nothing_moved() -> Transfer
 
 // The file is judged first, and once; then the notices are read. Where they cannot be read nothing is answered.
 fn judged(
+    rt: HostRuntime,
     file: &[u8],
     text: &mut [u8],
     calls: &mut [u32],
@@ -135,13 +139,13 @@ fn judged(
     ensures { (result.notices.length ≤ length text.new) × (result.notices.failed ≡ true → NothingAnswered result.answered × (result.answered.told.bytes ≡ 0)) × (result.notices.failed ≡ false → QueryAnswered file.now (take result.notices.length text.new) result.answered) }
 {
     let judged = file_load::judge(file);
-    let notices = notices_of(judged.refusal, text);
+    let notices = notices_of(rt, judged.refusal, text);
     if notices.failed {
         let answered = nothing_answered(streams::nothing_told(), false);
         return NoticesRun { notices, answered };
     }
     let n = notices.length;
-    let answered = answer(file, judged, &text[..n], calls, ids, refusals);
+    let answered = answer(rt, file, judged, &text[..n], calls, ids, refusals);
     NoticesRun { notices, answered }
 }
 
@@ -163,7 +167,7 @@ fn outcome(file: Transfer, notices: Transfer, answered: QuestionsAnswered) -> Qu
 }
 
 // A run of the program. A file that cannot be read is told, with the system's reason, and ends it.
-pub fn run() -> QueryOutcome
+pub fn run(rt: HostRuntime) -> QueryOutcome
     ensures { QueryRunEnds result }
 {
     let mut bytes = [0u8; 65537];
@@ -171,13 +175,20 @@ pub fn run() -> QueryOutcome
     let mut calls = [0u32; 32770];
     let mut ids = [0u8; 26216];
     let mut refusals = [0u8; 65538];
-    let file = streams::read_file_or_tell(b"query: master.bin", b"master.bin", &mut bytes);
+    let file = streams::read_file_or_tell(rt, b"query: master.bin", b"master.bin", &mut bytes);
     if file.failed {
         let notices = nothing_moved();
         let answered = nothing_answered(streams::nothing_told(), false);
         return outcome(file, notices, answered);
     }
     let n = file.length;
-    let j = judged(&bytes[..n], &mut text, &mut calls, &mut ids, &mut refusals);
+    let j = judged(
+        rt,
+        &bytes[..n],
+        &mut text,
+        &mut calls,
+        &mut ids,
+        &mut refusals,
+    );
     outcome(file, j.notices, j.answered)
 }

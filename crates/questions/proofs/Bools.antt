@@ -56,12 +56,12 @@ same_test false true f g = g refl
 same_test false false f g = refl
 
 -- what `if !f()` leaves of f's result
-pub said-no : {r a : Bool} → r ≡ a → not r ≡ true → a ≡ false
-said-no {r = r} e t = sym e ∙ not-true r t
+pub said-no : {r a : Bool} → r ≡ a → r ≡ false → a ≡ false
+said-no e t = sym e ∙ t
 
 -- an answer whose negation is no is yes
-pub said-yes : {r a : Bool} → r ≡ a → not r ≡ false → a ≡ true
-said-yes {r = r} e t = sym e ∙ not-false r t
+pub said-yes : {r a : Bool} → r ≡ a → r ≡ true → a ≡ true
+said-yes e t = sym e ∙ t
 
 -- of two numbers, the first is below the second, or the second is at most the first
 pub lt-or-ge : (m n : ℕ) → (m < n) ⊎ (n ≤ m)

@@ -1,5 +1,7 @@
 // The program `reconcile`: reads master.bin, notices.txt and rows from standard input,
 // and prints where they differ from the tables of all products after the notices.
-fn main() {
-    programs::scullpouch_program_reconcile();
+#![tactic(auto)]
+
+fn main(rt: HostRuntime) {
+    reconcile_program::scullpouch_program_reconcile(rt);
 }

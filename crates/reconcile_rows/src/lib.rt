@@ -1,4 +1,6 @@
 // What the rows of standard input give, by a file that is accepted and notices with no bad line: what `reconcile` writes and tells of them, and its status.
+#![tactic(auto)]
+
 ghost use Rattle.std.specs.Prelude.{◌≡◌, true, ◌||◌, ◌≤◌, ◌<◌, length};
 ghost use Rattle.session_lines.specs.CommandLines.{empty_line};
 ghost use Rattle.file_text_print.specs.Contents.{LineWith};
@@ -20,7 +22,7 @@ use session_lines::Line;
 use streams::{Input, Sent, Told};
 
 // How far standard input was read, what was written and told, and the status.
-#[derive(Drop)]
+#[derive(Clone, Copy)]
 pub struct Reconciled {
     pub input: Input,
     pub sent: Sent,
@@ -29,17 +31,17 @@ pub struct Reconciled {
 }
 
 // Tells a line after what was told, which has to be that of the counts.
-fn tell_last(kept: RowsKept, file: &[u8], p: LinesPrinted, line: Line) -> Told
+fn tell_last(rt: HostRuntime, kept: RowsKept, file: &[u8], p: LinesPrinted, line: Line) -> Told
     requires { (length (summary_text (record_count file.now) kept.state.rows p.lines kept.bad) < 64) × LineWith empty_line (summary_text (record_count file.now) kept.state.rows p.lines kept.bad) line }
     ensures { Grew kept.told.bytes (length (summary_text (record_count file.now) kept.state.rows p.lines kept.bad)) result.bytes }
 {
     let bytes = line.bytes;
     let n = line.length;
-    streams::tell_next(kept.told, &bytes[..n])
+    streams::tell_next(rt, kept.told, &bytes[..n])
 }
 
 // Tells the counts. Standard output is written before; where it does not take all, they are not told.
-fn tell_counts(kept: RowsKept, file: &[u8], p: LinesPrinted) -> Told
+fn tell_counts(rt: HostRuntime, kept: RowsKept, file: &[u8], p: LinesPrinted) -> Told
     requires { (length file.now ≤ 65537) × (kept.state.rows ≤ 65536) × (p.lines < 1000000000) × (kept.bad < 1000000000) }
     ensures { p.sent.open ≡ true → Grew kept.told.bytes (length (summary_text (record_count file.now) kept.state.rows p.lines kept.bad)) result.bytes }
 {
@@ -52,7 +54,7 @@ fn tell_counts(kept: RowsKept, file: &[u8], p: LinesPrinted) -> Told
     let rows = state.rows as u64;
     let bad = kept.bad as u64;
     let line = delivery_reconciled::summary_line(products, rows, p.lines, bad);
-    tell_last(kept, file, p, line)
+    tell_last(rt, kept, file, p, line)
 }
 
 // Whether nothing is printed of what was read: a read failed, or there was a good row too many.
@@ -100,6 +102,7 @@ fn finished(read: RowsRead, refused: bool, p: LinesPrinted, told: Told) -> Recon
 
 // What rows give, by a file that is accepted and notices with no bad line. Where there were too many rows nothing is printed.
 fn with_lists(
+    rt: HostRuntime,
     file: &[u8],
     judged: FileCalendar,
     text: &[u8],
@@ -114,22 +117,22 @@ fn with_lists(
     backs: &mut [u16],
     places: &mut [u16],
 ) -> Reconciled
-    requires { (length file.now ≤ 65537) × (room_in (record { ids = ids.now; keys = keys.old; days = days.old; fulls = fulls.old; numbers = numbers.old; backs = backs.old }) ≡ 65536) × (65536 ≤ length places.old) }
+    requires { (length file.now ≤ 65537) × (room_in (record { ids = ids.old; keys = keys.old; days = days.old; fulls = fulls.old; numbers = numbers.old; backs = backs.old }) ≡ 65536) × (65536 ≤ length places.old) }
     ensures { Runs file.now text.now (calendar_answer judged) t calls.now of.now → ReconcileRan file.now text.now result.input result.sent result.told.bytes result.status }
 {
-    let opened = delivery_reconciling::tell_openings(streams::nothing_told(), file, judged, t);
+    let opened = delivery_reconciling::tell_openings(rt, streams::nothing_told(), file, judged, t);
     let begun = opened.told;
-    let read = delivery_reading::read_rows(begun, file, ids, keys, days, fulls, numbers, backs);
+    let read = delivery_reading::read_rows(rt, begun, file, ids, keys, days, fulls, numbers, backs);
     if stops(read) {
         return stopped(read);
     }
     let kept = read.kept;
     let state = kept.state;
     let p = delivery_reconciling::print_all(
-        file, judged, text, t, calls, of, state.rows, ids, keys, days, fulls, numbers, backs,
+        rt, file, judged, text, t, calls, of, state.rows, ids, keys, days, fulls, numbers, backs,
         places,
     );
-    let told = tell_counts(kept, file, p);
+    let told = tell_counts(rt, kept, file, p);
     finished(read, opened.refused, p, told)
 }
 
@@ -150,6 +153,7 @@ pub fn no_rows(told: Told, failed: bool) -> Reconciled
 
 // What rows give, with room for 65,536 of them. With a file of more than 65,537 bytes, one more than a file may have, none is read.
 pub fn reconcile_rows(
+    rt: HostRuntime,
     file: &[u8],
     judged: FileCalendar,
     text: &[u8],
@@ -170,6 +174,7 @@ pub fn reconcile_rows(
     let mut backs = [0u16; 65536];
     let mut places = [0u16; 65536];
     with_lists(
+        rt,
         file,
         judged,
         text,

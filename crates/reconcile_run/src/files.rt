@@ -3,7 +3,7 @@ ghost use Rattle.std.specs.Prelude.{◌≡◌, true, false, ◌≤◌, length};
 
 // Whether a file was tried to be read, whether that failed, and how many bytes of it stand at the start of its buffer.
 // Its fields are private: only this file makes one, so no other code can say that a file was read, or that it could not be.
-#[derive(Drop)]
+#[derive(Clone, Copy)]
 pub struct FileRead {
     tried: bool,
     failed: bool,
@@ -37,10 +37,10 @@ pub(crate) fn size(read: FileRead) -> usize
 
 // The bytes of master.bin at the start of a buffer. One that cannot be read is told, with the system's reason.
 // One that fills the buffer has more than 65,536 bytes, which question 1 refuses.
-pub(crate) fn read_master(file: &mut [u8]) -> FileRead
+pub(crate) fn read_master(rt: HostRuntime, file: &mut [u8]) -> FileRead
     ensures { (result.tried ≡ true) × (result.length ≤ length file.new) }
 {
-    let read = streams::read_file_or_tell(b"reconcile: master.bin", b"master.bin", file);
+    let read = streams::read_file_or_tell(rt, b"reconcile: master.bin", b"master.bin", file);
     FileRead {
         tried: true,
         failed: read.failed,
@@ -50,10 +50,10 @@ pub(crate) fn read_master(file: &mut [u8]) -> FileRead
 
 // The bytes of notices.txt at the start of a buffer. One that cannot be read is told, with the system's reason.
 // Of one that has more than 65,536 bytes the next is read too.
-pub(crate) fn read_notices(text: &mut [u8]) -> FileRead
+pub(crate) fn read_notices(rt: HostRuntime, text: &mut [u8]) -> FileRead
     ensures { (result.tried ≡ true) × (result.length ≤ length text.new) }
 {
-    let read = streams::read_file_or_tell(b"reconcile: notices.txt", b"notices.txt", text);
+    let read = streams::read_file_or_tell(rt, b"reconcile: notices.txt", b"notices.txt", text);
     FileRead {
         tried: true,
         failed: read.failed,

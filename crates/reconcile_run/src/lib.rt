@@ -1,5 +1,7 @@
 // All of the program `reconcile` but its `main`: reads master.bin, notices.txt and rows from standard input,
 // and prints where they differ from the tables of all products after the notices.
+#![tactic(auto)]
+
 mod files;
 
 ghost use Rattle.std.specs.Prelude.{◌≡◌, [], ◌≤◌, ◌<◌, length};
@@ -18,14 +20,14 @@ use session_lines::Line;
 use streams::Told;
 
 // How notices.txt was read, and what the rows gave.
-#[derive(Drop)]
+#[derive(Clone, Copy)]
 pub struct FileRun {
     pub notices: FileRead,
     pub rows: Reconciled,
 }
 
 // How the two files were read, and what the rows gave.
-#[derive(Drop)]
+#[derive(Clone, Copy)]
 pub struct ReconcileEnded {
     pub master: FileRead,
     pub notices: FileRead,
@@ -33,18 +35,18 @@ pub struct ReconcileEnded {
 }
 
 // Tells a line before anything else, which has to be all that is told of a file and notices of which no rows are judged.
-fn tell_refused(file: &[u8], text: &[u8], line: Line) -> Told
+fn tell_refused(rt: HostRuntime, file: &[u8], text: &[u8], line: Line) -> Told
     requires { (length (reconcile_told file.now text.now []) < 64) × LineWith empty_line (reconcile_told file.now text.now []) line }
     ensures { Grew 0 (length (reconcile_told file.now text.now [])) result.bytes }
 {
     let bytes = line.bytes;
     let n = line.length;
     let nothing = streams::nothing_told();
-    streams::tell_next(nothing, &bytes[..n])
+    streams::tell_next(rt, nothing, &bytes[..n])
 }
 
 // What a text of notices and rows give, by a file that is accepted. The rows are read where none of the notices is bad.
-fn with_notices(file: &[u8], judged: FileCalendar, text: &[u8]) -> Reconciled
+fn with_notices(rt: HostRuntime, file: &[u8], judged: FileCalendar, text: &[u8]) -> Reconciled
     requires { (calendar_answer judged ≡ judge_call file.now) × (judged.refusal ≡ 0) × (length file.now ≤ 65537) }
     ensures { RowsRun file.now text.now result }
 {
@@ -53,42 +55,42 @@ fn with_notices(file: &[u8], judged: FileCalendar, text: &[u8]) -> Reconciled
     let t = delivery_notices::read_notices(text, &mut calls, &mut of);
     let bad = t.bad;
     if bad != 0 {
-        let told = tell_refused(file, text, delivery_refusals::bad_notice_line(bad));
+        let told = tell_refused(rt, file, text, delivery_refusals::bad_notice_line(bad));
         return no_rows(told, false);
     }
-    reconcile_rows::reconcile_rows(file, judged, text, t, &calls, &of)
+    reconcile_rows::reconcile_rows(rt, file, judged, text, t, &calls, &of)
 }
 
 // What a file that was read gives. The notices are read where it is accepted.
-fn on_file(file: &[u8], text: &mut [u8]) -> FileRun
+fn on_file(rt: HostRuntime, file: &[u8], text: &mut [u8]) -> FileRun
     requires { length file.now ≤ 65537 }
     ensures { OnFile file.now text.new result }
 {
     let judged = file_load::judge(file);
     let refusal = judged.refusal;
     if refusal != 0 {
-        let told = tell_refused(file, b"", delivery_refusals::master_line(refusal));
+        let told = tell_refused(rt, file, b"", delivery_refusals::master_line(refusal));
         let notices = files::not_read();
         let rows = no_rows(told, false);
         return FileRun { notices, rows };
     }
-    let notices = files::read_notices(text);
+    let notices = files::read_notices(rt, text);
     if files::could_not(notices) {
         let rows = no_rows(streams::nothing_told(), true);
         return FileRun { notices, rows };
     }
     let n = files::size(notices);
-    let rows = with_notices(file, judged, &text[..n]);
+    let rows = with_notices(rt, file, judged, &text[..n]);
     FileRun { notices, rows }
 }
 
 // A run of the program. A file that cannot be read is told with the system's reason, and ends it.
-pub fn run() -> ReconcileEnded
+pub fn run(rt: HostRuntime) -> ReconcileEnded
     ensures { OnFiles result }
 {
     let mut file = [0u8; 65537];
     let mut text = [0u8; 65537];
-    let master = files::read_master(&mut file);
+    let master = files::read_master(rt, &mut file);
     if files::could_not(master) {
         let unread = files::not_read();
         let rows = no_rows(streams::nothing_told(), true);
@@ -99,7 +101,7 @@ pub fn run() -> ReconcileEnded
         };
     }
     let size = files::size(master);
-    let r = on_file(&file[..size], &mut text);
+    let r = on_file(rt, &file[..size], &mut text);
     let notices = r.notices;
     let rows = r.rows;
     ReconcileEnded {

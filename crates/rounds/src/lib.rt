@@ -1,10 +1,12 @@
 // The morning round: the queue of tables that a host rolls, some at each call.
+#![tactic(auto)]
+
 ghost use Rattle.std.specs.Prelude.{◌≡◌, cond, [], ◌∷◌, ◌++◌, ◌+◌, ◌-◌, ◌≤◌, ◌<◌, ltb, take, drop};
 ghost use Rattle.rounds.specs.Rounds.{queued, queue_place_right, queue_right, places200, queue_of, index_of, handled, handle_call, join_call, leave_call};
 
 // Numbers of tables, the first to be handled first; the first `count` places are used.
 #[repr(C)]
-#[derive(Drop)]
+#[derive(Clone, Copy)]
 pub struct Queue {
     pub tables: [u16; 200],
     pub count: u16,
@@ -12,7 +14,7 @@ pub struct Queue {
 
 // A call of the round: its refusal, 0 where it is accepted, the numbers that it took, in their order, and the queue.
 #[repr(C)]
-#[derive(Drop)]
+#[derive(Clone, Copy)]
 pub struct Handled {
     pub refusal: u8,
     pub taken: Queue,
@@ -21,7 +23,7 @@ pub struct Handled {
 
 // A joining or leaving: its refusal, 0 where it is accepted, and the queue.
 #[repr(C)]
-#[derive(Drop)]
+#[derive(Clone, Copy)]
 pub struct Changed {
     pub refusal: u8,
     pub queue: Queue,

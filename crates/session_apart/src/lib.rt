@@ -1,4 +1,6 @@
 // A table apart from the two maps of its calendar, which are lent, so that a roll and a close that leave the listing as it is copy neither.
+#![tactic(auto)]
+
 ghost use Rattle.std.specs.Prelude.{◌≡◌, true, List, ℕ, ◌/◌, ◌<◌, take};
 ghost use Rattle.listing.specs.Months.{places_of_kind};
 ghost use Rattle.calendar.specs.Trading.{calendar_with, in_cover, slot_of, close_day};
@@ -16,7 +18,7 @@ use session_lines::{Command, Line};
 use table::Table;
 
 // A table but for the two maps of its calendar.
-#[derive(Drop)]
+#[derive(Clone, Copy)]
 pub struct Rest {
     pub product: Product,
     pub cover: Cover,
@@ -26,7 +28,7 @@ pub struct Rest {
 }
 
 // What a call gives back of a table apart: the number of its refusal, the rest, and the counts of months that entered and that left.
-#[derive(Drop)]
+#[derive(Clone, Copy)]
 pub struct Moved {
     pub refusal: u8,
     pub rest: Rest,
@@ -36,7 +38,7 @@ pub struct Moved {
 
 // What is kept after a line but for the maps, the answer to question 10 of its table, the place in the buffer after the line's answer,
 // and whether an answer was `NO n` or `BAD`.
-#[derive(Drop)]
+#[derive(Clone, Copy)]
 pub struct Replied {
     pub opened: bool,
     pub rest: Rest,

@@ -1,4 +1,6 @@
 // A command to its answer and the table that is kept.
+#![tactic(auto)]
+
 ghost use Rattle.std.specs.Prelude.{◌≡◌, true, ◌&&◌, cond, eqb};
 ghost use Rattle.product.specs.Fields.{product_right};
 ghost use Rattle.file_calendar.specs.Calendars.{calendar_answer};
@@ -13,7 +15,7 @@ use session_lines::{Command, Line};
 use table::{Outcome, Table};
 
 // Whether an O has been accepted, the table of the last accepted call, and whether an answer was `NO n` or `BAD`.
-#[derive(Drop)]
+#[derive(Clone, Copy)]
 pub struct Kept {
     pub opened: bool,
     pub table: Table,
@@ -21,7 +23,7 @@ pub struct Kept {
 }
 
 // What is kept after a line, and the place in the buffer after its answer.
-#[derive(Drop)]
+#[derive(Clone, Copy)]
 pub struct Answered {
     pub kept: Kept,
     pub at: usize,

@@ -1,4 +1,6 @@
 // The answers of a session written to standard output: to the lines that end in a part of the input, and to a last line that no line feed ends.
+#![tactic(auto)]
+
 mod output;
 
 ghost use Rattle.std.specs.Prelude.{◌≡◌, true, [], ◌≤◌, length};
@@ -15,7 +17,7 @@ use session_parts::TermsProgress;
 use streams::Input;
 
 // What is kept from one part of the input to the next: the table, the line so far, and what has been sent of the text.
-#[derive(Drop)]
+#[derive(Clone, Copy)]
 pub struct Carried {
     pub kept: Kept,
     pub line: Line,
@@ -25,6 +27,7 @@ pub struct Carried {
 // Writes the answers to all lines that end in a part of the input. A write that fails ends it.
 // Of a buffer with fewer than 512 bytes nothing is done.
 pub fn write_part(
+    rt: HostRuntime,
     k: Carried,
     file: &[u8],
     judged: FileCalendar,
@@ -47,7 +50,7 @@ pub fn write_part(
     };
     while s.at < part.len() {
         let p = session_parts::answer_part(file, judged, s.kept, s.line, part, s.at, out);
-        text = output::write_out(text, file, judged, part, s, p, out);
+        text = output::write_out(rt, text, file, judged, part, s, p, out);
         s = p;
         if !output::is_open(text) {
             return Carried { kept, line, text };
@@ -63,7 +66,7 @@ pub fn write_part(
 }
 
 // What has been sent of the text at the end of a session, and whether an answer was `NO n` or `BAD`.
-#[derive(Drop)]
+#[derive(Clone, Copy)]
 pub struct SessionEnd {
     pub text: SentText,
     pub refused: bool,
@@ -71,6 +74,7 @@ pub struct SessionEnd {
 
 // Writes the answer to a last line that no line feed ends, after the last read: where one is left, or the buffer has fewer than 512 bytes, nothing is done.
 pub fn write_last(
+    rt: HostRuntime,
     k: Carried,
     file: &[u8],
     judged: FileCalendar,
@@ -107,7 +111,7 @@ pub fn write_last(
         at: 0,
         length: a.length,
     };
-    let all = output::write_out(text, file, judged, file, from, to, out);
+    let all = output::write_out(rt, text, file, judged, file, from, to, out);
     SessionEnd {
         text: all,
         refused: a.refused,

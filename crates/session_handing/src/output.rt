@@ -10,7 +10,7 @@ use streams::Sent;
 
 // What standard output has taken of the session's text.
 // Its field is private: only this file makes one, so its count grew by what write_out was shown to come next.
-#[derive(Drop)]
+#[derive(Clone, Copy)]
 pub struct SentText {
     sent: Sent,
 }
@@ -32,6 +32,7 @@ pub fn is_open(text: SentText) -> bool
 
 // Writes the bytes at the start of a buffer, which have to be what comes next of the session's text from one place in the input to another.
 pub(crate) fn write_out(
+    rt: HostRuntime,
     text: SentText,
     file: &[u8],
     judged: FileCalendar,
@@ -44,6 +45,6 @@ pub(crate) fn write_out(
     ensures { result.sent.open ≡ true → result.sent.bytes ≡ counted text.sent.bytes to.length }
 {
     let n = to.length;
-    let sent = streams::write_next(text.sent, b"terms: standard output", &out[..n]);
+    let sent = streams::write_next(rt, text.sent, b"terms: standard output", &out[..n]);
     SentText { sent }
 }

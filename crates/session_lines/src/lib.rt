@@ -1,4 +1,6 @@
 // Lines of any length, byte by byte; and a line of the program `terms` to a command.
+#![tactic(auto)]
+
 ghost use Rattle.std.specs.Prelude.{◌≡◌, ◌+◌, ◌≤◌, ◌<◌, get_or, length};
 ghost use Rattle.session_lines.specs.CommandLines.{digit_value, two_digits, two_value, date_form, date_at, other_line, move_command, id_form, id_byte_at, id_in_line, open_form, open_command, line_command, empty_line, extended, fed};
 ghost use Rattle.session_lines.specs.BytePlaces.{ByteFrom};
@@ -6,14 +8,14 @@ ghost use Rattle.session_lines.specs.BytePlaces.{ByteFrom};
 use days::DayAnswer;
 
 // A line: its first bytes and their number. The longest command has 17, the longest line of a master file's text 63.
-#[derive(Drop)]
+#[derive(Clone, Copy)]
 pub struct Line {
     pub bytes: [u8; 64],
     pub length: usize,
 }
 
 // A command: the letter O, R or C, the id of an O, and the day. Another line has no letter, 0.
-#[derive(Drop)]
+#[derive(Clone, Copy)]
 pub struct Command {
     pub letter: u8,
     pub id: [u8; 4],
@@ -21,7 +23,7 @@ pub struct Command {
 }
 
 // Whether there is a date, and its day.
-#[derive(Drop)]
+#[derive(Clone, Copy)]
 pub struct DateRead {
     pub there: bool,
     pub day: u16,

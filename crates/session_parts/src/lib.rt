@@ -1,4 +1,6 @@
 // The answers to all lines that end in a part of the input, and to a last line that no line feed ends.
+#![tactic(auto)]
+
 ghost use Rattle.std.specs.Prelude.{◌≡◌, true, ◌≤◌, ◌<◌, length};
 ghost use Rattle.file_calendar.specs.Calendars.{calendar_answer};
 ghost use Rattle.table.specs.Table.{open_in};
@@ -11,7 +13,7 @@ use session_command::Kept;
 use session_lines::Line;
 
 // What is kept, the line so far, the place in the part of the input, and how many bytes of answers stand in the buffer.
-#[derive(Drop)]
+#[derive(Clone, Copy)]
 pub struct TermsProgress {
     pub kept: Kept,
     pub line: Line,
@@ -22,7 +24,7 @@ pub struct TermsProgress {
 // The same on the way, where the maps of the table's calendar are apart:
 // what is kept but for them, with the answer to question 10 and how many bytes of answers stand in the buffer;
 // the line so far, and the place in the part.
-#[derive(Drop)]
+#[derive(Clone, Copy)]
 struct Step {
     replied: Replied,
     line: Line,
@@ -149,7 +151,7 @@ pub fn answer_part(
 }
 
 // How many bytes the answer to a last line has, and whether an answer was `NO n` or `BAD`.
-#[derive(Drop)]
+#[derive(Clone, Copy)]
 pub struct LastLine {
     pub length: usize,
     pub refused: bool,

@@ -1,4 +1,6 @@
 // The text that is printed for an answer, in a lent buffer.
+#![tactic(auto)]
+
 ghost use Rattle.std.specs.Prelude.{◌≡◌, [], ◌∷◌, ◌+◌, ◌≤◌, ◌<◌, length};
 ghost use Rattle.days.specs.Dates.{date_call};
 ghost use Rattle.session_text.specs.TermsText.{last_digit, in_two_digits, in_four_digits, decimal, year_month, month_text, day_text, spaced, name_text, maturity_text, maturities_text, name_width, lines_width, heading_text, call_text, outcome_text, refusal_text, bad_text};

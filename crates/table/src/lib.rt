@@ -1,4 +1,6 @@
 // The table of listed maturities of one product, and the calls on it.
+#![tactic(auto)]
+
 ghost use Rattle.std.specs.Prelude.{◌≡◌, true, ◌&&◌, cond, ◌≤◌, length, get_or, take, eqb};
 ghost use Rattle.table_numbering.specs.Numbering.{is_listed};
 ghost use Rattle.calendar.specs.Trading.{calendar_with, every_week, close_day};
@@ -13,7 +15,7 @@ use listing::Maturity;
 use product::Product;
 
 // A product, its calendar, a date, up to 15 maturities by rising key, and the count of numbers given.
-#[derive(Drop)]
+#[derive(Clone, Copy)]
 pub struct Table {
     pub product: Product,
     pub calendar: Calendar,
@@ -23,7 +25,7 @@ pub struct Table {
 }
 
 // What a table call gives back: the number of its refusal, 0 where it is accepted, the table, and the counts of months that entered and that left.
-#[derive(Drop)]
+#[derive(Clone, Copy)]
 pub struct Outcome {
     pub refusal: u8,
     pub table: Table,

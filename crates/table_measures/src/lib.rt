@@ -1,11 +1,13 @@
 // Splits and reductions: the measure on a table of a future.
+#![tactic(auto)]
+
 ghost use Rattle.std.specs.Prelude.{◌≡◌};
 ghost use Rattle.table_measures.specs.Measures.{resized, unmeasured, measure_call};
 
 use table::Table;
 
 // What a measure gives back: the number of its refusal, 0 where it is accepted, the table, and the new price, 0 with a refusal.
-#[derive(Drop)]
+#[derive(Clone, Copy)]
 pub struct Measured {
     pub refusal: u8,
     pub table: Table,

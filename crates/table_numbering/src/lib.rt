@@ -1,4 +1,6 @@
 // The places of a table: which months are listed, have entered or left, the numbers they have, and whether they are the fresh listing.
+#![tactic(auto)]
+
 ghost use Rattle.std.specs.Prelude.{◌≡◌, cond, ◌+◌, ◌≤◌, ◌<◌, leb, length, take};
 ghost use Rattle.questions.specs.Search.{every};
 ghost use Rattle.listing.specs.Rules.{places15};
@@ -9,7 +11,7 @@ use listing::{Maturity, Places};
 use product::Kind;
 
 // A maturity with its number, and the count of numbers given after it.
-#[derive(Drop)]
+#[derive(Clone, Copy)]
 pub struct NumberedMaturity {
     pub maturity: Maturity,
     pub given: u16,

@@ -1,4 +1,6 @@
 // What opening a table finds in a master file.
+#![tactic(auto)]
+
 ghost use Rattle.std.specs.Prelude.{◌≡◌, replicate};
 ghost use Rattle.product.specs.Fields.{zero_product};
 ghost use Rattle.listing.specs.Rules.{unused};
@@ -12,7 +14,7 @@ use listing::Maturity;
 use product::Product;
 
 // The number of the refusal, 0 where there is none; the product, the file's calendar, and the fresh listing, not yet numbered.
-#[derive(Drop)]
+#[derive(Clone, Copy)]
 pub struct Opening {
     pub refusal: u8,
     pub product: Product,
@@ -21,7 +23,7 @@ pub struct Opening {
 }
 
 // The same but for the calendar.
-#[derive(Drop)]
+#[derive(Clone, Copy)]
 pub struct Listed {
     pub refusal: u8,
     pub product: Product,

@@ -1,4 +1,6 @@
 // Calls about prices that leave the table as it is: tick and cash.
+#![tactic(auto)]
+
 ghost use Rattle.std.specs.Prelude.{◌≡◌};
 ghost use Rattle.table_prices.specs.TablePrices.{cash_reply, no_cash, tick_call, cash_call};
 
@@ -7,7 +9,7 @@ use table::{Table, is_sound};
 
 // The number of a refusal, or 0 and the cash, positive where the seller pays the buyer.
 #[repr(C)]
-#[derive(Drop)]
+#[derive(Clone, Copy)]
 pub struct CashReply {
     pub refusal: u8,
     pub cash: Amount,

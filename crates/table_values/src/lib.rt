@@ -1,4 +1,6 @@
 // Calls that return days and leave the table as it is: last trading days and due days.
+#![tactic(auto)]
+
 ghost use Rattle.std.specs.Prelude.{◌≡◌};
 ghost use Rattle.table_values.specs.Values.{day_reply, no_day, last_day_reply, no_last_day, last_day_call, due_call};
 
@@ -6,7 +8,7 @@ use table::{Table, is_sound};
 
 // The number of a refusal, or 0 and a day.
 #[repr(C)]
-#[derive(Drop)]
+#[derive(Clone, Copy)]
 pub struct DayReply {
     pub refusal: u8,
     pub day: u16,
@@ -14,7 +16,7 @@ pub struct DayReply {
 
 // The number of a refusal, or 0 and a last trading day with the days stepped back.
 #[repr(C)]
-#[derive(Drop)]
+#[derive(Clone, Copy)]
 pub struct LastDayReply {
     pub refusal: u8,
     pub day: u16,

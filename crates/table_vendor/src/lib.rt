@@ -1,4 +1,6 @@
 // Listings from elsewhere, judged by a table's fresh listing.
+#![tactic(auto)]
+
 ghost use Rattle.std.specs.Prelude.{◌≡◌, ◌*◌, ◌≤◌, eqb, get_or, take, drop};
 ghost use Rattle.listing.specs.Months.{places_of_kind};
 ghost use Rattle.table_vendor.specs.Vendor.{entries_of, times, vendor_call, verdict_answer};
@@ -9,7 +11,7 @@ use product::Kind;
 use table::Table;
 
 // What is said of a list: it is the fresh listing, or a key differs, or the table is not sound (10).
-#[derive(Drop)]
+#[derive(Clone, Copy)]
 pub enum Verdict {
     Same,
     Differs(u16),

@@ -1,4 +1,6 @@
 // The program `terms`: reads master.bin and commands from standard input, and prints the answers.
-fn main() {
-    programs::scullpouch_program_terms();
+#![tactic(auto)]
+
+fn main(rt: HostRuntime) {
+    terms_program::scullpouch_program_terms(rt);
 }

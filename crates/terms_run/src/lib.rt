@@ -1,4 +1,6 @@
 // A whole run of the program `terms`: reads master.bin and commands from standard input, and prints the answers.
+#![tactic(auto)]
+
 mod input;
 
 ghost use Rattle.std.specs.Prelude.{◌≡◌, true, length};
@@ -12,7 +14,7 @@ use session_handing::{Carried, SentText};
 use streams::Input;
 
 // How many bytes of master.bin were read, how far the input was, what was sent of the text, and the status with which the program ends.
-#[derive(Drop)]
+#[derive(Clone, Copy)]
 pub struct TermsOutcome {
     pub master: usize,
     pub input: Input,
@@ -36,7 +38,7 @@ fn ended(master: usize, input: Input, text: SentText, refused: bool) -> TermsOut
 }
 
 // Judges the file once, and reads the input part by part, up to its end. What is answered is written before the next read. A read that fails ends the input.
-fn answer_all(file: &[u8]) -> TermsOutcome
+fn answer_all(rt: HostRuntime, file: &[u8]) -> TermsOutcome
     ensures { (result.master ≡ length file.now) × (terms_failed result ≡ true → result.status ≡ 2) × (result.text.sent.open ≡ true → ForInput result.input (λ input. (result.text.sent.bytes ≡ counted 0 (length (terms_text file.now input))) × (result.status ≡ status_of (terms_failed result) (terms_refused file.now input)))) }
 {
     let judged = file_load::judge(file);
@@ -48,25 +50,25 @@ fn answer_all(file: &[u8]) -> TermsOutcome
     let mut k = Carried { kept, line, text };
     let mut input = streams::nothing_read();
     while 0 < streams::reads_left(input) {
-        let read = input::read_part(input, &mut part);
+        let read = input::read_part(rt, input, &mut part);
         input = read.input;
         let n = read.length;
-        k = session_handing::write_part(k, file, judged, &part[..n], &mut out);
+        k = session_handing::write_part(rt, k, file, judged, &part[..n], &mut out);
         if !session_handing::is_open(k.text) {
             let shut = k.text;
             return ended(file.len(), input, shut, false);
         }
     }
-    let all = session_handing::write_last(k, file, judged, input, &mut out);
+    let all = session_handing::write_last(rt, k, file, judged, input, &mut out);
     let sent = all.text;
     ended(file.len(), input, sent, all.refused)
 }
 
 // A run. A file that cannot be read counts as empty.
-pub fn run() -> TermsOutcome
+pub fn run(rt: HostRuntime) -> TermsOutcome
     ensures { TermsRan result }
 {
     let mut file = [0u8; 65537];
-    let size = input::read_master(&mut file);
-    answer_all(&file[..size])
+    let size = input::read_master(rt, &mut file);
+    answer_all(rt, &file[..size])
 }

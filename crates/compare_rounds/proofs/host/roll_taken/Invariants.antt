@@ -1,0 +1,13 @@
+use Rattle.rounds.proofs.Queues.{right-count, right-number}
+use lib.ListN.{length, get_or, length-map}
+use mathlib.Core.Path.{◌≡◌}
+use native.Mathlib.Omega.{arith}
+use Prim.Native.Nat.{ℕ, ◌-◌, ◌≤◌, ◌<◌}
+use Rattle.compare_rounds.proofs.host.roll_taken.Given as goal
+
+-- ---- the loop's invariant and its measure
+abbrev pub invariant-loop-i : goal.invariant-loop-i
+invariant-loop-i l = (l.n ≤ 200) × (l.i ≤ l.n) × ((j : ℕ) → j < l.n → get_or l.numbers j 0 ≤ 199) × (length l.tables ≡ 200)
+
+abbrev pub decreases-loop-i : goal.decreases-loop-i
+decreases-loop-i l = l.n - l.i

@@ -1,0 +1,16 @@
+use mathlib.Core.Path.{◌≡◌, refl, ◌∙◌, sym}
+use native.Mathlib.Omega.{arith}
+use Prim.Native.Nat.{◌-◌, ◌≤◌}
+use lib.ListN.{length, take, drop}
+use Rattle.delivery_differences.specs.DifferencePasses.{row_keys_at, unlisted, least_of}
+use Rattle.delivery_differences.proofs.KeyRows.{keys-long}
+use Rattle.delivery_differences.proofs.DifferencePasses.{least-next, least-done}
+use Rattle.delivery_differences.proofs.least_unlisted.Given as goal
+
+abbrev pub invariant-loop-j : goal.invariant-loop-j
+invariant-loop-j l =
+    (l.n ≤ 15) × (least_of (unlisted (take l.n l.maturities)) l.from (drop l.j (row_keys_at l.keys l.places)) l.least
+    ≡ least_of (unlisted (take l.n l.maturities)) l.from (row_keys_at l.keys l.places) 65536)
+
+abbrev pub decreases-loop-j : goal.decreases-loop-j
+decreases-loop-j l = length l.places - l.j

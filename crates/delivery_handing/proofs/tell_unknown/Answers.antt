@@ -1,0 +1,44 @@
+-- What was told is as long as the lines before the next one, where all lines come next; each line then comes next, and at the end all lines are there.
+use Rattle.std.proofs.Common.{◌≡◌, ℕ, ◌+◌, ◌-◌, ◌≤◌, List, length, refl, ap, ◌∙◌, arith}
+use Rattle.file_text_print.specs.WholeText.{NextOf}
+use Rattle.delivery_refusals.specs.Refusals.{unknown_lines}
+use Rattle.delivery_parts.specs.PlaceParts.{deliver_refusals}
+use Rattle.delivery_parts.proofs.Handing.{line-long, line-few, line-next, no-unknown, more-unknown, next-unknown, unknown-short, few-unknown}
+use Rattle.delivery_handing.proofs.tell_unknown.Goals as goal
+
+pub loop-i-init : goal.loop-i-init
+loop-i-init c =
+    (omega arith, refl, λ k s x. omega (arith, no-unknown c.args.file.now c.args.calls.now c.args.ids.now))
+
+pub overflow_add-i : goal.overflow_add-i
+overflow_add-i c =
+    omega (arith, c.loop-i-test.true, c.ranges.count)
+
+pub loop-i-smaller : goal.loop-i-smaller
+loop-i-smaller c = omega (arith, c.loop-i-test.true)
+
+pub loop-i-preserved : goal.loop-i-preserved
+loop-i-preserved c =
+    let f = c.args.file.now in
+    let calls = c.args.calls.now in
+    let ids = c.args.ids.now in
+    let i = c.loop-i.i in
+    let made = c.unknown_measure_line-line.ensures in
+    let v = c.loop-i.invariant in
+    let u = c.tell-h.ensures in (
+      omega (arith, c.loop-i-test.true),
+      u.0 ∙ v.1,
+      λ k s x.
+          let far : c.loop-i.h.told ≡ c.args.handed.told + length (unknown_lines f calls ids i) = v.2 k s x in
+          let one = u.1 (line-few made (unknown-short _ _ _ _))
+          (omega (arith, far, few-unknown f calls ids i, k, s, c.loop-i-test.true))
+          (rw far (line-next made (unknown-short _ _ _ _) (next-unknown f calls ids _ _ _ i c.loop-i-test.true x))) in
+          omega (arith, one, far, line-long made (unknown-short f calls ids i), more-unknown f calls ids i),
+    )
+
+pub returns : goal.returns
+returns c =
+    let v = c.loop-i.invariant in
+    let e : c.loop-i.i ≡ c.args.count = omega (arith, v.0, c.loop-i-test.false) in
+    let lines : ℕ → List ℕ = unknown_lines c.args.file.now c.args.calls.now c.args.ids.now in
+    (v.1, λ k s x. v.2 k s x ∙ ap (λ (n : ℕ). c.args.handed.told + length (lines n)) e)

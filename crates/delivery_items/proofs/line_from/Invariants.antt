@@ -1,0 +1,13 @@
+use mathlib.Core.Path.{◌≡◌, refl, ◌∙◌}
+use native.Mathlib.Omega.{arith}
+use Prim.Native.Nat.{◌-◌}
+use lib.ListN.{length, drop}
+use Rattle.delivery_items.specs.LineEnds.{line_end}
+use Rattle.delivery_items.proofs.LineEnds.{line_on, line-ends, part-ends}
+use Rattle.delivery_items.proofs.line_from.Given as goal
+
+abbrev pub invariant-loop-i : goal.invariant-loop-i
+invariant-loop-i l = line_end l.l (drop l.i l.part) l.i ≡ line_end l.initial.l (drop l.from l.part) l.from
+
+abbrev pub decreases-loop-i : goal.decreases-loop-i
+decreases-loop-i l = length l.part - l.i

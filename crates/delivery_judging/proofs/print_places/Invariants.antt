@@ -1,0 +1,19 @@
+use mathlib.Core.Path.{◌≡◌, refl}
+use Prim.Native.Nat.{◌-◌, ◌≤◌}
+use native.Mathlib.Omega.{arith}
+use lib.ListN.{length}
+use Rattle.file_ids.specs.Ids.{place_count}
+use Rattle.file_calendar.specs.Calendars.{calendar_answer}
+use Rattle.table.specs.Table.{open_in}
+use Rattle.delivery_judging.specs.LinesOut.{PlacesOut}
+use Rattle.delivery_judging.proofs.Places.{places-none, places-more, places-at, place_at}
+use Rattle.delivery_judging.proofs.print_places.Given as goal
+
+abbrev pub invariant-loop-p : goal.invariant-loop-p
+invariant-loop-p l =
+    PlacesOut (open_in (calendar_answer l.judged) l.file) l.file l.t.date l.t.count l.calls l.of
+    (record { ids = l.ids; keys = l.keys; days = l.days; fulls = l.fulls; numbers = l.numbers; backs = l.backs }) l.rows (length l.initial.places) l.p l.initial.so_far
+    (record { sent = l.so_far; lines = l.lines }) × (length l.places ≡ length l.initial.places) × (l.p ≤ place_count l.file)
+
+abbrev pub decreases-loop-p : goal.decreases-loop-p
+decreases-loop-p l = l.count - l.p

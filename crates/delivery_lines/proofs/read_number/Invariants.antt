@@ -1,0 +1,17 @@
+use mathlib.Core.Path.{◌≡◌, refl, sym, ◌∙◌, ap}
+use Prim.Native.Nat.{◌-◌, ◌≤◌}
+use native.Mathlib.Omega.{arith}
+use lib.ListN.{length, drop}
+use Rattle.delivery_lines.proofs.NoticeValues.{from_start, held_small, held-most, number-none, no_digit, one-digit, held_one, number-not, digits-whole}
+use Rattle.delivery_lines.proofs.NoticeValues.{value-whole, number_is}
+use Rattle.questions.proofs.Bools.{said-no, said-yes}
+use Rattle.delivery_lines.specs.NoticeLines.{all_digits, value_from, value_of, held}
+use Rattle.delivery_lines.proofs.read_number.Given as goal
+
+-- ---- the loop's invariant and its measure
+abbrev pub invariant-loop-i : goal.invariant-loop-i
+invariant-loop-i l = (l.value ≤ 1000000000) × (l.i ≤ length l.word) × (all_digits (drop l.i l.word) ≡ all_digits l.word)
+    × (held (value_from l.value (drop l.i l.word)) ≡ held (value_of l.word))
+
+abbrev pub decreases-loop-i : goal.decreases-loop-i
+decreases-loop-i l = length l.word - l.i

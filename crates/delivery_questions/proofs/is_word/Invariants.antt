@@ -1,0 +1,17 @@
+use mathlib.Core.Path.{◌≡◌}
+use native.Mathlib.Omega.{arith}
+use Prim.Native.Nat.{◌-◌, ◌≤◌}
+use mathlib.Core.Bool.{true}
+use lib.ListN.{length, get_or}
+use lib.Dec.{eqb}
+use borrow.Author.Tests.{eq-eqb, ne_eqb}
+use Rattle.questions.specs.Search.{every}
+use Rattle.questions.proofs.Search.{every-none, every_more, every-not}
+use Rattle.delivery_questions.proofs.QuestionForms.{other_length, same_word}
+use Rattle.delivery_questions.proofs.is_word.Given as goal
+
+abbrev pub invariant-loop-i : goal.invariant-loop-i
+invariant-loop-i l = (length l.word ≡ length l.name) × (l.i ≤ length l.name) × (every l.i (λ j. eqb (get_or l.word j 0) (get_or l.name j 0)) ≡ true)
+
+abbrev pub decreases-loop-i : goal.decreases-loop-i
+decreases-loop-i l = length l.name - l.i

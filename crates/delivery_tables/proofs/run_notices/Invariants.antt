@@ -1,0 +1,17 @@
+use mathlib.Core.Path.{◌≡◌, refl}
+use Prim.Native.Nat.{◌-◌, ◌≤◌}
+use native.Mathlib.Omega.{arith}
+use lib.ListN.{length}
+use Rattle.table.specs.Table.{sound}
+use Rattle.session_apart.specs.Apart.{table_with}
+use Rattle.delivery_notices.specs.NoticeLists.{notice_at}
+use Rattle.delivery_tables.proofs.NoticesOnTable.{Taking, begins, turns, tenth-turns, ends}
+use Rattle.delivery_tables.proofs.run_notices.Given as goal
+
+abbrev pub invariant-loop-i : goal.invariant-loop-i
+invariant-loop-i l =
+    (l.count ≤ length l.initial.refusals) × (l.i ≤ l.count) × (l.ten ≡ sound (table_with l.rest l.closed l.exchange))
+    × Taking l.id l.calls l.ids l.initial.refusals (table_with l.initial.rest l.initial.closed l.initial.exchange) l.refusals (table_with l.rest l.closed l.exchange) l.i
+
+abbrev pub decreases-loop-i : goal.decreases-loop-i
+decreases-loop-i l = l.count - l.i

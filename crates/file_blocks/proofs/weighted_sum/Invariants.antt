@@ -1,0 +1,12 @@
+use mathlib.Core.Path.{◌≡◌, refl}
+use Prim.Native.Nat.{◌+◌, ◌-◌, ◌*◌, ◌≤◌}
+use native.Mathlib.Omega.{arith}
+use Rattle.file_blocks.specs.Blocks.{weighted_sum}
+use Rattle.file_blocks.proofs.Files.{halves-more}
+use Rattle.file_blocks.proofs.weighted_sum.Given as goal
+
+abbrev pub invariant-loop-i : goal.invariant-loop-i
+invariant-loop-i l = (l.i ≤ 255) × (l.sum ≤ 195075 * l.i) × (l.sum + weighted_sum l.bytes 255 ≡ weighted_sum l.bytes l.i + weighted_sum l.bytes (255 + l.i))
+
+abbrev pub decreases-loop-i : goal.decreases-loop-i
+decreases-loop-i l = 255 - l.i

@@ -1,0 +1,13 @@
+use mathlib.Core.Path.{refl}
+use Prim.Native.Nat.{◌-◌, ◌≤◌}
+use native.Mathlib.Omega.{arith}
+use lib.ListN.{get_or}
+use Rattle.file_calendar.proofs.Filling.{Filled, filled_none, filled_more}
+use Rattle.file_draft.proofs.Cover.{years-kept}
+use Rattle.file_draft.proofs.years_of_map.Given as goal
+
+abbrev pub invariant-loop-i : goal.invariant-loop-i
+invariant-loop-i l = (l.i ≤ l.n) × Filled (λ j. get_or l.map j 0) 736 l.i l.kept
+
+abbrev pub decreases-loop-i : goal.decreases-loop-i
+decreases-loop-i l = l.n - l.i

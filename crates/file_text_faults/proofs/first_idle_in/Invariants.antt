@@ -1,0 +1,17 @@
+use native.Mathlib.Omega.{arith}
+use mathlib.Core.Path.{◌≡◌, sym, ap, ◌∙◌}
+use mathlib.Core.Bool.{not}
+use Prim.Native.Nat.{◌-◌}
+use Rattle.questions.specs.Search.{first_from}
+use Rattle.questions.proofs.Search.{search-none, search-here, search-next}
+use Rattle.calendar.specs.Trading.{calendar_with, some_trades}
+use Rattle.file_text_faults.specs.Faults.{first_idle}
+use Rattle.file_text_faults.proofs.FirstIdleRun.{search-start, no_run}
+use Rattle.file_text_faults.proofs.first_idle_in.Given as goal
+
+abbrev pub invariant-loop-day : goal.invariant-loop-day
+invariant-loop-day l =
+    first_from (λ d. not (some_trades (calendar_with l.cover l.closed) d 7)) 36525 (l.last - l.day) l.day ≡ first_idle (calendar_with l.cover l.closed)
+
+abbrev pub decreases-loop-day : goal.decreases-loop-day
+decreases-loop-day l = l.last - l.day

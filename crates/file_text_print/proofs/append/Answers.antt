@@ -1,0 +1,49 @@
+-- The bytes of a line from a place of a buffer on, and the place after them.
+-- The loop keeps: the buffer is the one at entry with the first i bytes of the line pasted at `at`, i ≤ n ≤ 64, and its length stays.
+use native.Mathlib.Omega.{arith}
+use mathlib.Core.Path.{◌≡◌, refl}
+use Prim.Native.Nat.{◌+◌, ◌-◌, ◌≤◌}
+use lib.ListN.{length, length-map, length-set}
+use lib.Seq.{paste, paste-zero}
+use Rattle.file_text_print.proofs.Building.{byte-pasted}
+use Rattle.file_text_print.proofs.append.Goals as goal
+
+pub loop-i-init : goal.loop-i-init
+loop-i-init c =
+    let l : length c.args.line.bytes ≡ 64 = c.well_formed.1.1.0.1.1.0.1.0.1 in
+    (omega arith, omega arith, omega arith, l, paste-zero c.args.out.now c.args.at c.args.line.bytes, refl)
+
+-- ---- the read and the write are within bounds
+pub bounds-bytes-i : goal.bounds-bytes-i
+bounds-bytes-i c =
+    let v = c.loop-i.invariant in
+    omega (arith, v.1)
+
+pub bounds-out-at : goal.bounds-out-at
+bounds-out-at c =
+    let v = c.loop-i.invariant in
+    omega (arith, v.1, v.2, v.5)
+
+-- ---- one byte more
+pub loop-i-preserved : goal.loop-i-preserved
+loop-i-preserved c =
+    let v = c.loop-i.invariant in (
+      omega arith,
+      v.1,
+      v.2,
+      v.3,
+      rw v.4
+          (byte-pasted c.args.out.now c.args.at c.args.line.bytes c.loop-i.i (omega (arith, v.1, v.2))
+          (omega (arith, v.1, v.3))),
+      simp length-set v.5,
+    )
+
+-- ---- after the last byte
+pub shape_of-out : goal.shape_of-out
+shape_of-out c = c.loop-i.invariant.5
+
+pub returns : goal.returns
+returns c =
+    let v = c.loop-i.invariant in
+    let e : c.loop-i.i ≡ c.args.line.length = omega (arith, v.0) in
+    (refl, rw (← e) v.4)

@@ -1,0 +1,14 @@
+use mathlib.Core.Path.{◌∙◌}
+use Prim.Native.Nat.{◌-◌, ◌≤◌}
+use native.Mathlib.Omega.{arith}
+use Rattle.calendar.specs.Trading.{calendar_of_maps}
+use Rattle.file_calendar.proofs.Filling.{Filled, filled_none, filled_more}
+use Rattle.file_draft.specs.Drafts.{block_byte}
+use Rattle.file_write.proofs.Buffers.{block_made}
+use Rattle.file_write.proofs.block_for.Given as goal
+
+abbrev pub invariant-loop-j : goal.invariant-loop-j
+invariant-loop-j l = (l.j ≤ 510) × Filled (block_byte (calendar_of_maps l.cover l.closed l.exchange) l.records l.k) 512 l.j l.body
+
+abbrev pub decreases-loop-j : goal.decreases-loop-j
+decreases-loop-j l = 510 - l.j

@@ -1,0 +1,26 @@
+use Rattle.listing.proofs.Fresh.{mat_of}
+use Rattle.listing.specs.Months.{set_at, rule_of}
+use Rattle.listing.proofs.ListLoops.{rest, Walking}
+use Rattle.calendar.specs.Trading.{calendar_with}
+use Rattle.listing.specs.Rules.{front}
+use lib.ListN.{replicate}
+use mathlib.Core.List.{◌++◌}
+use Prim.Native.Nat.{◌+◌, ◌-◌, ◌≤◌}
+use Rattle.listing.proofs.list_in.Given as goal
+
+abbrev pub invariant-loop-j : goal.invariant-loop-j
+invariant-loop-j l =
+    Walking (mat_of (calendar_with l.cover l.closed) l.kind l.group) l.end l.row
+    (front (rule_of (calendar_with l.cover l.closed) l.kind l.group) (calendar_with l.cover l.closed) l.date) l.maturities l.listed l.from l.complete
+    (replicate (l.count - l.j) (set_at l.row l.step) ++ rest l.row (l.step + 1)) × (l.count ≤ 255)
+
+abbrev pub decreases-loop-j : goal.decreases-loop-j
+decreases-loop-j l = l.count - l.j
+
+abbrev pub invariant-steps : goal.invariant-steps
+invariant-steps l =
+    Walking (mat_of (calendar_with l.cover l.closed) l.kind l.group) l.end l.row
+    (front (rule_of (calendar_with l.cover l.closed) l.kind l.group) (calendar_with l.cover l.closed) l.date) l.maturities l.listed l.from l.complete (rest l.row l.step)
+
+abbrev pub decreases-steps : goal.decreases-steps
+decreases-steps l = 4 - l.step

@@ -1,0 +1,6 @@
+-- What was read lies within the buffer.
+use mathlib.Core.Path.{refl}
+use Rattle.reconcile_run.proofs.files.read_notices.Goals as goal
+
+pub returns : goal.returns
+returns c = (refl, c.read_file_or_tell-read.ensures.0.0)

@@ -1,0 +1,76 @@
+-- Shown: the answer is the definition's joining. A question answered yes leaves those after it (`yes-10`, `yes-30`), and a refusal is
+-- the first no among those left: an index below the count says that the table is queued already. If it is not, the queue has fewer
+-- than 200 tables, since its numbers are distinct and below 200 (`join-room`), and the table is put at the end.
+use Rattle.rounds.specs.Rounds.{queue_right, join_asks, join_call}
+use Rattle.rounds.proofs.Queues.{right-count}
+use Rattle.rounds.proofs.QueueQuestions.{change-no, change-yes, queued-there, not-queued, join-room}
+use Rattle.questions.specs.Questions.{first_no}
+use Rattle.questions.proofs.Asks.{no-asks, first-yes}
+use Rattle.questions.proofs.Bools.{said-no, said-yes}
+use borrow.Author.Tests.{le-leb, lt-leb}
+use native.Mathlib.Omega.{arith}
+use Prim.Native.Nat.{ℕ, ◌≤◌}
+use mathlib.Core.Path.{◌≡◌, refl, ◌∙◌, ap}
+use mathlib.Core.Bool.{true, not}
+use lib.ListN.{length, length-map, drop}
+use Rattle.rounds.proofs.Queue.join.Goals as goal
+use Rattle.rounds.proofs.Queue.join.Goals.{Start, Else-not-is_right, Else-table-gt199}
+
+-- ---- the yeses
+-- the first k questions are answered yes: the refusal is that of the others
+abbrev Passed : ℕ → Start → Type 0
+Passed k s = first_no (join_asks s.args.self s.args.table) ≡ first_no (drop k (join_asks s.args.self s.args.table))
+
+right : (c : Else-not-is_right) → queue_right c.args.self ≡ true
+right c = said-yes c.is_right.ensures c.if-not-is_right.false
+
+yes-10 : (c : Else-not-is_right) → Passed 1 c.before.before
+yes-10 c = first-yes 10 _ (right c)
+
+yes-30 : (c : Else-table-gt199) → Passed 2 c.before.before.before
+yes-30 c = yes-10 c.before ∙ first-yes 30 _ (le-leb _ _ c.if-table-gt199.false)
+
+-- a right queue has no more numbers than places
+fits : (c : Else-not-is_right) → c.args.self.count ≤ length c.args.self.tables
+fits c =
+    let s = c.before.before in
+    let l : length s.args.self.tables ≡ 200 = s.well_formed.0.1.1.0.1.0.1 in
+    omega (arith, l, right-count s.args.self (right c))
+
+-- ---- the refusals
+pub returns-then-not-is_right : goal.returns-then-not-is_right
+unfolding join_call
+returns-then-not-is_right c = c.unchanged.ensures ∙ change-no _ _ _ 9 _ refl (said-no c.is_right.ensures c.if-not-is_right.true)
+
+pub returns-then-table-gt199 : goal.returns-then-table-gt199
+unfolding join_call
+returns-then-table-gt199 c = c.unchanged-then-table-gt199.ensures ∙ change-no _ _ _ 29 _ (yes-10 c.before.before) (lt-leb _ _ c.if-table-gt199.true)
+
+pub index_of-index-requires : goal.index_of-index-requires
+index_of-index-requires c = right-count _ (right c.before.before.before)
+
+pub returns-then-index-n : goal.returns-then-index-n
+unfolding join_call
+returns-then-index-n c =
+    let at-if2 = c.before.before.before.before.before in
+    let a = at-if2.args in
+    let e = c.index_of-index.ensures in
+    let there = queued-there a.self a.table (fits at-if2.before) (rw e.0 at c.if-index-n.true) in
+    c.unchanged-then-index-n.ensures ∙ change-no _ _ _ 30 _ (yes-30 at-if2) (ap not there)
+
+-- ---- there is room, and the table joins
+pub with_last-requires : goal.with_last-requires
+with_last-requires c =
+    let at-if2 = c.before.before.before.before in
+    let a = at-if2.args in
+    let e = c.index_of-index.ensures in
+    join-room a.self a.table (fits at-if2.before) (right at-if2.before) (le-leb _ _ at-if2.if-table-gt199.false) (rw e.0 at c.if-index-n.false)
+
+pub returns : goal.returns
+unfolding join_call
+returns c =
+    let at-if2 = c.before.before.before.before.before in
+    let a = at-if2.args in
+    let e = c.index_of-index.ensures in
+    let out = not-queued a.self a.table (fits at-if2.before) (rw e.0 at c.if-index-n.false) in
+    c.with_last.ensures ∙ change-yes _ _ _ (yes-30 at-if2 ∙ first-yes 31 _ (ap not out) ∙ no-asks)

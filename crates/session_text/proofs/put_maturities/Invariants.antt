@@ -1,0 +1,17 @@
+use native.Mathlib.Omega.{arith}
+use Rattle.session_text.proofs.TextsInBuffer.{then}
+use Rattle.session_text.proofs.TermsTexts.{no_lines, more-lines, lines-done, no-width, lines-wider, lines-rise}
+use Rattle.session_text.specs.TermsText.{maturities_text, lines_width}
+use Rattle.session_text.specs.Buffer.{Written}
+use lib.ListN.{length}
+use Prim.Native.Nat.{◌+◌, ◌-◌, ◌≤◌}
+use Rattle.session_text.proofs.put_maturities.Given as goal
+
+-- ---- what the loop keeps
+abbrev pub invariant-loop-i : goal.invariant-loop-i
+invariant-loop-i l =
+    (l.n ≤ 15) × (lines_width l.kind l.n ≤ 465) × (l.at + 465 ≤ length l.initial.out) × (l.i ≤ l.n) × (l.next ≤ l.at + lines_width l.kind l.i)
+    × Written l.initial.out l.out l.at l.next (maturities_text l.kind l.i l.maturities)
+
+abbrev pub decreases-loop-i : goal.decreases-loop-i
+decreases-loop-i l = l.n - l.i

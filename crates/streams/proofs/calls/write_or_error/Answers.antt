@@ -1,0 +1,6 @@
+-- What is answered is the last call's answer, which lies within the buffer.
+use Rattle.streams.proofs.TransferAnswers.{answer-within}
+use Rattle.streams.proofs.calls.write_or_error.Goals as goal
+
+pub returns-then-not-interrupted : goal.returns-then-not-interrupted
+returns-then-not-interrupted c = answer-within _ _ _ c.transfer_of-moved.ensures

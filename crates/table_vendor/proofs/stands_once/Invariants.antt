@@ -1,0 +1,16 @@
+use Rattle.table_vendor.specs.VendorPasses.{entry_count}
+use Rattle.table_vendor.proofs.ListEntries.{times-next, day-next, once-not, once-if, once-none}
+use Rattle.table_vendor.specs.Vendor.{entries_of, times, vendor_day_in}
+use mathlib.Core.Path.{◌≡◌, refl, ◌∙◌, sym}
+use Prim.Native.Nat.{◌-◌, ◌*◌, ◌≤◌, ◌<◌}
+use native.Mathlib.Omega.{arith}
+use lib.ListN.{get_or, drop}
+use Rattle.table_vendor.proofs.stands_once.Given as goal
+
+-- ---- what the loop keeps
+abbrev pub invariant-loop-j : goal.invariant-loop-j
+invariant-loop-j l = (l.n ≡ entry_count l.list) × (2 * l.n ≤ 18446744073709551616) × (times (drop l.j (entries_of l.list)) l.key ≡ times (entries_of l.list) l.key)
+    × (vendor_day_in (drop l.j (entries_of l.list)) l.key ≡ vendor_day_in (entries_of l.list) l.key)
+
+abbrev pub decreases-loop-j : goal.decreases-loop-j
+decreases-loop-j l = l.n - l.j
