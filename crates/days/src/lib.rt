@@ -5,7 +5,7 @@ ghost use Rattle.std.specs.Prelude.{◌≡◌, true, ◌+◌, ◌≤◌, ◌<◌
 ghost use Rattle.days.specs.Gregorian.{leap_year, month_length, weekday_of, follows_months};
 ghost use Rattle.days.specs.Dates.{valid_date, month_of, day_call, date_call, day_answer, date_answer, first_of, year_of, year_start, day_in_year, march_in, start_in};
 
-#[derive(Drop)]
+#[derive(Clone, Copy)]
 pub struct Date {
     pub year: u16,
     pub month: u16,
@@ -13,14 +13,14 @@ pub struct Date {
 }
 
 // The day number of a date, or the refusal 23.
-#[derive(Drop)]
+#[derive(Clone, Copy)]
 pub enum DayAnswer {
     Day(u16),
     NotADate,
 }
 
 // The date of a day number, or the refusal 23.
-#[derive(Drop)]
+#[derive(Clone, Copy)]
 pub enum DateAnswer {
     Is(Date),
     NotADay,

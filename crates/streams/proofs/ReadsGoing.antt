@@ -1,6 +1,7 @@
 -- Reads that go on until they have brought enough: what holds after some of them, and at the end.
 -- Assumes nothing.
-use Rattle.std.proofs.Common.{◌≡◌, ℕ, zero, suc, ◌+◌, ◌-◌, ◌%◌, ◌^◌, ◌<◌, ◌≤◌, Bool, true, false, ◌&&◌, eqb, ltb, ◌⊎◌, List, length, sym, refl, ap, ◌∙◌, inl, inr, true≢false, arith, ltb-false, ltb-true, lt-ltb, eqb-true}
+use Rattle.std.proofs.Common.{◌≡◌, ℕ, zero, suc, ◌+◌, ◌-◌, ◌%◌, ◌^◌, ◌<◌, ◌≤◌, Bool, true, false, ◌&&◌, eqb, ltb, ◌⊎◌, List, length, sym, refl, ap}
+use Rattle.std.proofs.Common.{◌∙◌, inl, inr, true≢false, arith, ltb-true, eqb-true}
 use borrow.Author.Tests.{eqb-false}
 use Rattle.io.proofs.Counting.{prefix_len_of_le}
 use Rattle.streams.specs.declared.calls.Transfer.{Transfer}
@@ -20,13 +21,6 @@ test-yes n enough room left e =
     let p = both (ltb n enough) (ltb n room && ltb 0 left) e in
     let q = both (ltb n room) (ltb 0 left) p.1 in
     (ltb-true n enough p.0, ltb-true n room q.0, ltb-true 0 left q.1)
-
--- one of the three does not hold: where it is not one of the others, no read is left
-pub test-no : (n enough room left : ℕ) → (ltb n enough && (ltb n room && ltb 0 left)) ≡ false → n < enough → n < room → left ≡ 0
-test-no n enough room left e a b =
-    let f : ltb 0 left ≡ false = rw (lt-ltb n enough a, lt-ltb n room b) at e in
-    let h : left ≤ 0 = ltb-false 0 left f in
-    omega (arith, h)
 
 -- ---- the reads
 

@@ -1,7 +1,6 @@
 -- Question 29: the new size and the new price are in range. A new size out of range is a no (`measure-no`); one in range fits 32 bits (`size-bound`),
 -- and the new price, made from it, decides (`measure-is`).
 use native.Mathlib.Omega.{arith}
-use borrow.Author.Tests.{not-true, not-false}
 use Rattle.amounts.proofs.Rounding.{size-bound, measure-no, measure-is}
 use Rattle.amounts.proofs.measure_right.Goals as goal
 

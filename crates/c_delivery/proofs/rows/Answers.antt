@@ -1,5 +1,4 @@
 -- Question 10, the room, then the rows that the library prints from the start of the buffer.
-use borrow.Author.Tests.{not-true}
 use Rattle.questions.proofs.Bools.{said-yes}
 use Rattle.c_delivery.proofs.Delivering.{not_sound, no_room, all-rows}
 use Rattle.c_delivery.proofs.rows.Goals as goal

@@ -1,3 +1,4 @@
+-- The loop keeps: i is at most n, and d is the i-th exchange day after the day. A turn steps by `nth-more`, and at the end i is n.
 use Rattle.calendar.specs.Trading.{calendar_of_maps, nth_exchange_day}
 use Prim.Native.Nat.{◌-◌, ◌≤◌}
 use mathlib.Core.Path.{◌≡◌}

@@ -6,7 +6,7 @@ use Rattle.questions.proofs.Search.{every-none, every-add}
 use Rattle.questions.proofs.Bools.{said-no, said-yes}
 use mathlib.Core.Bool.{true}
 use mathlib.Core.Path.{◌≡◌, ◌∙◌, sym, ap}
-use Prim.Native.Nat.{ℕ, ◌+◌, ◌-◌, ◌*◌, ◌≤◌}
+use Prim.Native.Nat.{ℕ, ◌+◌, ◌*◌}
 use native.Mathlib.Omega.{arith}
 use Rattle.calendar_checks.proofs.first_is_clean.Goals as goal
 

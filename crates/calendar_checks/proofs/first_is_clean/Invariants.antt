@@ -1,11 +1,10 @@
-use Rattle.calendar_checks.proofs.Maps.{slot_day, slots-year, slots-after, every-fails}
+-- The loop keeps: k is at most the number of maps used, and every slot of the first k years passes. `slots-year`: these are the days that
+-- `year_is_clean` looks at. A no fails the whole (`every-fails`); after the maps used no bit may be set (`slots-after`).
+use Rattle.calendar_checks.proofs.Maps.{slot_day}
 use Rattle.questions.specs.Search.{every}
-use Rattle.questions.proofs.Search.{every-none, every-add}
-use Rattle.questions.proofs.Bools.{said-no, said-yes}
 use mathlib.Core.Bool.{true}
-use mathlib.Core.Path.{◌≡◌, ◌∙◌, sym, ap}
-use Prim.Native.Nat.{ℕ, ◌+◌, ◌-◌, ◌*◌, ◌≤◌}
-use native.Mathlib.Omega.{arith}
+use mathlib.Core.Path.{◌≡◌}
+use Prim.Native.Nat.{◌-◌, ◌*◌, ◌≤◌}
 use Rattle.calendar_checks.proofs.first_is_clean.Given as goal
 
 abbrev pub invariant-loop-k : goal.invariant-loop-k

@@ -1,11 +1,10 @@
 -- Question 6, of the runs in a part of the cover. The loop keeps `Passed`: the runs that begin before `first` hold a trading day, `day` lies in the
 -- week from `first` on, and the days of that week after it do not trade. A turn takes `first` past a trading day, or `day` one back (`passed-step`).
-use Rattle.calendar.proofs.Weeks.{Passed, passed_start, passed-step, passed-less, passed-fails, passed-ends, idle-first, not-idle-first}
+use Rattle.calendar.proofs.Weeks.{passed_start, passed-step, passed-less, passed-fails, passed-ends, idle-first, not-idle-first}
 use Rattle.calendar.specs.Trading.{calendar_with, cover_start, cover_end, in_cover, closed_on, trading_day}
 use Rattle.calendar.specs.Bits.{bit_at}
 use Rattle.questions.proofs.Bools.{and_both}
 use borrow.Author.Tests.{lt-ltb, le-leb}
-use Prim.Native.Nat.{◌+◌, ◌-◌, ◌*◌}
 use native.Mathlib.Omega.{arith}
 use mathlib.Core.Path.{◌≡◌, sym, ◌∙◌}
 use mathlib.Core.Bool.{true}

@@ -1,12 +1,8 @@
-use Rattle.calendar.proofs.Weeks.{Passed, passed_start, passed-step, passed-less, passed-fails, passed-ends, idle-first, not-idle-first}
-use Rattle.calendar.specs.Trading.{calendar_with, cover_start, cover_end, in_cover, closed_on, trading_day}
-use Rattle.calendar.specs.Bits.{bit_at}
-use Rattle.questions.proofs.Bools.{and_both}
-use borrow.Author.Tests.{lt-ltb, le-leb}
+-- The loop keeps `Passed`: the runs that begin before `first` hold a trading day, `day` lies in the week from `first` on, and the days of that week
+-- after it do not trade. A turn takes `first` past a trading day, or `day` one back (`passed-step`).
+use Rattle.calendar.proofs.Weeks.{Passed}
+use Rattle.calendar.specs.Trading.{calendar_with, trading_day}
 use Prim.Native.Nat.{◌+◌, ◌-◌, ◌*◌}
-use native.Mathlib.Omega.{arith}
-use mathlib.Core.Path.{◌≡◌, sym, ◌∙◌}
-use mathlib.Core.Bool.{true}
 use Rattle.calendar_checks.proofs.weeks_trade.Given as goal
 
 abbrev pub invariant-loop-first : goal.invariant-loop-first

@@ -9,7 +9,7 @@ use Rattle.questions.proofs.Search.{every-none, every-add}
 use Rattle.calendar.specs.Trading.{may_close}
 use mathlib.Core.Bool.{Bool, true}
 use mathlib.Core.Path.{◌≡◌, ◌∙◌, sym, ap}
-use Prim.Native.Nat.{ℕ, ◌+◌, ◌-◌, ◌*◌, ◌/◌, ◌^◌, ◌≤◌}
+use Prim.Native.Nat.{ℕ, ◌+◌, ◌*◌, ◌/◌, ◌^◌}
 use native.Mathlib.Omega.{arith}
 use Rattle.calendar_checks.proofs.year_is_clean.Goals as goal
 use Rattle.calendar_checks.proofs.year_is_clean.Goals.{After-is_apart}

@@ -1,14 +1,10 @@
-use Rattle.calendar_checks.proofs.Maps.{map_day, weeks-barred, every-split, every-fails}
-use Rattle.calendar_words.proofs.DayWords.{word-clean}
-use Rattle.calendar_words.proofs.Equations.{rest-shows, rest_below, weeks-shows, weeks-below}
+-- The loop keeps: j is at most 6, and the first 56 · j days pass. A word is apart from the barred days just where its days pass (`word-clean`), for
+-- eight weeks (`weeks-clean`) and for the 32 days after them; a no fails the whole (`every-fails`).
+use Rattle.calendar_checks.proofs.Maps.{map_day}
 use Rattle.questions.specs.Search.{every}
-use Rattle.questions.proofs.Bools.{said-no, said-yes}
-use Rattle.questions.proofs.Search.{every-none, every-add}
-use Rattle.calendar.specs.Trading.{may_close}
-use mathlib.Core.Bool.{Bool, true}
-use mathlib.Core.Path.{◌≡◌, ◌∙◌, sym, ap}
-use Prim.Native.Nat.{ℕ, ◌+◌, ◌-◌, ◌*◌, ◌/◌, ◌^◌, ◌≤◌}
-use native.Mathlib.Omega.{arith}
+use mathlib.Core.Bool.{true}
+use mathlib.Core.Path.{◌≡◌}
+use Prim.Native.Nat.{◌-◌, ◌*◌, ◌≤◌}
 use Rattle.calendar_checks.proofs.year_is_clean.Given as goal
 
 abbrev pub invariant-loop-j : goal.invariant-loop-j

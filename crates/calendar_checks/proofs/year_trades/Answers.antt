@@ -2,12 +2,12 @@
 -- with the last eight days of the first j times eight weeks, and a yes so far carries the runs to the end of these weeks. A turn is `next-weeks`;
 -- a no claims nothing.
 use Rattle.calendar_words.proofs.Equations.{weekends-are, weeks-shows, weeks-below, moved}
-use Rattle.calendar_words.proofs.Windows.{Next, next-first, next-weeks, year-in-cover}
+use Rattle.calendar_words.proofs.Windows.{next-first, next-weeks, year-in-cover}
 use Rattle.questions.proofs.Bools.{clash, said-yes}
 use Rattle.calendar.specs.Trading.{calendar_with}
 use Rattle.calendar.proofs.Covered.{years}
 use mathlib.Core.Path.{◌≡◌, refl}
-use Prim.Native.Nat.{◌-◌, ◌*◌, ◌≤◌, ◌<◌}
+use Prim.Native.Nat.{◌*◌, ◌<◌}
 use native.Mathlib.Omega.{arith}
 use Rattle.calendar_checks.proofs.year_trades.Goals as goal
 

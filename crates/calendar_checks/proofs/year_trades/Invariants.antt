@@ -1,11 +1,8 @@
-use Rattle.calendar_words.proofs.Equations.{weekends-are, weeks-shows, weeks-below, moved}
-use Rattle.calendar_words.proofs.Windows.{Next, next-first, next-weeks, year-in-cover}
-use Rattle.questions.proofs.Bools.{clash, said-yes}
+-- The loop keeps: j is at most 6, and `Next`: the window ends with the last eight days of the first j times eight weeks, and a yes so far carries
+-- the runs to the end of these weeks. A turn is `next-weeks`; a no claims nothing.
+use Rattle.calendar_words.proofs.Windows.{Next}
 use Rattle.calendar.specs.Trading.{calendar_with}
-use Rattle.calendar.proofs.Covered.{years}
-use mathlib.Core.Path.{◌≡◌, refl}
-use Prim.Native.Nat.{◌-◌, ◌*◌, ◌≤◌, ◌<◌}
-use native.Mathlib.Omega.{arith}
+use Prim.Native.Nat.{◌-◌, ◌≤◌}
 use Rattle.calendar_checks.proofs.year_trades.Given as goal
 
 abbrev pub invariant-loop-j : goal.invariant-loop-j

@@ -1,10 +1,8 @@
-use Rattle.calendar_words.proofs.Windows.{TradesUntil, none_yet, all-trade}
-use Rattle.questions.proofs.Bools.{clash, said-yes}
-use Rattle.calendar.specs.Trading.{calendar_with, cover_end}
+-- The loop keeps: k is at most the cover's years, and the runs that end before year k trade. After the last year these are all (`all-trade`).
+use Rattle.calendar_words.proofs.Windows.{TradesUntil}
+use Rattle.calendar.specs.Trading.{calendar_with}
 use Rattle.days.specs.Dates.{year_start}
-use mathlib.Core.Path.{◌≡◌, refl, ap}
 use Prim.Native.Nat.{◌+◌, ◌-◌, ◌≤◌}
-use native.Mathlib.Omega.{arith}
 use Rattle.calendar_checks.proofs.years_trade.Given as goal
 
 abbrev pub invariant-loop-k : goal.invariant-loop-k

@@ -1,12 +1,10 @@
 -- The calendar of a seed and a cover; 4 and zeros where the cover is not valid. The loop keeps: the end is at most 36,525, and going on from this
 -- day, value and calendar makes what the start makes. A turn is `made-next`; at the end `walked` gives the definition's calendar.
-use Prim.Native.Nat.{◌-◌, ◌≤◌}
-use mathlib.Core.Path.{◌≡◌, refl, ◌∙◌, sym}
+use mathlib.Core.Path.{refl, ◌∙◌, sym}
 use mathlib.Core.List.{[]}
-use native.Mathlib.Omega.{arith}
 use Rattle.questions.proofs.Asks.{first-no, refused}
 use Rattle.questions.proofs.Bools.{said-no, said-yes}
-use Rattle.calendar_synthetic.specs.Generated.{made, made_call}
+use Rattle.calendar_synthetic.specs.Generated.{made_call}
 use Rattle.calendar_synthetic.proofs.EachDay.{made-next, walked}
 use Rattle.calendar_synthetic.proofs.make.Goals as goal
 

@@ -1,10 +1,9 @@
-use Rattle.calendar_words.proofs.MapBytes.{within_in, bytes-more}
+-- The loop keeps: i is at most 736, and `days` is 0 just where the first i bytes pass. A turn adds one byte by `bytes-more`; at the end i is 736.
+use Rattle.calendar_words.proofs.MapBytes.{within_in}
 use Rattle.questions.specs.Search.{every}
-use Rattle.questions.proofs.Search.{every-none}
 use lib.Dec.{eqb}
-use mathlib.Core.Path.{◌≡◌, sym}
+use mathlib.Core.Path.{◌≡◌}
 use Prim.Native.Nat.{◌-◌, ◌≤◌}
-use native.Mathlib.Omega.{arith}
 use Rattle.calendar_words.proofs.all_beyond.Given as goal
 
 abbrev pub invariant-loop-i : goal.invariant-loop-i

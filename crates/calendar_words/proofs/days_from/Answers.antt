@@ -4,11 +4,10 @@ use Rattle.calendar_words.proofs.MapBytes.{none_in, bytes-more}
 use Rattle.questions.specs.Search.{every}
 use Rattle.questions.proofs.Search.{every-none}
 use Rattle.calendar.specs.Bits.{byte_bit}
-use lib.Dec.{eqb}
 use lib.ListN.{get_or}
 use mathlib.Core.Bool.{not}
 use mathlib.Core.Path.{◌≡◌, ◌∙◌, sym, ap}
-use Prim.Native.Nat.{ℕ, ◌+◌, ◌-◌, ◌≤◌}
+use Prim.Native.Nat.{ℕ, ◌+◌, ◌-◌}
 use native.Mathlib.Omega.{arith}
 use Rattle.calendar_words.proofs.days_from.Goals as goal
 

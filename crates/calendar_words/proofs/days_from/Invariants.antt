@@ -1,13 +1,10 @@
-use Rattle.calendar_words.proofs.MapBytes.{none_in, bytes-more}
+-- The loop keeps: i lies between `at` and 736, and `days` is 0 just where none of the i − at bytes so far has a day. A turn adds one byte by
+-- `bytes-more`; at the end i is 736.
+use Rattle.calendar_words.proofs.MapBytes.{none_in}
 use Rattle.questions.specs.Search.{every}
-use Rattle.questions.proofs.Search.{every-none}
-use Rattle.calendar.specs.Bits.{byte_bit}
 use lib.Dec.{eqb}
-use lib.ListN.{get_or}
-use mathlib.Core.Bool.{not}
-use mathlib.Core.Path.{◌≡◌, ◌∙◌, sym, ap}
-use Prim.Native.Nat.{ℕ, ◌+◌, ◌-◌, ◌≤◌}
-use native.Mathlib.Omega.{arith}
+use mathlib.Core.Path.{◌≡◌}
+use Prim.Native.Nat.{◌-◌, ◌≤◌}
 use Rattle.calendar_words.proofs.days_from.Given as goal
 
 abbrev pub invariant-loop-i : goal.invariant-loop-i

@@ -1,6 +1,5 @@
 -- `drafts` is shown to end. The loop keeps: the index is at most 1,000; it returns where `draft` finds none. By arithmetic.
 use Prim.Native.Nat.{◌-◌, ◌≤◌}
-use native.Mathlib.Omega.{arith}
 use Rattle.compare_writing.proofs.drafts.Given as goal
 
 abbrev pub invariant-loop-index : goal.invariant-loop-index

@@ -1,6 +1,5 @@
 -- `files` is shown to end. The loop keeps: the index is at most 1,000; it returns where `one` finds no file. By arithmetic.
 use Prim.Native.Nat.{◌-◌, ◌≤◌}
-use native.Mathlib.Omega.{arith}
 use Rattle.compare_writing.proofs.files.Given as goal
 
 abbrev pub invariant-loop-index : goal.invariant-loop-index

@@ -1,9 +1,7 @@
 -- Each turn makes one of the reads that are left and takes in the bytes that it brought; where none is left, the list was read.
 use native.Mathlib.Omega.{arith}
-use mathlib.Core.Path.{◌≡◌, sym, ◌∙◌}
-use lib.ListN.{length}
+use mathlib.Core.Path.{sym, ◌∙◌}
 use lib.Seq.{length-take-le}
-use Rattle.file_text_told.specs.Whole.{ReadTo}
 use Rattle.file_text_told.proofs.Whole.{nothing_read, read-on}
 use Rattle.compose_run.proofs.read_list.Goals as goal
 

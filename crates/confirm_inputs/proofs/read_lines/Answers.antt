@@ -1,10 +1,8 @@
 -- The lines that are left, with what is known, print what all lines print; each line takes bytes, so the numbers fit the list.
 use mathlib.Core.Path.{refl}
-use Prim.Native.Nat.{◌-◌}
 use native.Mathlib.Omega.{arith}
-use lib.ListN.{length}
 use Rattle.confirm_inputs.proofs.VerdictTexts.{said}
-use Rattle.confirm_inputs.proofs.InputLines.{Going, begins, room, all_read, count-few, ends-bad, ends-refused, goes_on}
+use Rattle.confirm_inputs.proofs.InputLines.{begins, room, all_read, count-few, ends-bad, ends-refused, goes_on}
 use Rattle.confirm_inputs.proofs.read_lines.Goals as goal
 
 pub loop-from-init : goal.loop-from-init

@@ -1,9 +1,7 @@
-use mathlib.Core.Path.{refl}
+-- The lines that are left, with what is known, print what all lines print; each line takes bytes, so the numbers fit the list.
 use Prim.Native.Nat.{◌-◌}
-use native.Mathlib.Omega.{arith}
 use lib.ListN.{length}
-use Rattle.confirm_inputs.proofs.VerdictTexts.{said}
-use Rattle.confirm_inputs.proofs.InputLines.{Going, begins, room, all_read, count-few, ends-bad, ends-refused, goes_on}
+use Rattle.confirm_inputs.proofs.InputLines.{Going}
 use Rattle.confirm_inputs.proofs.read_lines.Given as goal
 
 abbrev pub invariant-loop-from : goal.invariant-loop-from

@@ -1,8 +1,7 @@
 -- All bytes of the text are handed over, from the first write on.
-use mathlib.Core.Path.{sym, ap}
+use mathlib.Core.Path.{ap}
 use native.Mathlib.Omega.{arith}
 use lib.ListN.{length}
-use lib.Seq.{length-take-le}
 use Rattle.confirm_inputs.proofs.VerdictLength.{confirm-short}
 use Rattle.confirm_run.proofs.write_out.Goals as goal
 

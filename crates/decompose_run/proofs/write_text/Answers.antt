@@ -1,11 +1,9 @@
 -- What was written is the text of the lines before the next one; each part that is printed comes next, and at the end all lines are there.
 use native.Mathlib.Omega.{arith}
-use mathlib.Core.Path.{◌≡◌, refl, sym, ◌∙◌}
+use mathlib.Core.Path.{refl, sym, ◌∙◌}
 use mathlib.Core.Bool.{true≢false}
-use Prim.Native.Nat.{◌-◌, ◌≤◌, ◌<◌}
-use lib.ListN.{length}
+use Prim.Native.Nat.{◌<◌}
 use Rattle.questions.proofs.Bools.{said-no, said-yes}
-use Rattle.file_text_print.specs.Contents.{line_count, lines_text}
 use Rattle.file_text_print.proofs.WholeText.{no_lines, lines_more, all_lines, next-lines}
 use Rattle.decompose_run.proofs.write_text.Goals as goal
 

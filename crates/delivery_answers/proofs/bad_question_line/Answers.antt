@@ -1,5 +1,4 @@
 -- The line of a bad question is `BAD `, its number and a line feed on an empty line: what the four calls add, joined.
-use mathlib.Core.Path.{refl}
 use Rattle.file_text_print.proofs.Building.{then, one, first}
 use Rattle.delivery_answers.proofs.ReplyTexts.{bytes}
 use Rattle.delivery_answers.specs.Replies.{bad_question_text}

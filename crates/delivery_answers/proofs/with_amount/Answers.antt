@@ -1,6 +1,5 @@
 -- `with_amount` adds the sign, the whole number, a point and the two parts of four digits: what the five calls add, joined as in `amount_text`.
 use Rattle.file_text_print.proofs.Building.{then, one}
-use native.Mathlib.Omega.{arith}
 use Rattle.delivery_answers.specs.Replies.{amount_text}
 use Rattle.delivery_answers.proofs.with_amount.Goals as goal
 

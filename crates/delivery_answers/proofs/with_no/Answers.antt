@@ -1,5 +1,4 @@
 -- `with_no` adds the bytes `NO`, then a space and the number: what the two calls add, joined.
-use mathlib.Core.Path.{refl}
 use Rattle.file_text_print.proofs.Building.{then}
 use Rattle.delivery_answers.specs.Replies.{no_text}
 use Rattle.delivery_answers.proofs.ReplyTexts.{bytes}

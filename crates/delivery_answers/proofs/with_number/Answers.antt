@@ -1,7 +1,6 @@
 -- `with_number` adds a 64-bit number without zeros before it. It has at most 8 digits (`number-8`), at most 16 (`number-16`)
 -- or more (`number-24`); the groups of eight after the first are printed whole, and each is below 100,000,000.
 use Rattle.file_text_print.proofs.Building.{then}
-use native.Mathlib.Omega.{arith}
 use Rattle.delivery_answers.proofs.ReplyTexts.{number-8, number-16, number-24}
 use Rattle.delivery_answers.proofs.with_number.Goals as goal
 

@@ -1,7 +1,6 @@
 -- `with_short` adds a number of at most eight digits without zeros before it: below 10,000 as
 -- it is (`short-few`), else the digits before the last four and then those four (`short-many`).
 use Rattle.file_text_print.proofs.Building.{then}
-use native.Mathlib.Omega.{arith}
 use Rattle.delivery_answers.proofs.ReplyTexts.{short-few, short-many}
 use Rattle.delivery_answers.proofs.with_short.Goals as goal
 

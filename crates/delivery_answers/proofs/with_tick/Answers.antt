@@ -1,5 +1,4 @@
 -- `with_tick` adds the number of a refused price (`tick-no`), else the bytes `OK` (`tick-yes`).
-use mathlib.Core.Path.{refl}
 use Rattle.delivery_answers.proofs.ReplyTexts.{tick-no, tick-yes, bytes}
 use Rattle.delivery_answers.proofs.with_tick.Goals as goal
 

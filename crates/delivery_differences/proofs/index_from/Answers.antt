@@ -1,10 +1,8 @@
 -- `index_from` gives the first row with a key from one on, or the place after the last. The loop keeps: j with the index of the key
 -- among the rows from j on is what it is from `from` on. It returns where the key is (`index-here`) or past the last row (`index-end`).
-use mathlib.Core.Path.{◌≡◌, refl, ◌∙◌, sym}
+use mathlib.Core.Path.{refl, ◌∙◌, sym}
 use native.Mathlib.Omega.{arith}
-use Prim.Native.Nat.{◌+◌, ◌-◌}
-use lib.ListN.{length, drop}
-use Rattle.delivery_differences.specs.DifferencePasses.{row_keys_at, index_in}
+use Rattle.delivery_differences.specs.DifferencePasses.{row_keys_at}
 use Rattle.delivery_differences.proofs.KeyRows.{index-here, index-next, index-end, keys-long}
 use Rattle.delivery_differences.proofs.index_from.Goals as goal
 

@@ -1,9 +1,9 @@
-use mathlib.Core.Path.{◌≡◌, refl, ◌∙◌, sym}
-use native.Mathlib.Omega.{arith}
+-- The loop keeps: j with the index of the key among the rows from j on is what it is from `from` on. It returns where the key is (`index-here`) or
+-- past the last row (`index-end`).
+use mathlib.Core.Path.{◌≡◌}
 use Prim.Native.Nat.{◌+◌, ◌-◌}
 use lib.ListN.{length, drop}
 use Rattle.delivery_differences.specs.DifferencePasses.{row_keys_at, index_in}
-use Rattle.delivery_differences.proofs.KeyRows.{index-here, index-next, index-end, keys-long}
 use Rattle.delivery_differences.proofs.index_from.Given as goal
 
 -- ---- the loop's invariant and its measure

@@ -1,12 +1,11 @@
 -- `least_listed` gives the least of a key found before and the listed keys that differ. The loop keeps:
 -- n is at most 15 and within the list, and the least of what is found so far and the keys from i on is
 -- that of `found` and all of them; a turn is `least-next`, and at n none is left (`least-done`).
-use mathlib.Core.Path.{◌≡◌, refl, ◌∙◌, sym}
+use mathlib.Core.Path.{refl, ◌∙◌, sym}
 use native.Mathlib.Omega.{arith}
-use Prim.Native.Nat.{◌-◌, ◌≤◌}
-use lib.ListN.{length, take, drop}
+use lib.ListN.{take}
 use Rattle.delivery_differences.specs.Differences.{differs_in, rows_at}
-use Rattle.delivery_differences.specs.DifferencePasses.{maturity_keys, least_of}
+use Rattle.delivery_differences.specs.DifferencePasses.{maturity_keys}
 use Rattle.delivery_differences.proofs.DifferencePasses.{least-next, least-done, first-long, first_key}
 use Rattle.delivery_differences.proofs.least_listed.Goals as goal
 

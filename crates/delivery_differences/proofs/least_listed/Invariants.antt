@@ -1,10 +1,10 @@
-use mathlib.Core.Path.{◌≡◌, refl, ◌∙◌, sym}
-use native.Mathlib.Omega.{arith}
+-- The loop keeps: n is at most 15 and within the list, and the least of what is found so far and the keys from i on is that of `found` and all of
+-- them; a turn is `least-next`, and at n none is left (`least-done`).
+use mathlib.Core.Path.{◌≡◌}
 use Prim.Native.Nat.{◌-◌, ◌≤◌}
 use lib.ListN.{length, take, drop}
 use Rattle.delivery_differences.specs.Differences.{differs_in, rows_at}
 use Rattle.delivery_differences.specs.DifferencePasses.{maturity_keys, least_of}
-use Rattle.delivery_differences.proofs.DifferencePasses.{least-next, least-done, first-long, first_key}
 use Rattle.delivery_differences.proofs.least_listed.Given as goal
 
 -- ---- the loop's invariant and its measure

@@ -1,10 +1,9 @@
 -- `least_unlisted` gives the least key from one on that was delivered and is not listed. The loop keeps: the least of what is found so far
 -- and the keys from j on is that of 65,536 and all of them; a turn is `least-next`, and past the last row none is left (`least-done`).
-use mathlib.Core.Path.{◌≡◌, refl, ◌∙◌, sym}
+use mathlib.Core.Path.{refl, ◌∙◌, sym}
 use native.Mathlib.Omega.{arith}
-use Prim.Native.Nat.{◌-◌, ◌≤◌}
-use lib.ListN.{length, take, drop}
-use Rattle.delivery_differences.specs.DifferencePasses.{row_keys_at, unlisted, least_of}
+use lib.ListN.{take}
+use Rattle.delivery_differences.specs.DifferencePasses.{row_keys_at, unlisted}
 use Rattle.delivery_differences.proofs.KeyRows.{keys-long}
 use Rattle.delivery_differences.proofs.DifferencePasses.{least-next, least-done}
 use Rattle.delivery_differences.proofs.least_unlisted.Goals as goal

@@ -1,10 +1,9 @@
-use mathlib.Core.Path.{◌≡◌, refl, ◌∙◌, sym}
-use native.Mathlib.Omega.{arith}
+-- The loop keeps: the least of what is found so far and the keys from j on is that of 65,536 and all of them; a turn is `least-next`, and past the
+-- last row none is left (`least-done`).
+use mathlib.Core.Path.{◌≡◌}
 use Prim.Native.Nat.{◌-◌, ◌≤◌}
 use lib.ListN.{length, take, drop}
 use Rattle.delivery_differences.specs.DifferencePasses.{row_keys_at, unlisted, least_of}
-use Rattle.delivery_differences.proofs.KeyRows.{keys-long}
-use Rattle.delivery_differences.proofs.DifferencePasses.{least-next, least-done}
 use Rattle.delivery_differences.proofs.least_unlisted.Given as goal
 
 abbrev pub invariant-loop-j : goal.invariant-loop-j

@@ -1,9 +1,7 @@
 -- Before place p the first p places were handed out, where rows are printed, and at the end all places.
-use Rattle.std.proofs.Common.{◌≡◌, ℕ, ◌-◌, ◌≤◌, List, length, sym, ◌∙◌, true≢false, arith, rules}
+use Rattle.std.proofs.Common.{◌≡◌, ℕ, List, sym, ◌∙◌, true≢false, arith, rules}
 use Rattle.questions.proofs.Bools.{said-no, said-yes}
-use Rattle.file_ids.specs.Ids.{place_count}
-use Rattle.file_calendar.specs.Calendars.{calendar_answer}
-use Rattle.delivery_parts.specs.Handing.{Runs, HandedTo}
+use Rattle.delivery_parts.specs.Handing.{HandedTo}
 use borrow.Author.Rules.{rules}
 use Rattle.delivery_handing.proofs.print_places.Goals as goal
 

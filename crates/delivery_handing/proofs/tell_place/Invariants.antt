@@ -1,10 +1,9 @@
-use Rattle.std.proofs.Common.{◌≡◌, ℕ, ◌+◌, ◌-◌, ◌≤◌, Bool, true, false, cond, List, [], length, refl, ap, ◌∙◌, arith}
-use lib.ListN.{length-map}
-use borrow.Author.Tests.{not-true, not-false}
+-- What was told is as long as the lines before the next one, where all lines come next; each line then comes next, and at the end all lines of the
+-- place are there.
+use Rattle.std.proofs.Common.{◌≡◌, ◌+◌, ◌-◌, ◌≤◌, length}
 use Rattle.delivery_refusals.specs.Refusals.{refusal_lines}
 use Rattle.file_text_print.specs.WholeText.{NextOf}
 use Rattle.delivery_parts.specs.PlaceParts.{deliver_refusals}
-use Rattle.delivery_parts.proofs.Handing.{line-long, line-few, line-next, no-refusals, more-refusals, next-refusal, refusal-line-short, few-refusals}
 use Rattle.delivery_handing.proofs.tell_place.Given as goal
 
 abbrev pub invariant-loop-i : goal.invariant-loop-i

@@ -1,8 +1,9 @@
-use Rattle.std.proofs.Common.{◌≡◌, ℕ, ◌+◌, ◌-◌, ◌≤◌, List, length, refl, ap, ◌∙◌, arith}
+-- What was told is as long as the lines before the next one, where all lines come next; each line then comes next, and at the end all lines are
+-- there.
+use Rattle.std.proofs.Common.{◌≡◌, ◌+◌, ◌-◌, ◌≤◌, length}
 use Rattle.file_text_print.specs.WholeText.{NextOf}
 use Rattle.delivery_refusals.specs.Refusals.{unknown_lines}
 use Rattle.delivery_parts.specs.PlaceParts.{deliver_refusals}
-use Rattle.delivery_parts.proofs.Handing.{line-long, line-few, line-next, no-unknown, more-unknown, next-unknown, unknown-short, few-unknown}
 use Rattle.delivery_handing.proofs.tell_unknown.Given as goal
 
 abbrev pub invariant-loop-i : goal.invariant-loop-i

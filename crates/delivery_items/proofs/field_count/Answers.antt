@@ -1,11 +1,9 @@
 -- `field_count` counts the fields of a line. The loop keeps: `from` is a place of the line or its end, the count is at most `from` + 1,
 -- and the count with the fields that are left after `from` makes all. A separator has one more (`some_left`), the end none (`none_left`).
-use mathlib.Core.Path.{◌≡◌, sym}
+use mathlib.Core.Path.{sym}
 use native.Mathlib.Omega.{arith}
-use Prim.Native.Nat.{◌+◌, ◌-◌, ◌≤◌}
-use lib.ListN.{length}
-use Rattle.delivery_items.specs.Items.{fields_of}
-use Rattle.delivery_items.proofs.FieldsParted.{fields_left, fields-counted, none_left, some_left}
+use Prim.Native.Nat.{◌+◌}
+use Rattle.delivery_items.proofs.FieldsParted.{fields-counted, none_left, some_left}
 use Rattle.delivery_items.proofs.field_count.Goals as goal
 
 -- ---- before the loop

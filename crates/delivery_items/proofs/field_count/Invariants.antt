@@ -1,9 +1,10 @@
-use mathlib.Core.Path.{◌≡◌, sym}
-use native.Mathlib.Omega.{arith}
+-- The loop keeps: `from` is a place of the line or its end, the count is at most `from` + 1, and the count with the fields that are left after
+-- `from` makes all. A separator has one more (`some_left`), the end none (`none_left`).
+use mathlib.Core.Path.{◌≡◌}
 use Prim.Native.Nat.{◌+◌, ◌-◌, ◌≤◌}
 use lib.ListN.{length}
 use Rattle.delivery_items.specs.Items.{fields_of}
-use Rattle.delivery_items.proofs.FieldsParted.{fields_left, fields-counted, none_left, some_left}
+use Rattle.delivery_items.proofs.FieldsParted.{fields_left}
 use Rattle.delivery_items.proofs.field_count.Given as goal
 
 -- ---- the loop's invariant and its measure

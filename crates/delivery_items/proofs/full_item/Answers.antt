@@ -2,7 +2,6 @@
 -- else the row with both numbers (`full_is`), which fit 16 bits by what is required.
 use Rattle.delivery_items.proofs.ItemForms.{full-none, full_is}
 use mathlib.Core.Path.{◌∙◌}
-use borrow.Author.Tests.{not-true, not-false}
 use Rattle.delivery_items.proofs.full_item.Goals as goal
 
 pub returns-then-not-item-number : goal.returns-then-not-item-number

@@ -1,7 +1,7 @@
 -- `held_length` gives at most 255, and as many bytes are those that the line holds: the array has 255, so taking more takes all of them.
 use mathlib.Core.Path.{◌≡◌, refl, ◌∙◌, sym}
 use native.Mathlib.Omega.{arith}
-use lib.ListN.{length, length-map}
+use lib.ListN.{length}
 use lib.Seq.{take_all}
 use Rattle.delivery_items.proofs.held_length.Goals as goal
 

@@ -1,14 +1,12 @@
+-- The loop keeps: the length is 7, i is at most 7, and the bytes before i are the word's; it returns no at the first that differs and yes at the
+-- end, both by `same_word`.
 use mathlib.Core.Path.{◌≡◌}
-use native.Mathlib.Omega.{arith}
 use Prim.Native.Nat.{◌-◌, ◌≤◌}
 use mathlib.Core.Bool.{true}
 use lib.ListN.{length, get_or}
 use lib.Dec.{eqb}
-use borrow.Author.Tests.{eq-eqb, ne_eqb}
 use Rattle.questions.specs.Search.{every}
-use Rattle.questions.proofs.Search.{every-none, every_more, every-not}
 use Rattle.delivery_items.specs.Items.{product_word}
-use Rattle.delivery_items.proofs.ItemForms.{other_length, same_word}
 use Rattle.delivery_items.proofs.is_product_word.Given as goal
 
 -- ---- the loop's invariant and its measure

@@ -1,11 +1,7 @@
 -- The line goes on with the part's bytes up to its line feed, or up to the part's end, and the answer says which.
 -- The loop keeps: the line so far ends with the bytes from `i` on where the line given ends with those from `from` on.
 -- A line feed ends the line (`line-ends`), any other byte makes it longer (`line_on`), and past the last byte the part ends (`part-ends`).
-use mathlib.Core.Path.{◌≡◌, refl, ◌∙◌}
-use native.Mathlib.Omega.{arith}
-use Prim.Native.Nat.{◌-◌}
-use lib.ListN.{length, drop}
-use Rattle.delivery_items.specs.LineEnds.{line_end}
+use mathlib.Core.Path.{refl, ◌∙◌}
 use Rattle.delivery_items.proofs.LineEnds.{line_on, line-ends, part-ends}
 use Rattle.delivery_items.proofs.line_from.Goals as goal
 

@@ -1,9 +1,9 @@
-use mathlib.Core.Path.{◌≡◌, refl, ◌∙◌}
-use native.Mathlib.Omega.{arith}
+-- The loop keeps: the line so far ends with the bytes from `i` on where the line given ends with those from `from` on. A line feed ends the line
+-- (`line-ends`), any other byte makes it longer (`line_on`), and past the last byte the part ends (`part-ends`).
+use mathlib.Core.Path.{◌≡◌}
 use Prim.Native.Nat.{◌-◌}
 use lib.ListN.{length, drop}
 use Rattle.delivery_items.specs.LineEnds.{line_end}
-use Rattle.delivery_items.proofs.LineEnds.{line_on, line-ends, part-ends}
 use Rattle.delivery_items.proofs.line_from.Given as goal
 
 abbrev pub invariant-loop-i : goal.invariant-loop-i

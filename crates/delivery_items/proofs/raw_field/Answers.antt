@@ -3,9 +3,7 @@
 -- first there is none (`field-beyond`); at k the field goes up to the next separator (`field-here`).
 use mathlib.Core.Path.{◌≡◌, refl, ◌∙◌, ap}
 use native.Mathlib.Omega.{arith}
-use Prim.Native.Nat.{◌-◌, ◌≤◌}
-use lib.ListN.{length, drop}
-use Rattle.delivery_items.specs.Items.{fields_of, raw_field}
+use Rattle.delivery_items.specs.Items.{raw_field}
 use Rattle.delivery_items.proofs.FieldsParted.{fields-next, field-here, field-beyond}
 use Rattle.delivery_items.proofs.raw_field.Goals as goal
 

@@ -1,9 +1,9 @@
-use mathlib.Core.Path.{◌≡◌, refl, ◌∙◌, ap}
-use native.Mathlib.Omega.{arith}
+-- The loop keeps: `from` is within the line, i is at most k, and the fields after the first i are those of the line from `from` on. Where the line
+-- ends first there is none (`field-beyond`); at k the field goes up to the next separator (`field-here`).
+use mathlib.Core.Path.{◌≡◌}
 use Prim.Native.Nat.{◌-◌, ◌≤◌}
 use lib.ListN.{length, drop}
-use Rattle.delivery_items.specs.Items.{fields_of, raw_field}
-use Rattle.delivery_items.proofs.FieldsParted.{fields-next, field-here, field-beyond}
+use Rattle.delivery_items.specs.Items.{fields_of}
 use Rattle.delivery_items.proofs.raw_field.Given as goal
 
 -- ---- the loop's invariant and its measure

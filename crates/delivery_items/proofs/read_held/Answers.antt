@@ -2,7 +2,7 @@
 -- is read as a line (`held_whole`). The bytes that are read are those that the line holds, by what `held_length` promises.
 use mathlib.Core.Path.{◌≡◌, sym}
 use native.Mathlib.Omega.{arith}
-use lib.ListN.{length, length-map}
+use lib.ListN.{length}
 use lib.Seq.{length-take-le}
 use Rattle.delivery_items.proofs.ItemForms.{held-over, held_whole}
 use Rattle.delivery_items.proofs.read_held.Goals as goal

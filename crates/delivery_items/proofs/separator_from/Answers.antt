@@ -1,12 +1,9 @@
 -- `separator_from` gives the place of the first separator from a place on, or the line's end. The loop keeps: i lies between
 -- `from` and the line's end, and no byte from `from` up to i is a separator. It returns at a separator, or at the end of the line.
-use mathlib.Core.Path.{◌≡◌, ◌∙◌, sym}
+use mathlib.Core.Path.{◌∙◌, sym}
 use native.Mathlib.Omega.{arith}
-use Prim.Native.Nat.{◌-◌, ◌≤◌, ◌<◌}
 use mathlib.Core.Bool.{true}
 use Rattle.questions.proofs.Bools.{clash}
-use lib.ListN.{length, get_or}
-use Rattle.delivery_items.specs.Items.{separator}
 use Rattle.delivery_items.proofs.FieldsParted.{none_more}
 use Rattle.delivery_items.proofs.separator_from.Goals as goal
 

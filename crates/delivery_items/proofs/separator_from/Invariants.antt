@@ -1,11 +1,10 @@
-use mathlib.Core.Path.{◌≡◌, ◌∙◌, sym}
-use native.Mathlib.Omega.{arith}
+-- The loop keeps: i lies between `from` and the line's end, and no byte from `from` up to i is a separator. It returns at a separator, or at the end
+-- of the line.
+use mathlib.Core.Path.{◌≡◌}
 use Prim.Native.Nat.{◌-◌, ◌≤◌, ◌<◌}
 use mathlib.Core.Bool.{true}
-use Rattle.questions.proofs.Bools.{clash}
 use lib.ListN.{length, get_or}
 use Rattle.delivery_items.specs.Items.{separator}
-use Rattle.delivery_items.proofs.FieldsParted.{none_more}
 use Rattle.delivery_items.proofs.separator_from.Given as goal
 
 -- ---- the loop's invariant and its measure

@@ -2,7 +2,6 @@
 -- is none (`item-none`), else a row with the id's bytes, the key and the day (`item-is`).
 use mathlib.Core.Path.{◌∙◌}
 use Rattle.delivery_items.proofs.ItemForms.{item-none, item-is}
-use borrow.Author.Tests.{not-true, not-false}
 use Rattle.delivery_items.proofs.short_item.Goals as goal
 
 pub returns-then-not-is_id-first : goal.returns-then-not-is_id-first

@@ -1,10 +1,7 @@
 -- From key to key: what is written and what is left are all.
-use mathlib.Core.Path.{◌≡◌, sym}
-use Prim.Native.Nat.{◌-◌}
+use mathlib.Core.Path.{sym}
 use native.Mathlib.Omega.{arith}
-use lib.ListN.{length, take}
-use Rattle.delivery_differences.specs.Differences.{rows_at}
-use Rattle.delivery_judging.proofs.KeysWritten.{Going, goes_first, more-few, goes_on, goes-all}
+use Rattle.delivery_judging.proofs.KeysWritten.{goes_first, more-few, goes_on, goes-all}
 use Rattle.delivery_judging.proofs.print_keys.Goals as goal
 
 pub loop-from-init : goal.loop-from-init

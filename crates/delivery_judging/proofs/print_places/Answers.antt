@@ -1,13 +1,7 @@
 -- Place after place, up to the last.
-use mathlib.Core.Path.{◌≡◌, refl}
-use Prim.Native.Nat.{◌-◌, ◌≤◌}
+use mathlib.Core.Path.{refl}
 use native.Mathlib.Omega.{arith}
-use lib.ListN.{length}
-use Rattle.file_ids.specs.Ids.{place_count}
-use Rattle.file_calendar.specs.Calendars.{calendar_answer}
-use Rattle.table.specs.Table.{open_in}
-use Rattle.delivery_judging.specs.LinesOut.{PlacesOut}
-use Rattle.delivery_judging.proofs.Places.{places-none, places-more, places-at, place_at}
+use Rattle.delivery_judging.proofs.Places.{places-none, places-more, place_at}
 use Rattle.delivery_judging.proofs.print_places.Goals as goal
 
 pub overflow_mul-count : goal.overflow_mul-count

@@ -1,12 +1,11 @@
-use mathlib.Core.Path.{◌≡◌, refl}
+-- Place after place, up to the last.
+use mathlib.Core.Path.{◌≡◌}
 use Prim.Native.Nat.{◌-◌, ◌≤◌}
-use native.Mathlib.Omega.{arith}
 use lib.ListN.{length}
 use Rattle.file_ids.specs.Ids.{place_count}
 use Rattle.file_calendar.specs.Calendars.{calendar_answer}
 use Rattle.table.specs.Table.{open_in}
 use Rattle.delivery_judging.specs.LinesOut.{PlacesOut}
-use Rattle.delivery_judging.proofs.Places.{places-none, places-more, places-at, place_at}
 use Rattle.delivery_judging.proofs.print_places.Given as goal
 
 abbrev pub invariant-loop-p : goal.invariant-loop-p

@@ -1,9 +1,7 @@
 -- Row after row, up to the last.
-use mathlib.Core.Path.{◌≡◌, sym}
-use Prim.Native.Nat.{◌-◌}
+use mathlib.Core.Path.{sym}
 use native.Mathlib.Omega.{arith}
-use lib.ListN.{length}
-use Rattle.delivery_judging.proofs.Rows.{Going, goes_first, more-few, goes_on, goes-all}
+use Rattle.delivery_judging.proofs.Rows.{goes_first, more-few, goes_on, goes-all}
 use Rattle.delivery_judging.proofs.print_strangers.Goals as goal
 
 pub loop-from-init : goal.loop-from-init

@@ -1,8 +1,8 @@
-use mathlib.Core.Path.{◌≡◌, sym}
+-- Row after row, up to the last.
+use mathlib.Core.Path.{◌≡◌}
 use Prim.Native.Nat.{◌-◌}
-use native.Mathlib.Omega.{arith}
 use lib.ListN.{length}
-use Rattle.delivery_judging.proofs.Rows.{Going, goes_first, more-few, goes_on, goes-all}
+use Rattle.delivery_judging.proofs.Rows.{Going}
 use Rattle.delivery_judging.proofs.print_strangers.Given as goal
 
 abbrev pub invariant-loop-from : goal.invariant-loop-from

@@ -1,5 +1,4 @@
 -- The bytes at the start of the buffer are counted.
-use mathlib.Core.Path.{sym}
 use native.Mathlib.Omega.{arith}
 use lib.Seq.{length-take-le}
 use Rattle.delivery_judging.proofs.write_strangers.Goals as goal

@@ -1,16 +1,11 @@
-use mathlib.Core.Bool.{and-false, true}
-use mathlib.Core.Path.{refl, ◌≡◌}
+-- The loop keeps: i is at most the word's length, and the bytes before i are such characters. It returns no at the first that is not (`id-not`), and
+-- yes at the end (`id-is`).
+use mathlib.Core.Bool.{true}
+use mathlib.Core.Path.{◌≡◌}
 use Prim.Native.Nat.{◌-◌, ◌≤◌}
-use native.Mathlib.Omega.{arith}
-use lib.Dec.{leb}
 use lib.ListN.{get_or, length}
-use borrow.Author.Tests.{lt-leb}
-use Rattle.delivery_lines.proofs.NoticeForms.{id-not, id-is}
 use Rattle.questions.specs.Search.{every}
-use Rattle.questions.proofs.Search.{every-none, every_more, every-not}
-use Rattle.questions.proofs.Bools.{said-no, said-yes}
 use Rattle.product.specs.Fields.{id_character}
-use Rattle.delivery_lines.specs.NoticeLines.{is_id}
 use Rattle.delivery_lines.proofs.is_id.Given as goal
 
 -- ---- the loop's invariant and its measure

@@ -1,7 +1,6 @@
 -- `measure_line` reads a measure: the letter M, an id, two numbers and a price. Each return cites the tests before it: another letter
 -- (`measure-letterless`), no id (`measure-idless`), a number or the price missing (`measure-none`), or a measure with them (`measure-is`).
 use mathlib.Core.Path.{◌∙◌, sym}
-use borrow.Author.Tests.{not-true, not-false}
 use Rattle.delivery_lines.proofs.NoticeForms.{measure-letterless, measure-idless, measure-none, measure-is}
 use Rattle.questions.proofs.Bools.{said-no, said-yes}
 use Rattle.delivery_lines.proofs.measure_line.Goals as goal

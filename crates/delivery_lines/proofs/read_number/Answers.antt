@@ -1,13 +1,11 @@
 -- `read_number` gives the number that a word is, held at 1,000,000,000; an empty word and one with a byte that is no digit are none. The loop keeps:
 -- the value is at most that, the bytes from i on are all digits exactly if the word is, and the value continued with them is, held, the word's.
-use mathlib.Core.Path.{◌≡◌, refl, sym, ◌∙◌, ap}
-use Prim.Native.Nat.{◌-◌, ◌≤◌}
+use mathlib.Core.Path.{refl, sym, ◌∙◌, ap}
 use native.Mathlib.Omega.{arith}
-use lib.ListN.{length, drop}
 use Rattle.delivery_lines.proofs.NoticeValues.{from_start, held_small, held-most, number-none, no_digit, one-digit, held_one, number-not, digits-whole}
 use Rattle.delivery_lines.proofs.NoticeValues.{value-whole, number_is}
 use Rattle.questions.proofs.Bools.{said-no, said-yes}
-use Rattle.delivery_lines.specs.NoticeLines.{all_digits, value_from, value_of, held}
+use Rattle.delivery_lines.specs.NoticeLines.{held}
 use Rattle.delivery_lines.proofs.read_number.Goals as goal
 
 -- ---- the empty word, and before the loop

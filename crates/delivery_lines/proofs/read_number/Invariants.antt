@@ -1,10 +1,8 @@
-use mathlib.Core.Path.{◌≡◌, refl, sym, ◌∙◌, ap}
+-- The loop keeps: the value is at most that, the bytes from i on are all digits exactly if the word is, and the value continued with them is, held,
+-- the word's.
+use mathlib.Core.Path.{◌≡◌}
 use Prim.Native.Nat.{◌-◌, ◌≤◌}
-use native.Mathlib.Omega.{arith}
 use lib.ListN.{length, drop}
-use Rattle.delivery_lines.proofs.NoticeValues.{from_start, held_small, held-most, number-none, no_digit, one-digit, held_one, number-not, digits-whole}
-use Rattle.delivery_lines.proofs.NoticeValues.{value-whole, number_is}
-use Rattle.questions.proofs.Bools.{said-no, said-yes}
 use Rattle.delivery_lines.specs.NoticeLines.{all_digits, value_from, value_of, held}
 use Rattle.delivery_lines.proofs.read_number.Given as goal
 

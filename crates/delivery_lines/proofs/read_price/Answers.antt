@@ -2,7 +2,6 @@
 -- above 99,999 (`price-large`), else 10,000 times the whole and the part (`price-small`), which fits since a part is at most 9,999.
 use Prim.Native.Nat.{◌≤◌}
 use native.Mathlib.Omega.{arith}
-use borrow.Author.Tests.{not-true, not-false}
 use Rattle.delivery_lines.proofs.NoticeValues.{price-none, price-large, price-small}
 use Rattle.file_text_lines.proofs.NumberWords.{part-most}
 use Rattle.delivery_lines.proofs.read_price.Goals as goal

@@ -1,10 +1,8 @@
 -- `read_lines` takes all lines of a text into the lists. The loop keeps: the text and the lists have their lengths, and the lines before `from`
 -- are taken (`Going`), of which the room for the next follows. A turn takes one line more (`goes_on`); at the end all are taken (`all_lines`).
 use mathlib.Core.Path.{refl}
-use Prim.Native.Nat.{◌-◌, ◌≤◌}
 use native.Mathlib.Omega.{arith}
-use lib.ListN.{length}
-use Rattle.delivery_notices.proofs.NoticesSoFar.{Going, begins, goes_on, all_lines}
+use Rattle.delivery_notices.proofs.NoticesSoFar.{begins, goes_on, all_lines}
 use Rattle.delivery_notices.proofs.read_lines.Goals as goal
 
 -- ---- before the loop

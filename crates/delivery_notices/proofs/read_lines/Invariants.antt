@@ -1,8 +1,8 @@
-use mathlib.Core.Path.{refl}
+-- The loop keeps: the text and the lists have their lengths, and the lines before `from` are taken (`Going`), of which the room for the next
+-- follows. A turn takes one line more (`goes_on`); at the end all are taken (`all_lines`).
 use Prim.Native.Nat.{◌-◌, ◌≤◌}
-use native.Mathlib.Omega.{arith}
 use lib.ListN.{length}
-use Rattle.delivery_notices.proofs.NoticesSoFar.{Going, begins, goes_on, all_lines}
+use Rattle.delivery_notices.proofs.NoticesSoFar.{Going}
 use Rattle.delivery_notices.proofs.read_lines.Given as goal
 
 -- ---- the loop's invariant and its measure

@@ -2,7 +2,6 @@
 -- is judged (`text-read`). The room of the lists is what `lists_fit` said, and the part read has at most 65,537 bytes (`rest-few`).
 use mathlib.Core.Path.{refl, sym}
 use lib.Seq.{length-take-le}
-use borrow.Author.Tests.{not-true, not-false}
 use Rattle.delivery_notices.proofs.NoticesSoFar.{part-few, rest-few, text-read, text-idle, lists-room}
 use Rattle.delivery_notices.proofs.read_notices.Goals as goal
 

@@ -1,6 +1,5 @@
 -- `deliver_place` gives a place's rows and its notices' refusals. Each return cites the tests before it: no room (`place-idle`), no
 -- record (`place-empty`), an opening that is refused (`place-refused`), or the rows of the table that `deliver` gives (`place-rows`).
-use borrow.Author.Tests.{not-true, not-false}
 use Rattle.questions.proofs.Bools.{said-no, said-yes}
 use Rattle.delivery_parts.proofs.PlaceParts.{place-idle, place-empty, place-refused, place-rows}
 use Rattle.delivery_parts.proofs.deliver_place.Goals as goal

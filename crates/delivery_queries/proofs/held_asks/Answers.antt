@@ -1,7 +1,7 @@
 -- A line of more than 255 bytes is judged by its first byte, any other by the bytes that are held.
 use mathlib.Core.Path.{◌≡◌, ◌∙◌, sym}
 use native.Mathlib.Omega.{arith}
-use lib.ListN.{length, length-map}
+use lib.ListN.{length}
 use lib.Seq.{length-take-le}
 use Rattle.delivery_queries.proofs.Answering.{asks-comment, asks-long, asks-short}
 use Rattle.delivery_queries.proofs.held_asks.Goals as goal

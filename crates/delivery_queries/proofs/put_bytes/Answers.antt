@@ -1,10 +1,8 @@
 -- Byte after byte: after i of them the first i bytes stand in the buffer.
-use mathlib.Core.Path.{◌≡◌, refl}
-use Prim.Native.Nat.{◌+◌, ◌-◌, ◌≤◌}
+use mathlib.Core.Path.{refl}
 use native.Mathlib.Omega.{arith}
-use lib.ListN.{length, take, length-set}
+use lib.ListN.{length-set}
 use lib.Seq.{take_all}
-use Rattle.session_text.specs.Buffer.{Written}
 use Rattle.delivery_queries.proofs.Answering.{put-none, put-more}
 use Rattle.delivery_queries.proofs.put_bytes.Goals as goal
 

@@ -1,7 +1,7 @@
 -- The bytes that are held, up to the last that is no blank, go to the buffer one by one.
 use mathlib.Core.Path.{◌≡◌, sym}
 use native.Mathlib.Omega.{arith}
-use lib.ListN.{length, length-map}
+use lib.ListN.{length}
 use lib.Seq.{length-take-le}
 use Rattle.delivery_queries.proofs.Answering.{trim-few, put-trimmed}
 use Rattle.delivery_queries.proofs.put_held.Goals as goal

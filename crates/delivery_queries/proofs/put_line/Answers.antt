@@ -1,7 +1,7 @@
 -- The bytes of the line go to the buffer one by one.
 use mathlib.Core.Path.{◌≡◌, sym}
 use native.Mathlib.Omega.{arith}
-use lib.ListN.{length, length-map}
+use lib.ListN.{length}
 use lib.Seq.{length-take-le}
 use Rattle.delivery_queries.proofs.put_line.Goals as goal
 

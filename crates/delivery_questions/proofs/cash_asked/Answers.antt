@@ -1,8 +1,7 @@
 -- `cash_asked` reads a question for cash. Another name (`cash-nameless`) or a number that is missing among
 -- the contracts and the two prices (`cash-none`) is a bad line; else the question holds them (`cash-is`).
-use mathlib.Core.Path.{refl, ◌∙◌, ap}
+use mathlib.Core.Path.{◌∙◌, ap}
 use Rattle.questions.proofs.Bools.{said-no, said-yes}
-use borrow.Author.Tests.{not-true, not-false}
 use Rattle.delivery_questions.specs.QuestionLines.{cash_word, is_word}
 use Rattle.delivery_questions.proofs.QuestionForms.{cash-nameless, cash-none, cash-is}
 use Rattle.delivery_questions.proofs.cash_asked.Goals as goal

@@ -2,12 +2,9 @@
 -- at most that, and the bytes before i are equal; it returns no at the first that differs and yes at the end, both by `same_word`.
 use mathlib.Core.Path.{◌≡◌}
 use native.Mathlib.Omega.{arith}
-use Prim.Native.Nat.{◌-◌, ◌≤◌}
 use mathlib.Core.Bool.{true}
-use lib.ListN.{length, get_or}
-use lib.Dec.{eqb}
+use lib.ListN.{length}
 use borrow.Author.Tests.{eq-eqb, ne_eqb}
-use Rattle.questions.specs.Search.{every}
 use Rattle.questions.proofs.Search.{every-none, every_more, every-not}
 use Rattle.delivery_questions.proofs.QuestionForms.{other_length, same_word}
 use Rattle.delivery_questions.proofs.is_word.Goals as goal

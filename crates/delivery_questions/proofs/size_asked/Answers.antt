@@ -1,5 +1,5 @@
 -- `size_asked` gives a bad line where the name is not `size` (`size_none`), else the question for a size (`size_is`).
-use mathlib.Core.Path.{refl, ◌∙◌}
+use mathlib.Core.Path.{◌∙◌}
 use Rattle.questions.proofs.Bools.{said-no, said-yes}
 use Rattle.delivery_questions.proofs.QuestionForms.{size_none, size_is}
 use Rattle.delivery_questions.proofs.size_asked.Goals as goal

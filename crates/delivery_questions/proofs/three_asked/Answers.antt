@@ -1,6 +1,6 @@
 -- `three_asked` asks by the name in the middle: `last` (`three-last`), `due` (`three-due`), `tick`
 -- (`three-tick`), and any other is a bad line (`three-none`); each return cites what `is_word` said so far.
-use mathlib.Core.Path.{refl, ◌∙◌, sym}
+use mathlib.Core.Path.{◌∙◌, sym}
 use Rattle.delivery_questions.proofs.QuestionForms.{three-last, three-due, three-tick, three-none}
 use Rattle.delivery_questions.proofs.three_asked.Goals as goal
 

@@ -1,11 +1,7 @@
 -- Part after part: the input so far brought what the lists hold, and each turn makes one of the reads that are left.
-use mathlib.Core.Path.{◌≡◌, refl, sym, ◌∙◌}
-use Prim.Native.Nat.{ℕ}
+use mathlib.Core.Path.{refl, sym, ◌∙◌}
 use native.Mathlib.Omega.{arith}
-use lib.ListN.{length}
 use lib.Seq.{length-take-le}
-use Rattle.delivery_receipts.specs.Receiving.{room_in, SameLengths}
-use Rattle.delivery_reading.specs.Reading.{RowsReadTo}
 use Rattle.delivery_row_parts.proofs.PartsTaken.{same_lists, then-lists, room-same}
 use Rattle.delivery_reading.proofs.Comes.{read-on, goes, stops}
 use Rattle.delivery_reading.proofs.read_rest.Goals as goal

@@ -3,11 +3,10 @@
 -- and the list is as long as it was. In the two early returns these conditions do not hold.
 use mathlib.Core.Path.{◌∙◌, ap}
 use native.Mathlib.Omega.{arith}
-use Prim.Native.Nat.{◌-◌}
 use Rattle.file_load.specs.Products.{same_id}
 use mathlib.Core.List.{List}
-use Prim.Native.Nat.{ℕ, ◌-◌}
-use Rattle.delivery_receipts.proofs.Gathering.{Gathering, starts, place-room, place-small, gathers, gathered, none-gathered}
+use Prim.Native.Nat.{ℕ}
+use Rattle.delivery_receipts.proofs.Gathering.{starts, place-room, place-small, gathers, gathered, none-gathered}
 use Rattle.delivery_receipts.proofs.places_of.Goals as goal
 
 -- ---- no room

@@ -1,10 +1,8 @@
-use mathlib.Core.Path.{◌∙◌, ap}
-use native.Mathlib.Omega.{arith}
+-- The loop keeps (`Gathering`): the first `size` places are those of the product among the first `i` rows, `size` is at most `i`, `i` at most `n`,
+-- and the list is as long as it was. In the two early returns these conditions do not hold.
 use Prim.Native.Nat.{◌-◌}
-use Rattle.file_load.specs.Products.{same_id}
-use mathlib.Core.List.{List}
-use Prim.Native.Nat.{ℕ, ◌-◌}
-use Rattle.delivery_receipts.proofs.Gathering.{Gathering, starts, place-room, place-small, gathers, gathered, none-gathered}
+use Prim.Native.Nat.{◌-◌}
+use Rattle.delivery_receipts.proofs.Gathering.{Gathering}
 use Rattle.delivery_receipts.proofs.places_of.Given as goal
 
 -- ---- what the loop keeps

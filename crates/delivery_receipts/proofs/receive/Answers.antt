@@ -1,7 +1,6 @@
 -- The state after a line is that of the definition.
 -- Six returns, one for each sort of line, each citing the tests before it: after a row too many, empty, heading, bad, good, one too many.
 use mathlib.Core.Path.{◌∙◌}
-use borrow.Author.Tests.{not-true, not-false}
 use Rattle.delivery_receipts.proofs.RowsSoFar.{is-ended, is-empty, is-heading, is-bad, is_row, is-too-many}
 use Rattle.delivery_receipts.proofs.receive.Goals as goal
 

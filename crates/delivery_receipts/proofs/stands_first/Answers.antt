@@ -3,10 +3,7 @@
 -- any other is one more without it (`every_more`); at the end `j` is `i`.
 use mathlib.Core.Path.{◌≡◌, ◌∙◌, sym, ap}
 use native.Mathlib.Omega.{arith}
-use Prim.Native.Nat.{◌-◌, ◌≤◌}
 use mathlib.Core.Bool.{true, not}
-use Prim.Native.Nat.{◌-◌, ◌≤◌}
-use Rattle.questions.specs.Search.{every}
 use Rattle.questions.proofs.Search.{every-none, every_more, every-not}
 use Rattle.file_load.specs.Products.{same_id}
 use Rattle.delivery_products.specs.IdList.{id_in}

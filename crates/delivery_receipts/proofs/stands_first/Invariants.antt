@@ -1,10 +1,10 @@
-use mathlib.Core.Path.{◌≡◌, ◌∙◌, sym, ap}
-use native.Mathlib.Omega.{arith}
+-- The loop keeps: no row before `j` has the id of row `i`, and `j` is at most `i`. A row with the same id is a no (`every-not`), any other is one
+-- more without it (`every_more`); at the end `j` is `i`.
+use mathlib.Core.Path.{◌≡◌}
 use Prim.Native.Nat.{◌-◌, ◌≤◌}
 use mathlib.Core.Bool.{true, not}
 use Prim.Native.Nat.{◌-◌, ◌≤◌}
 use Rattle.questions.specs.Search.{every}
-use Rattle.questions.proofs.Search.{every-none, every_more, every-not}
 use Rattle.file_load.specs.Products.{same_id}
 use Rattle.delivery_products.specs.IdList.{id_in}
 use Rattle.delivery_receipts.proofs.stands_first.Given as goal

@@ -3,9 +3,8 @@
 -- at the end `i` is the line's length. One byte more is `byte-pasted`; the room of 64 bytes that is required bounds every write.
 use native.Mathlib.Omega.{arith}
 use mathlib.Core.Path.{◌≡◌, refl}
-use Prim.Native.Nat.{◌+◌, ◌-◌, ◌≤◌}
-use lib.ListN.{length, length-map, length-set}
-use lib.Seq.{paste, paste-zero}
+use lib.ListN.{length, length-set}
+use lib.Seq.{paste-zero}
 use Rattle.file_text_print.proofs.Building.{byte-pasted}
 use Rattle.delivery_reconciled.proofs.append.Goals as goal
 

@@ -1,9 +1,9 @@
-use native.Mathlib.Omega.{arith}
-use mathlib.Core.Path.{◌≡◌, refl}
+-- The loop keeps: the first `i` bytes of the line are pasted at `at` in the buffer as it was, its length is the same, and `i` is at most `n`; at the
+-- end `i` is the line's length. One byte more is `byte-pasted`; the room of 64 bytes that is required bounds every write.
+use mathlib.Core.Path.{◌≡◌}
 use Prim.Native.Nat.{◌+◌, ◌-◌, ◌≤◌}
-use lib.ListN.{length, length-map, length-set}
-use lib.Seq.{paste, paste-zero}
-use Rattle.file_text_print.proofs.Building.{byte-pasted}
+use lib.ListN.{length}
+use lib.Seq.{paste}
 use Rattle.delivery_reconciled.proofs.append.Given as goal
 
 -- ---- what the loop keeps

@@ -1,7 +1,6 @@
+-- One row after the other, as long as there is one and room for its line.
 use Prim.Native.Nat.{◌-◌}
-use native.Mathlib.Omega.{arith}
-use Rattle.delivery_inputs.proofs.ShortLines.{line-fits}
-use Rattle.delivery_reconciled.proofs.Strangers.{Printing, begins, goes, ends, has_more, row-short}
+use Rattle.delivery_reconciled.proofs.Strangers.{Printing}
 use Rattle.delivery_reconciled.proofs.print_strangers.Given as goal
 
 abbrev pub invariant-loop-line : goal.invariant-loop-line

@@ -1,6 +1,6 @@
+-- One place after the other: what was told is the lines of the places before, and whether one of them was refused is known.
 use mathlib.Core.Path.{◌≡◌}
 use Prim.Native.Nat.{◌-◌, ◌≤◌}
-use native.Mathlib.Omega.{arith}
 use lib.ListN.{length}
 use Rattle.questions.specs.Search.{some}
 use Rattle.streams.specs.Transfers.{Grew}
@@ -9,7 +9,6 @@ use Rattle.file_calendar.specs.Calendars.{calendar_answer}
 use Rattle.table.specs.Table.{open_in}
 use Rattle.delivery_parts.specs.PlaceParts.{parts_text}
 use Rattle.delivery_reconciled.specs.Reconciled.{opening_text, opening_refused}
-use Rattle.delivery_reconciling.proofs.Openings.{openings-none, openings-more, openings-all, refused_none, refused-more, refused_all}
 use Rattle.delivery_reconciling.proofs.tell_openings.Given as goal
 
 abbrev pub invariant-loop-p : goal.invariant-loop-p

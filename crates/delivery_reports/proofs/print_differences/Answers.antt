@@ -2,10 +2,7 @@
 -- The loop keeps (`Printing`): the first `length` bytes and the lines from `next` on are all lines from `from` on, `lines` counts those written,
 -- the buffer is unchanged past `length`, and `next` is a key that differs or 65,536. Each round moves `next` on, so it ends.
 use native.Mathlib.Omega.{arith}
-use Prim.Native.Nat.{◌-◌}
-use lib.ListN.{take}
-use Rattle.delivery_differences.specs.Differences.{rows_at}
-use Rattle.delivery_reports.proofs.ReportLines.{Printing, begins, goes, ends, has_more, line-fits, next-on}
+use Rattle.delivery_reports.proofs.ReportLines.{begins, goes, ends, has_more, line-fits, next-on}
 use Rattle.delivery_reports.proofs.print_differences.Goals as goal
 
 pub loop-kind-init : goal.loop-kind-init

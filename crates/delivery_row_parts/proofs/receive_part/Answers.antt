@@ -1,9 +1,6 @@
 -- Line after line: the bytes up to the place that is reached brought what is kept.
-use Prim.Native.Nat.{◌-◌}
 use native.Mathlib.Omega.{arith}
-use lib.ListN.{length, drop}
 use Rattle.delivery_items.proofs.LineEnds.{end_on}
-use Rattle.delivery_row_parts.specs.RowParts.{PartTold}
 use Rattle.delivery_row_parts.proofs.PartsTaken.{part_none, part-more, part-all}
 use Rattle.delivery_row_parts.proofs.receive_part.Goals as goal
 

@@ -1,10 +1,9 @@
 -- `append` writes a line's bytes from a place on and gives the place after them. The loop keeps: i is at most n, n at most 64, the buffer
 -- has room for 64 bytes and keeps its length, and it is the first one with i bytes pasted; a turn pastes one more (`byte-pasted`).
 use mathlib.Core.Path.{◌≡◌, refl}
-use Prim.Native.Nat.{◌+◌, ◌-◌, ◌≤◌}
 use native.Mathlib.Omega.{arith}
-use lib.ListN.{length, length-map, length-set}
-use lib.Seq.{paste, paste-zero}
+use lib.ListN.{length, length-set}
+use lib.Seq.{paste-zero}
 use Rattle.file_text_print.proofs.Building.{byte-pasted}
 use Rattle.delivery_rows.proofs.append.Goals as goal
 

@@ -1,9 +1,9 @@
-use mathlib.Core.Path.{◌≡◌, refl}
+-- The loop keeps: i is at most n, n at most 64, the buffer has room for 64 bytes and keeps its length, and it is the first one with i bytes pasted;
+-- a turn pastes one more (`byte-pasted`).
+use mathlib.Core.Path.{◌≡◌}
 use Prim.Native.Nat.{◌+◌, ◌-◌, ◌≤◌}
-use native.Mathlib.Omega.{arith}
-use lib.ListN.{length, length-map, length-set}
-use lib.Seq.{paste, paste-zero}
-use Rattle.file_text_print.proofs.Building.{byte-pasted}
+use lib.ListN.{length}
+use lib.Seq.{paste}
 use Rattle.delivery_rows.proofs.append.Given as goal
 
 -- ---- the loop's invariant and its measure

@@ -1,7 +1,7 @@
 -- `print_rows` writes nothing without room (`not-printed`); else the rows of as
 -- many maturities as the kind has places, of at most 15, by `put_rows` (`printed`).
 use mathlib.Core.Path.{◌≡◌}
-use lib.ListN.{length, length-map}
+use lib.ListN.{length}
 use Rattle.questions.proofs.Bools.{said-no, said-yes}
 use Rattle.delivery_rows.proofs.RowsInBuffer.{room-long, not-printed, printed}
 use Rattle.delivery_rows.proofs.print_rows.Goals as goal

@@ -1,11 +1,9 @@
 -- `put_rows` writes the rows of the first n maturities. The loop keeps: n is at most 15, the buffer has room
 -- for 1,024 bytes, i is at most n, and the rows of the first i stand from `at` up to `next` (`Putting`). The
 -- next row fits (`fits`), a turn puts it after them (`goes`), and at n all stand there (`ends`).
-use mathlib.Core.Path.{◌≡◌, refl}
-use Prim.Native.Nat.{◌+◌, ◌-◌, ◌≤◌}
+use mathlib.Core.Path.{refl}
 use native.Mathlib.Omega.{arith}
-use lib.ListN.{length}
-use Rattle.delivery_rows.proofs.RowsInBuffer.{Putting, begins, fits, goes, ends}
+use Rattle.delivery_rows.proofs.RowsInBuffer.{begins, fits, goes, ends}
 use Rattle.delivery_rows.proofs.put_rows.Goals as goal
 
 -- ---- before the loop

@@ -1,8 +1,9 @@
-use mathlib.Core.Path.{◌≡◌, refl}
+-- The loop keeps: n is at most 15, the buffer has room for 1,024 bytes, i is at most n, and the rows of the first i stand from `at` up to `next`
+-- (`Putting`). The next row fits (`fits`), a turn puts it after them (`goes`), and at n all stand there (`ends`).
+use mathlib.Core.Path.{◌≡◌}
 use Prim.Native.Nat.{◌+◌, ◌-◌, ◌≤◌}
-use native.Mathlib.Omega.{arith}
 use lib.ListN.{length}
-use Rattle.delivery_rows.proofs.RowsInBuffer.{Putting, begins, fits, goes, ends}
+use Rattle.delivery_rows.proofs.RowsInBuffer.{Putting}
 use Rattle.delivery_rows.proofs.put_rows.Given as goal
 
 -- ---- the loop's invariant and its measure

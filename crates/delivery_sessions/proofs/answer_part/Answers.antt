@@ -1,11 +1,8 @@
 -- Line after line: what stands in the buffer is the text up to the place that is reached.
-use mathlib.Core.Path.{◌≡◌, refl}
-use Prim.Native.Nat.{◌-◌}
+use mathlib.Core.Path.{refl}
 use native.Mathlib.Omega.{arith}
-use lib.ListN.{length}
 use Rattle.session_parts.proofs.TermsPassing.{has-next}
-use Rattle.delivery_queries.specs.Queries.{standing_in}
-use Rattle.delivery_sessions.proofs.QueryPassing.{Going, begins, goes, finishes}
+use Rattle.delivery_sessions.proofs.QueryPassing.{begins, goes, finishes}
 use Rattle.delivery_sessions.proofs.answer_part.Goals as goal
 
 pub loop-judged-init : goal.loop-judged-init

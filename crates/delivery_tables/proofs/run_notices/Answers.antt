@@ -1,13 +1,9 @@
 -- The loop keeps: the table of the rest and its maps is the one that the calls so far leave, the buffer holds their refusals, and question 10 has the
 -- answer that it had at the start.
-use mathlib.Core.Path.{◌≡◌, refl}
-use Prim.Native.Nat.{◌-◌, ◌≤◌}
+use mathlib.Core.Path.{refl}
 use native.Mathlib.Omega.{arith}
-use lib.ListN.{length}
-use Rattle.table.specs.Table.{sound}
-use Rattle.session_apart.specs.Apart.{table_with}
 use Rattle.delivery_notices.specs.NoticeLists.{notice_at}
-use Rattle.delivery_tables.proofs.NoticesOnTable.{Taking, begins, turns, tenth-turns, ends}
+use Rattle.delivery_tables.proofs.NoticesOnTable.{begins, turns, tenth-turns, ends}
 use Rattle.delivery_tables.proofs.run_notices.Goals as goal
 
 pub loop-i-init : goal.loop-i-init

@@ -1,11 +1,11 @@
-use mathlib.Core.Path.{◌≡◌, refl}
+-- The loop keeps: the table of the rest and its maps is the one that the calls so far leave, the buffer holds their refusals, and question 10 has
+-- the answer that it had at the start.
+use mathlib.Core.Path.{◌≡◌}
 use Prim.Native.Nat.{◌-◌, ◌≤◌}
-use native.Mathlib.Omega.{arith}
 use lib.ListN.{length}
 use Rattle.table.specs.Table.{sound}
 use Rattle.session_apart.specs.Apart.{table_with}
-use Rattle.delivery_notices.specs.NoticeLists.{notice_at}
-use Rattle.delivery_tables.proofs.NoticesOnTable.{Taking, begins, turns, tenth-turns, ends}
+use Rattle.delivery_tables.proofs.NoticesOnTable.{Taking}
 use Rattle.delivery_tables.proofs.run_notices.Given as goal
 
 abbrev pub invariant-loop-i : goal.invariant-loop-i

@@ -1,3 +1,5 @@
+-- The loop keeps `Stepping`: the latest trading day before `day` is the latest before the anchor, and day + back is the anchor. Each turn takes
+-- `day` one back.
 use Rattle.expiry.proofs.Stepping.{Stepping}
 use Rattle.calendar.specs.Trading.{calendar_with, trading_day}
 use Rattle.expiry.proofs.trading_day_before_in.Given as goal

@@ -1,10 +1,7 @@
 -- 0 just where the `count` bytes from `first` on are zero. The loop keeps: i is at most `count`, and `bits` is 0 just where the first i of them are.
 -- A turn adds one byte by `zeros-more`; at the end i is `count`.
 use Rattle.file_blocks.proofs.Zeros.{zeros-none, zeros-more}
-use Rattle.file_blocks.specs.Blocks.{zeros}
-use lib.Dec.{eqb}
 use mathlib.Core.Path.{◌≡◌}
-use Prim.Native.Nat.{◌-◌, ◌≤◌}
 use native.Mathlib.Omega.{arith}
 use Rattle.file_blocks.proofs.bits_of.Goals as goal
 

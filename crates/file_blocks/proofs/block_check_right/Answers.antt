@@ -1,5 +1,4 @@
 -- Question 2, of a lent block: the first `return` cites that it has not 512 bytes; the second that it has, and compares the sum with the check.
-use native.Mathlib.Omega.{arith}
 use borrow.Author.Tests.{eq-eqb, ne_eqb}
 use Rattle.file_blocks.specs.Blocks.{check_right}
 use Rattle.file_blocks.proofs.block_check_right.Goals as goal

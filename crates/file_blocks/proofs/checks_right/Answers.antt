@@ -2,12 +2,10 @@
 -- a right one is one more (`every_more`); at the end k is the number of blocks.
 use mathlib.Core.Path.{◌≡◌, sym}
 use mathlib.Core.Bool.{true}
-use Prim.Native.Nat.{◌-◌, ◌≤◌}
 use native.Mathlib.Omega.{arith}
-use Rattle.questions.specs.Search.{every}
 use Rattle.questions.proofs.Search.{every-none, every_more, every-not}
 use Rattle.questions.proofs.Bools.{said-no, said-yes}
-use Rattle.file_blocks.specs.Blocks.{block_count, block_of, check_right, checks_right}
+use Rattle.file_blocks.specs.Blocks.{block_count, check_right, checks_right}
 use Rattle.file_blocks.proofs.checks_right.Goals as goal
 
 pub loop-k-init : goal.loop-k-init

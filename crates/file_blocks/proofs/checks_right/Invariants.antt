@@ -1,11 +1,10 @@
-use mathlib.Core.Path.{◌≡◌, sym}
+-- The loop keeps: k is at most the number of blocks, and the checks of the first k are right. A wrong one fails the whole (`every-not`), a right one
+-- is one more (`every_more`); at the end k is the number of blocks.
+use mathlib.Core.Path.{◌≡◌}
 use mathlib.Core.Bool.{true}
 use Prim.Native.Nat.{◌-◌, ◌≤◌}
-use native.Mathlib.Omega.{arith}
 use Rattle.questions.specs.Search.{every}
-use Rattle.questions.proofs.Search.{every-none, every_more, every-not}
-use Rattle.questions.proofs.Bools.{said-no, said-yes}
-use Rattle.file_blocks.specs.Blocks.{block_count, block_of, check_right, checks_right}
+use Rattle.file_blocks.specs.Blocks.{block_of, check_right}
 use Rattle.file_blocks.proofs.checks_right.Given as goal
 
 abbrev pub invariant-loop-k : goal.invariant-loop-k

@@ -2,12 +2,8 @@
 -- (`every-not`), a zero byte is one more (`every_more`); at the end i is n.
 use mathlib.Core.Path.{◌≡◌, sym, ◌∙◌}
 use mathlib.Core.Bool.{true}
-use Prim.Native.Nat.{◌+◌, ◌-◌, ◌≤◌}
 use native.Mathlib.Omega.{arith}
 use borrow.Author.Tests.{eq-eqb, ne_eqb}
-use lib.ListN.{get_or}
-use lib.Dec.{eqb}
-use Rattle.questions.specs.Search.{every}
 use Rattle.questions.proofs.Search.{every-none, every_more, every-not}
 use Rattle.file_blocks.specs.Blocks.{zeros}
 use Rattle.file_blocks.proofs.each_zero.Goals as goal

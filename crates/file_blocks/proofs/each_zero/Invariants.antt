@@ -1,13 +1,11 @@
-use mathlib.Core.Path.{◌≡◌, sym, ◌∙◌}
+-- The loop keeps: i is at most n, and the first i of them are zero. A byte that is not fails the whole (`every-not`), a zero byte is one more
+-- (`every_more`); at the end i is n.
+use mathlib.Core.Path.{◌≡◌}
 use mathlib.Core.Bool.{true}
 use Prim.Native.Nat.{◌+◌, ◌-◌, ◌≤◌}
-use native.Mathlib.Omega.{arith}
-use borrow.Author.Tests.{eq-eqb, ne_eqb}
 use lib.ListN.{get_or}
 use lib.Dec.{eqb}
 use Rattle.questions.specs.Search.{every}
-use Rattle.questions.proofs.Search.{every-none, every_more, every-not}
-use Rattle.file_blocks.specs.Blocks.{zeros}
 use Rattle.file_blocks.proofs.each_zero.Given as goal
 
 abbrev pub invariant-loop-i : goal.invariant-loop-i

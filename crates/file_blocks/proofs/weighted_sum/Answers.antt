@@ -1,7 +1,6 @@
 -- The sum of each of the first 510 bytes times its place from 1. The loop keeps: i is at most 255, `sum` is at most 195,075 · i, and `sum` is what
 -- the bytes below i and those from 255 to below 255 + i add (`halves-more`). At the end i is 255, and that is all.
 use mathlib.Core.Path.{◌≡◌, refl}
-use Prim.Native.Nat.{◌+◌, ◌-◌, ◌*◌, ◌≤◌}
 use native.Mathlib.Omega.{arith}
 use Rattle.file_blocks.specs.Blocks.{weighted_sum}
 use Rattle.file_blocks.proofs.Files.{halves-more}

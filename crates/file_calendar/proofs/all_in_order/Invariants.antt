@@ -1,12 +1,8 @@
-use mathlib.Core.Path.{◌≡◌, sym, ap, ◌∙◌}
+-- The loop keeps: the blocks before k are in order, and k ≤ blocks. A no of `in_order` at k refutes it of all; at k = blocks it is said of all.
+use mathlib.Core.Path.{◌≡◌}
 use mathlib.Core.Bool.{true}
-use mathlib.Core.List.{List}
-use Prim.Native.Nat.{ℕ, ◌-◌, ◌≤◌}
-use native.Mathlib.Omega.{arith}
+use Prim.Native.Nat.{◌-◌, ◌≤◌}
 use Rattle.questions.specs.Search.{every}
-use Rattle.questions.proofs.Search.{every-none, every_more, every-not}
-use Rattle.questions.proofs.Bools.{said-no, said-yes}
-use Rattle.file_blocks.specs.Blocks.{block_count, number_at}
 use Rattle.file_calendar.specs.Calendars.{in_order}
 use Rattle.file_calendar.proofs.all_in_order.Given as goal
 

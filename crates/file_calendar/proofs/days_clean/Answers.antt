@@ -2,9 +2,7 @@
 -- The loop keeps: the days before n are clean, and n ≤ 368. A day that is not clean refutes it of all; at n = 368 it is said of all.
 use mathlib.Core.Path.{◌≡◌, sym}
 use mathlib.Core.Bool.{true}
-use Prim.Native.Nat.{◌-◌, ◌≤◌}
 use native.Mathlib.Omega.{arith}
-use Rattle.questions.specs.Search.{every}
 use Rattle.questions.proofs.Search.{every-none, every_more, every-not}
 use Rattle.questions.proofs.Bools.{said-no, said-yes}
 use Rattle.file_calendar.specs.Calendars.{day_clean}

@@ -1,9 +1,8 @@
-use mathlib.Core.Path.{◌≡◌, sym, ap, ◌∙◌}
-use Prim.Native.Nat.{ℕ, ◌-◌, ◌*◌, ◌≤◌}
-use native.Mathlib.Omega.{arith}
-use Rattle.file_calendar.specs.Calendars.{listed, up_to, map_byte, maps_from}
-use Rattle.file_calendar.proofs.Filling.{Filled, filled_none, filled_more, filled-all}
-use Rattle.file_blocks.proofs.Files.{block-byte}
+-- The loop keeps: of the 736 bytes of `maps` those before i are the maps' bytes and the others zero (`Filled`), and i ≤ n. At i = n = 46 · years the
+-- array is `maps_from` by `filled-all`.
+use Prim.Native.Nat.{◌-◌, ◌≤◌}
+use Rattle.file_calendar.specs.Calendars.{map_byte}
+use Rattle.file_calendar.proofs.Filling.{Filled}
 use Rattle.file_calendar.proofs.maps_from.Given as goal
 
 -- ---- what the loop keeps, and what falls

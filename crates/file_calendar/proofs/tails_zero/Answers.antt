@@ -3,12 +3,11 @@
 use mathlib.Core.Path.{◌≡◌, sym, ap, ◌∙◌}
 use mathlib.Core.Bool.{true}
 use mathlib.Core.List.{List}
-use Prim.Native.Nat.{ℕ, ◌-◌, ◌≤◌}
+use Prim.Native.Nat.{ℕ}
 use native.Mathlib.Omega.{arith}
-use Rattle.questions.specs.Search.{every}
 use Rattle.questions.proofs.Search.{every-none, every_more, every-not}
 use Rattle.questions.proofs.Bools.{said-no, said-yes}
-use Rattle.file_blocks.specs.Blocks.{block_of, zeros}
+use Rattle.file_blocks.specs.Blocks.{zeros}
 use Rattle.file_calendar.proofs.tails_zero.Goals as goal
 
 pub loop-k-init : goal.loop-k-init

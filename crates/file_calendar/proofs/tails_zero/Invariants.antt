@@ -1,11 +1,9 @@
-use mathlib.Core.Path.{◌≡◌, sym, ap, ◌∙◌}
+-- The loop keeps: those of the blocks before k are, and k ≤ years. A block with another byte there refutes it of all; at k = years it is said of
+-- all.
+use mathlib.Core.Path.{◌≡◌}
 use mathlib.Core.Bool.{true}
-use mathlib.Core.List.{List}
-use Prim.Native.Nat.{ℕ, ◌-◌, ◌≤◌}
-use native.Mathlib.Omega.{arith}
+use Prim.Native.Nat.{◌-◌, ◌≤◌}
 use Rattle.questions.specs.Search.{every}
-use Rattle.questions.proofs.Search.{every-none, every_more, every-not}
-use Rattle.questions.proofs.Bools.{said-no, said-yes}
 use Rattle.file_blocks.specs.Blocks.{block_of, zeros}
 use Rattle.file_calendar.proofs.tails_zero.Given as goal
 

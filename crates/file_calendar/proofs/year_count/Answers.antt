@@ -3,11 +3,11 @@
 use mathlib.Core.Path.{◌≡◌, refl, sym, ◌∙◌, ap}
 use mathlib.Core.Bool.{Bool}
 use mathlib.Core.List.{List}
-use Prim.Native.Nat.{ℕ, ◌-◌, ◌≤◌}
+use Prim.Native.Nat.{ℕ}
 use native.Mathlib.Omega.{arith}
 use borrow.Author.Tests.{eq-eqb, ne_eqb}
 use lib.ListN.{get_or}
-use Rattle.file_blocks.specs.Blocks.{block_count, count_of, block_of, is_calendar}
+use Rattle.file_blocks.specs.Blocks.{block_count, block_of, is_calendar}
 use Rattle.file_calendar.specs.Calendars.{year_count}
 use Rattle.file_blocks.proofs.TestCounts.{count_none, count_yes, count_no}
 use Rattle.file_calendar.proofs.year_count.Goals as goal

@@ -1,14 +1,8 @@
-use mathlib.Core.Path.{◌≡◌, refl, sym, ◌∙◌, ap}
-use mathlib.Core.Bool.{Bool}
-use mathlib.Core.Logic.{⊎_elim}
-use mathlib.Core.List.{List}
-use Prim.Native.Nat.{ℕ, ◌-◌, ◌≤◌}
-use native.Mathlib.Omega.{arith}
-use borrow.Author.Tests.{eq-eqb, ne_eqb}
-use lib.ListN.{get_or}
-use Rattle.file_blocks.specs.Blocks.{block_count, count_of, block_of, is_calendar}
-use Rattle.file_calendar.specs.Calendars.{year_count}
-use Rattle.file_blocks.proofs.TestCounts.{count_none, count_yes, count_no}
+-- The loop keeps: `years` is how many of the blocks before k are calendar blocks, and k ≤ blocks. A turn adds one by `count_yes`, none by
+-- `count_no`.
+use mathlib.Core.Path.{◌≡◌}
+use Prim.Native.Nat.{◌-◌, ◌≤◌}
+use Rattle.file_blocks.specs.Blocks.{count_of, block_of, is_calendar}
 use Rattle.file_calendar.proofs.year_count.Given as goal
 
 -- ---- what the loop keeps, and what falls

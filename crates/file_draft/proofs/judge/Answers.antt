@@ -17,7 +17,8 @@ use Rattle.file_draft.proofs.DraftCalendars.{order-written, clean-written, weeks
 use Rattle.file_draft.proofs.DraftRecords.{rises-written}
 use Rattle.file_draft.proofs.DraftQuestions.{years-few, whole-written, part-written, fits-is}
 use Rattle.file_draft.proofs.judge.Goals as goal
-use Rattle.file_draft.proofs.judge.Goals.{Start, Else-not-years_right, Else-not-counts_right, Else-not-is_clean, Else-not-every_week_trades, Else-not-list_right, Else-not-list_rises}
+use Rattle.file_draft.proofs.judge.Goals.{Start, Else-not-years_right, Else-not-counts_right, Else-not-is_clean, Else-not-every_week_trades}
+use Rattle.file_draft.proofs.judge.Goals.{Else-not-list_right, Else-not-list_rises}
 
 -- ---- the yeses
 abbrev asks : Start → List Ask
@@ -87,7 +88,8 @@ returns-then-not-years_right c = sym (first-no 3 _ (headers-written _ _ ∙ said
 
 pub returns-then-not-counts_right : goal.returns-then-not-counts_right
 unfolding write_asks
-returns-then-not-counts_right c = sym (yes-3 (goal.at.returns-then-not-counts_right c).Else-not-years_right ∙ first-no 4 _ (order-written _ _ ∙ said-no c.counts_right.ensures c.if-not-counts_right.true))
+returns-then-not-counts_right c = sym (yes-3 (goal.at.returns-then-not-counts_right c).Else-not-years_right ∙
+  first-no 4 _ (order-written _ _ ∙ said-no c.counts_right.ensures c.if-not-counts_right.true))
 
 pub within_cover-held-requires : goal.within_cover-held-requires
 within_cover-held-requires c =

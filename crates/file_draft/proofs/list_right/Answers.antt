@@ -2,10 +2,9 @@
 -- The loop keeps: the records before i are right, and i ≤ n. A record that is not refutes it of all; at i = n it is said of all.
 use mathlib.Core.Path.{◌≡◌, sym}
 use mathlib.Core.Bool.{true}
-use Prim.Native.Nat.{◌-◌, ◌/◌, ◌≤◌}
+use Prim.Native.Nat.{◌/◌}
 use native.Mathlib.Omega.{arith}
 use lib.ListN.{length}
-use Rattle.questions.specs.Search.{every}
 use Rattle.questions.proofs.Search.{every-none, every_more, every-not}
 use Rattle.questions.proofs.Bools.{said-no, said-yes}
 use Rattle.file_records.specs.Records.{record_right}

@@ -1,13 +1,10 @@
-use mathlib.Core.Path.{◌≡◌, sym}
+-- The loop keeps: the records before i are right, and i ≤ n. A record that is not refutes it of all; at i = n it is said of all.
+use mathlib.Core.Path.{◌≡◌}
 use mathlib.Core.Bool.{true}
-use Prim.Native.Nat.{◌-◌, ◌/◌, ◌≤◌}
-use native.Mathlib.Omega.{arith}
-use lib.ListN.{length}
+use Prim.Native.Nat.{◌-◌, ◌≤◌}
 use Rattle.questions.specs.Search.{every}
-use Rattle.questions.proofs.Search.{every-none, every_more, every-not}
-use Rattle.questions.proofs.Bools.{said-no, said-yes}
 use Rattle.file_records.specs.Records.{record_right}
-use Rattle.file_draft.specs.Drafts.{list_record, list_right}
+use Rattle.file_draft.specs.Drafts.{list_record}
 use Rattle.file_draft.proofs.list_right.Given as goal
 
 -- ---- what the loop keeps, and what falls

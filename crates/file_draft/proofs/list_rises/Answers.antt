@@ -2,10 +2,9 @@
 -- The loop keeps: the ids up to record i rise from neighbour to neighbour, and i ≤ n − 1. Two that do not rise refute it; at i = n − 1 all do.
 use mathlib.Core.Path.{◌≡◌, sym}
 use mathlib.Core.Bool.{true}
-use Prim.Native.Nat.{◌+◌, ◌-◌, ◌/◌, ◌≤◌}
+use Prim.Native.Nat.{◌-◌, ◌/◌}
 use native.Mathlib.Omega.{arith}
 use lib.ListN.{length}
-use Rattle.questions.specs.Search.{every}
 use Rattle.questions.proofs.Search.{every-none, every_more, every-not}
 use Rattle.questions.proofs.Bools.{said-no, said-yes}
 use Rattle.file_ids.specs.Ids.{id_rises}

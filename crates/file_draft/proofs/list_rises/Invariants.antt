@@ -1,13 +1,10 @@
-use mathlib.Core.Path.{◌≡◌, sym}
+-- The loop keeps: the ids up to record i rise from neighbour to neighbour, and i ≤ n − 1. Two that do not rise refute it; at i = n − 1 all do.
+use mathlib.Core.Path.{◌≡◌}
 use mathlib.Core.Bool.{true}
-use Prim.Native.Nat.{◌+◌, ◌-◌, ◌/◌, ◌≤◌}
-use native.Mathlib.Omega.{arith}
-use lib.ListN.{length}
+use Prim.Native.Nat.{◌+◌, ◌-◌, ◌≤◌}
 use Rattle.questions.specs.Search.{every}
-use Rattle.questions.proofs.Search.{every-none, every_more, every-not}
-use Rattle.questions.proofs.Bools.{said-no, said-yes}
 use Rattle.file_ids.specs.Ids.{id_rises}
-use Rattle.file_draft.specs.Drafts.{list_id, list_rises}
+use Rattle.file_draft.specs.Drafts.{list_id}
 use Rattle.file_draft.proofs.list_rises.Given as goal
 
 -- ---- what the loop keeps, and what falls

@@ -1,10 +1,8 @@
 -- The maps of some years, then zeros.
 -- The loop keeps: of the 736 bytes of `kept` those before i are the map's and the others zero (`Filled`), and i ≤ n = 46 · years.
 use mathlib.Core.Path.{refl}
-use Prim.Native.Nat.{◌-◌, ◌≤◌}
 use native.Mathlib.Omega.{arith}
-use lib.ListN.{get_or}
-use Rattle.file_calendar.proofs.Filling.{Filled, filled_none, filled_more}
+use Rattle.file_calendar.proofs.Filling.{filled_none, filled_more}
 use Rattle.file_draft.proofs.Cover.{years-kept}
 use Rattle.file_draft.proofs.years_of_map.Goals as goal
 

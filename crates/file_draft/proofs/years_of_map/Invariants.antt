@@ -1,9 +1,7 @@
-use mathlib.Core.Path.{refl}
+-- The loop keeps: of the 736 bytes of `kept` those before i are the map's and the others zero (`Filled`), and i ≤ n = 46 · years.
 use Prim.Native.Nat.{◌-◌, ◌≤◌}
-use native.Mathlib.Omega.{arith}
 use lib.ListN.{get_or}
-use Rattle.file_calendar.proofs.Filling.{Filled, filled_none, filled_more}
-use Rattle.file_draft.proofs.Cover.{years-kept}
+use Rattle.file_calendar.proofs.Filling.{Filled}
 use Rattle.file_draft.proofs.years_of_map.Given as goal
 
 abbrev pub invariant-loop-i : goal.invariant-loop-i

@@ -2,11 +2,10 @@
 -- The loop keeps `Walked`: before p every id is above all before it, and `last` is the last record's place, with the highest id, or `places`.
 -- A no of `follows` refutes question 8 (walk-fails); at p = places the walk has answered it yes (walk_ends).
 use mathlib.Core.Path.{sym}
-use Prim.Native.Nat.{◌-◌}
 use native.Mathlib.Omega.{arith}
 use Rattle.questions.proofs.Bools.{said-no, said-yes}
 use Rattle.file_ids.specs.Ids.{ids_rise}
-use Rattle.file_ids.proofs.IdsRise.{Walked, walk_start, walk_step, walk-fails, walk_ends}
+use Rattle.file_ids.proofs.IdsRise.{walk_start, walk_step, walk-fails, walk_ends}
 use Rattle.file_ids.proofs.ids_rise.Goals as goal
 
 pub loop-p-init : goal.loop-p-init

@@ -1,9 +1,7 @@
 -- The count of the file's records, which is at most the count of its places.
 -- The loop keeps: `records` is how many of the places before p hold a record, and p ≤ places. A turn adds one by `count_yes`, none by `count_no`.
 use mathlib.Core.Path.{◌≡◌, sym}
-use Prim.Native.Nat.{◌-◌, ◌≤◌}
 use native.Mathlib.Omega.{arith}
-use Rattle.file_blocks.specs.Blocks.{count_of}
 use Rattle.file_ids.specs.Ids.{place_count, is_record, record_count}
 use Rattle.file_blocks.proofs.TestCounts.{count_none, count_yes, count_no}
 use Rattle.file_ids.proofs.record_count.Goals as goal

@@ -1,10 +1,7 @@
+-- The loop keeps: `state` is the state after the first k blocks, and k ≤ n. It starts by `starts`, and a block more keeps it by `goes_on`.
 use mathlib.Core.Path.{◌≡◌}
 use Prim.Native.Nat.{◌-◌, ◌≤◌}
-use native.Mathlib.Omega.{arith}
-use Rattle.file_blocks.specs.Blocks.{block_count}
-use Rattle.file_load.proofs.LoadAnswers.{length_most}
 use Rattle.file_intake.specs.Intake.{state_after}
-use Rattle.file_intake.proofs.BlockByBlock.{starts, goes_on}
 use Rattle.file_intake.proofs.hand_over_all.Given as goal
 
 abbrev pub invariant-loop-k : goal.invariant-loop-k

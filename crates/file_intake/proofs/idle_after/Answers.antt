@@ -1,10 +1,9 @@
 -- The days without trading at the end of a calendar block's year, counted up to seven; a block of another kind leaves the count.
 -- The loop keeps: `run` is the count after the first n days of the year and at most 7, and n ≤ days. One day more is `through-more`.
 use mathlib.Core.Path.{◌≡◌, sym, ◌∙◌}
-use Prim.Native.Nat.{◌-◌, ◌≤◌}
 use native.Mathlib.Omega.{arith}
 use borrow.Author.Tests.{eq-eqb, ne_eqb}
-use Rattle.file_intake.specs.Intake.{days_of, idle_through}
+use Rattle.file_intake.specs.Intake.{days_of}
 use Rattle.file_intake.proofs.Steps.{through-none, through-more}
 use Rattle.file_intake.proofs.idle_after.Goals as goal
 

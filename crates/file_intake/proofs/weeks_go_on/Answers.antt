@@ -3,13 +3,10 @@
 -- A run of seven refutes the question (week-ends); at n = days it is answered yes.
 use mathlib.Core.Path.{◌≡◌, sym, ◌∙◌}
 use mathlib.Core.Bool.{true}
-use Prim.Native.Nat.{suc, ◌-◌, ◌≤◌}
 use native.Mathlib.Omega.{arith}
-use lib.Dec.{ltb}
 use borrow.Author.Tests.{eq-eqb, ne_eqb}
-use Rattle.questions.specs.Search.{every}
 use Rattle.questions.proofs.Search.{every-none, every_more, every-not}
-use Rattle.file_intake.specs.Intake.{days_of, idle_through, weeks_go_on}
+use Rattle.file_intake.specs.Intake.{days_of, weeks_go_on}
 use Rattle.file_intake.proofs.Steps.{through-none, through-more, week-goes-on, week-ends}
 use Rattle.file_intake.proofs.weeks_go_on.Goals as goal
 

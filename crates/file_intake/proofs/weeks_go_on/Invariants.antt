@@ -1,13 +1,11 @@
-use mathlib.Core.Path.{◌≡◌, sym, ◌∙◌}
+-- The loop keeps: `run` is the count after n days, at most 7, and it came to seven on none of them; n ≤ days. A run of seven refutes the question
+-- (week-ends); at n = days it is answered yes.
+use mathlib.Core.Path.{◌≡◌}
 use mathlib.Core.Bool.{true}
 use Prim.Native.Nat.{suc, ◌-◌, ◌≤◌}
-use native.Mathlib.Omega.{arith}
 use lib.Dec.{ltb}
-use borrow.Author.Tests.{eq-eqb, ne_eqb}
 use Rattle.questions.specs.Search.{every}
-use Rattle.questions.proofs.Search.{every-none, every_more, every-not}
-use Rattle.file_intake.specs.Intake.{days_of, idle_through, weeks_go_on}
-use Rattle.file_intake.proofs.Steps.{through-none, through-more, week-goes-on, week-ends}
+use Rattle.file_intake.specs.Intake.{idle_through}
 use Rattle.file_intake.proofs.weeks_go_on.Given as goal
 
 -- ---- what the loop keeps, and what falls

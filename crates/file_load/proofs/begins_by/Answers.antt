@@ -1,6 +1,5 @@
 -- Whether the file has a block that begins with no record, or with an id that is not after another.
 -- Each `return` is the next part of `begins_by` and cites the tests before it; the last negates what `id_rises` answers of the id there.
-use native.Mathlib.Omega.{arith}
 use borrow.Author.Tests.{lt-ltb, le-ltb}
 use Rattle.questions.proofs.Bools.{said-no, said-yes}
 use Rattle.file_load.specs.Halves.{begins_by}

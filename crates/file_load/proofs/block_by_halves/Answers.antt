@@ -1,10 +1,8 @@
 -- The block from which a record with an id is looked for: seven steps of 64, 32, .., 1 blocks, never past the last block.
 -- The loop keeps: the `steps` still to take, from `block` with `width`, lead to `block_by_halves`; block is at most the file's count, width at most 64.
-use mathlib.Core.Path.{◌≡◌, refl, ◌∙◌, sym}
-use Prim.Native.Nat.{◌≤◌}
+use mathlib.Core.Path.{refl, ◌∙◌, sym}
 use native.Mathlib.Omega.{arith}
-use Rattle.file_blocks.specs.Blocks.{block_count}
-use Rattle.file_load.specs.Halves.{begins_by, halved, block_by_halves}
+use Rattle.file_load.specs.Halves.{block_by_halves}
 use Rattle.file_load.proofs.Halving.{halved-next, halved-end}
 use Rattle.file_load.proofs.block_by_halves.Goals as goal
 

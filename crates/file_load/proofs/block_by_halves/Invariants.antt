@@ -1,9 +1,9 @@
-use mathlib.Core.Path.{◌≡◌, refl, ◌∙◌, sym}
+-- The loop keeps: the `steps` still to take, from `block` with `width`, lead to `block_by_halves`; block is at most the file's count, width at most
+-- 64.
+use mathlib.Core.Path.{◌≡◌}
 use Prim.Native.Nat.{◌≤◌}
-use native.Mathlib.Omega.{arith}
 use Rattle.file_blocks.specs.Blocks.{block_count}
 use Rattle.file_load.specs.Halves.{begins_by, halved, block_by_halves}
-use Rattle.file_load.proofs.Halving.{halved-next, halved-end}
 use Rattle.file_load.proofs.block_by_halves.Given as goal
 
 abbrev pub invariant-loop-steps : goal.invariant-loop-steps

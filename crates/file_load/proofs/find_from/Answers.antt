@@ -1,5 +1,4 @@
 -- A `Reader` is made by `at_block`, moved by `seek`, and `here` says what it is at: what the place of the first record from there on says.
-use mathlib.Core.Path.{◌≡◌}
 use Prim.Native.Nat.{◌*◌}
 use native.Mathlib.Nat.{add-zero}
 use Rattle.file_load.proofs.LoadAnswers.{found-answer}

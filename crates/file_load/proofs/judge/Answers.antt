@@ -13,7 +13,8 @@ use Rattle.file_calendar.specs.Calendars.{calendar_of, weeks_right}
 use Rattle.file_load.specs.Load.{load_asks}
 use Rattle.file_load.proofs.LoadAnswers.{order-yes, order-no, order-calendar, judge-refused, judge-accepted}
 use Rattle.file_load.proofs.judge.Goals as goal
-use Rattle.file_load.proofs.judge.Goals.{Else-not-length_right, Else-not-checks_right, Else-not-headers_right, Else-ordered-ne0, Else-not-calendars_clean, After-every_week_trades, Else-not-every_week_trades, Else-not-products_right}
+use Rattle.file_load.proofs.judge.Goals.{Else-not-length_right, Else-not-checks_right, Else-not-headers_right, Else-ordered-ne0}
+use Rattle.file_load.proofs.judge.Goals.{Else-not-calendars_clean, After-every_week_trades, Else-not-every_week_trades, Else-not-products_right}
 
 -- ---- the yeses
 -- the first k questions are answered yes: the refusal is that of the others
@@ -50,7 +51,8 @@ weeks c = c.every_week_trades.ensures ∙ ap every_week (made (goal.at.After-eve
 
 yes-6 : (c : Else-not-every_week_trades) → Passed 6 c.args.file.now
 unfolding load_asks
-yes-6 c = yes-5 (goal.at.Else-not-every_week_trades c).Else-not-calendars_clean ∙ first-yes 6 _ (said-yes (weeks (goal.at.Else-not-every_week_trades c).After-every_week_trades) c.if-not-every_week_trades.false)
+yes-6 c = yes-5 (goal.at.Else-not-every_week_trades c).Else-not-calendars_clean ∙
+  first-yes 6 _ (said-yes (weeks (goal.at.Else-not-every_week_trades c).After-every_week_trades) c.if-not-every_week_trades.false)
 
 yes-7 : (c : Else-not-products_right) → Passed 7 c.args.file.now
 unfolding load_asks

@@ -1,10 +1,9 @@
 -- The place of the first record with an id, from a place on; the block after the last where there is none.
 -- The loop keeps: the first place from p on is the first from where it began. A record with the id ends it (seek-here), another does not (seek-next).
 -- After the last place there is none (seek-none), which is the place after the last block (place-past).
-use mathlib.Core.Path.{◌≡◌, refl, sym, ap, ◌∙◌}
-use Prim.Native.Nat.{◌-◌}
+use mathlib.Core.Path.{refl, sym, ap, ◌∙◌}
 use native.Mathlib.Omega.{arith}
-use Rattle.file_load.specs.Load.{place_from, place_of}
+use Rattle.file_load.specs.Load.{place_of}
 use Rattle.file_load.proofs.Seeking.{seek-none, seek-here, seek-next, place-past}
 use Rattle.file_load.proofs.seek_at.Goals as goal
 

@@ -1,8 +1,8 @@
-use mathlib.Core.Path.{◌≡◌, refl, sym, ap, ◌∙◌}
+-- The loop keeps: the first place from p on is the first from where it began. A record with the id ends it (seek-here), another does not
+-- (seek-next). After the last place there is none (seek-none), which is the place after the last block (place-past).
+use mathlib.Core.Path.{◌≡◌}
 use Prim.Native.Nat.{◌-◌}
-use native.Mathlib.Omega.{arith}
-use Rattle.file_load.specs.Load.{place_from, place_of}
-use Rattle.file_load.proofs.Seeking.{seek-none, seek-here, seek-next, place-past}
+use Rattle.file_load.specs.Load.{place_from}
 use Rattle.file_load.proofs.seek_at.Given as goal
 
 -- ---- what the loop keeps, and what falls

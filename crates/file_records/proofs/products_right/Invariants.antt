@@ -1,12 +1,11 @@
-use mathlib.Core.Path.{◌≡◌, sym}
+-- The loop keeps: k is at most the number of blocks, and each of the first k is no product block or has right records. A wrong one fails the whole
+-- (`every-not`), another is one more (`every_more`); at the end k is the number of blocks.
+use mathlib.Core.Path.{◌≡◌}
 use mathlib.Core.Bool.{true, not, ◌||◌}
 use Prim.Native.Nat.{◌-◌, ◌≤◌}
-use native.Mathlib.Omega.{arith}
 use Rattle.questions.specs.Search.{every}
-use Rattle.questions.proofs.Search.{every-none, every_more, every-not}
-use Rattle.questions.proofs.Bools.{said-no, said-yes}
-use Rattle.file_blocks.specs.Blocks.{block_count, block_of, is_products}
-use Rattle.file_records.specs.Records.{records_right, products_right}
+use Rattle.file_blocks.specs.Blocks.{block_of, is_products}
+use Rattle.file_records.specs.Records.{records_right}
 use Rattle.file_records.proofs.products_right.Given as goal
 
 abbrev pub invariant-loop-k : goal.invariant-loop-k

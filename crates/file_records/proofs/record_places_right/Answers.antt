@@ -2,9 +2,7 @@
 -- (`every-not`), a right one is one more (`every_more`); at the end k is 15.
 use mathlib.Core.Path.{◌≡◌, sym}
 use mathlib.Core.Bool.{true}
-use Prim.Native.Nat.{◌-◌, ◌≤◌}
 use native.Mathlib.Omega.{arith}
-use Rattle.questions.specs.Search.{every}
 use Rattle.questions.proofs.Search.{every-none, every_more, every-not}
 use Rattle.questions.proofs.Bools.{said-no, said-yes}
 use Rattle.file_records.specs.Records.{record_place_right}

@@ -1,12 +1,9 @@
 -- A search from the cover's first day on: no run that begins before the day looked at is without trading.
 use native.Mathlib.Omega.{arith}
-use mathlib.Core.Path.{◌≡◌, sym, ap, ◌∙◌}
+use mathlib.Core.Path.{sym, ap, ◌∙◌}
 use mathlib.Core.Bool.{not}
-use Prim.Native.Nat.{◌-◌}
-use Rattle.questions.specs.Search.{first_from}
 use Rattle.questions.proofs.Search.{search-none, search-here, search-next}
-use Rattle.calendar.specs.Trading.{calendar_with, some_trades}
-use Rattle.file_text_faults.specs.Faults.{first_idle}
+use Rattle.calendar.specs.Trading.{some_trades}
 use Rattle.file_text_faults.proofs.FirstIdleRun.{search-start, no_run}
 use Rattle.file_text_faults.proofs.first_idle_in.Goals as goal
 

@@ -1,12 +1,10 @@
-use native.Mathlib.Omega.{arith}
-use mathlib.Core.Path.{◌≡◌, sym, ap, ◌∙◌}
+-- A search from the cover's first day on: no run that begins before the day looked at is without trading.
+use mathlib.Core.Path.{◌≡◌}
 use mathlib.Core.Bool.{not}
 use Prim.Native.Nat.{◌-◌}
 use Rattle.questions.specs.Search.{first_from}
-use Rattle.questions.proofs.Search.{search-none, search-here, search-next}
 use Rattle.calendar.specs.Trading.{calendar_with, some_trades}
 use Rattle.file_text_faults.specs.Faults.{first_idle}
-use Rattle.file_text_faults.proofs.FirstIdleRun.{search-start, no_run}
 use Rattle.file_text_faults.proofs.first_idle_in.Given as goal
 
 abbrev pub invariant-loop-day : goal.invariant-loop-day

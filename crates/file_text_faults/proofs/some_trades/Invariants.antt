@@ -1,10 +1,8 @@
-use native.Mathlib.Omega.{arith}
-use mathlib.Core.Path.{◌≡◌, sym, ◌∙◌}
+-- The days so far are no trading days; a trading day among the seven is found.
+use mathlib.Core.Path.{◌≡◌}
 use mathlib.Core.Bool.{false}
 use Prim.Native.Nat.{◌-◌, ◌≤◌}
-use Rattle.questions.proofs.Search.{some_at}
 use Rattle.calendar.specs.Trading.{calendar_with, some_trades}
-use Rattle.file_text_faults.proofs.FirstIdleRun.{none_yet, none_more, none-all}
 use Rattle.file_text_faults.proofs.some_trades.Given as goal
 
 abbrev pub invariant-loop-i : goal.invariant-loop-i

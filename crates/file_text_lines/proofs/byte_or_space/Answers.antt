@@ -1,5 +1,4 @@
 -- Byte i of an id, or a space after its last: within the id the default plays no part (same-default), after it the default is the answer.
-use native.Mathlib.Omega.{arith}
 use mathlib.Core.Path.{sym}
 use lib.ListN.{get_or-eq_default}
 use Rattle.file_text_lines.proofs.LineWords.{same-default}

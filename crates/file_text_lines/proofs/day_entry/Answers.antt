@@ -3,7 +3,6 @@
 use Rattle.file_text_lines.proofs.EntryForms.{day-length, day-formless, day-dateless, day-is}
 use borrow.Author.Tests.{not-true, not-false}
 use mathlib.Core.Path.{◌∙◌}
-use native.Mathlib.Omega.{arith}
 use Rattle.file_text_lines.proofs.day_entry.Goals as goal
 
 pub returns-then-line-ne12 : goal.returns-then-line-ne12

@@ -3,7 +3,7 @@
 -- The parts that are lent to the calls lie in the line: it has 64 bytes and its length is less.
 use native.Mathlib.Omega.{arith}
 use mathlib.Core.Path.{◌≡◌, sym, ◌∙◌}
-use lib.ListN.{length, length-map}
+use lib.ListN.{length}
 use lib.Seq.{length-take-le}
 use Rattle.file_text_lines.proofs.EntryForms.{entry-long, begins-y, begins-s, begins-p, begins-else}
 use Rattle.file_text_lines.proofs.entry_of.Goals as goal

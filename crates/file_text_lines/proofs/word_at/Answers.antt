@@ -2,10 +2,8 @@
 -- The loop keeps: the words from word i on are those of the line from the place `from` on, and i ≤ k (words-next).
 -- A line that ends before word k has no such word (word-beyond); at i = k the word goes up to the next space (word-here).
 use native.Mathlib.Omega.{arith}
-use Prim.Native.Nat.{◌-◌, ◌≤◌}
 use mathlib.Core.Path.{◌≡◌, refl, ◌∙◌, ap}
-use lib.ListN.{length, drop}
-use Rattle.file_text_lines.specs.Entries.{words_of, word_at}
+use Rattle.file_text_lines.specs.Entries.{word_at}
 use Rattle.file_text_lines.proofs.LineWords.{words-next, word-here, word-beyond}
 use Rattle.file_text_lines.proofs.word_at.Goals as goal
 

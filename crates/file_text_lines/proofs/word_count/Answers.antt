@@ -1,11 +1,9 @@
 -- How many words a line has.
 -- The loop keeps: `count` and the words after the space at `from` are together all words, and count ≤ from + 1. At the line's end none are left.
 use native.Mathlib.Omega.{arith}
-use Prim.Native.Nat.{◌+◌, ◌-◌, ◌≤◌}
-use mathlib.Core.Path.{◌≡◌, sym}
-use lib.ListN.{length}
-use Rattle.file_text_lines.specs.Entries.{words_of}
-use Rattle.file_text_lines.proofs.LineWords.{words_left, words-counted, none_left, some_left}
+use Prim.Native.Nat.{◌+◌}
+use mathlib.Core.Path.{sym}
+use Rattle.file_text_lines.proofs.LineWords.{words-counted, none_left, some_left}
 use Rattle.file_text_lines.proofs.word_count.Goals as goal
 
 pub loop-from-init : goal.loop-from-init

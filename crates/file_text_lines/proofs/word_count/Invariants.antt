@@ -1,9 +1,9 @@
-use native.Mathlib.Omega.{arith}
+-- The loop keeps: `count` and the words after the space at `from` are together all words, and count ≤ from + 1. At the line's end none are left.
 use Prim.Native.Nat.{◌+◌, ◌-◌, ◌≤◌}
-use mathlib.Core.Path.{◌≡◌, sym}
+use mathlib.Core.Path.{◌≡◌}
 use lib.ListN.{length}
 use Rattle.file_text_lines.specs.Entries.{words_of}
-use Rattle.file_text_lines.proofs.LineWords.{words_left, words-counted, none_left, some_left}
+use Rattle.file_text_lines.proofs.LineWords.{words_left}
 use Rattle.file_text_lines.proofs.word_count.Given as goal
 
 -- ---- what the loop keeps, and what falls

@@ -1,10 +1,9 @@
-use native.Mathlib.Omega.{arith}
+-- The loop keeps: `value` followed by the bytes from i on makes the number that the whole word makes, and value ≤ most (one-digit). The returns of
+-- none are: no bytes, a byte that is no digit (no_digit), a number above the most (too-great); at the end the value is the number.
 use Prim.Native.Nat.{◌-◌, ◌≤◌}
-use mathlib.Core.Path.{◌≡◌, refl, sym, ◌∙◌}
+use mathlib.Core.Path.{◌≡◌}
 use lib.ListN.{length, drop}
-use Rattle.questions.proofs.Bools.{said-no, said-yes}
 use Rattle.file_text_lines.specs.Entries.{number_from}
-use Rattle.file_text_lines.proofs.NumberWords.{number-none, number-some, no_digit, too-great, one-digit, number-whole}
 use Rattle.file_text_lines.proofs.word_number.Given as goal
 
 -- ---- what the loop keeps, and what falls

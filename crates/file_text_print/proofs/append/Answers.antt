@@ -2,9 +2,8 @@
 -- The loop keeps: the buffer is the one at entry with the first i bytes of the line pasted at `at`, i ≤ n ≤ 64, and its length stays.
 use native.Mathlib.Omega.{arith}
 use mathlib.Core.Path.{◌≡◌, refl}
-use Prim.Native.Nat.{◌+◌, ◌-◌, ◌≤◌}
-use lib.ListN.{length, length-map, length-set}
-use lib.Seq.{paste, paste-zero}
+use lib.ListN.{length, length-set}
+use lib.Seq.{paste-zero}
 use Rattle.file_text_print.proofs.Building.{byte-pasted}
 use Rattle.file_text_print.proofs.append.Goals as goal
 

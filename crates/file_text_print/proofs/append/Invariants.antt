@@ -1,9 +1,8 @@
-use native.Mathlib.Omega.{arith}
-use mathlib.Core.Path.{◌≡◌, refl}
+-- The loop keeps: the buffer is the one at entry with the first i bytes of the line pasted at `at`, i ≤ n ≤ 64, and its length stays.
+use mathlib.Core.Path.{◌≡◌}
 use Prim.Native.Nat.{◌+◌, ◌-◌, ◌≤◌}
-use lib.ListN.{length, length-map, length-set}
-use lib.Seq.{paste, paste-zero}
-use Rattle.file_text_print.proofs.Building.{byte-pasted}
+use lib.ListN.{length}
+use lib.Seq.{paste}
 use Rattle.file_text_print.proofs.append.Given as goal
 
 -- ---- what the loop keeps, and what falls

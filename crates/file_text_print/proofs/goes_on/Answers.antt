@@ -1,5 +1,4 @@
 -- Whether there is another line, and room for it. The three returns are: no line more, a buffer under 64 bytes, and whether 64 bytes are left.
-use native.Mathlib.Omega.{arith}
 use Rattle.file_text_print.proofs.PrintedLines.{no_more, too_short, room-is}
 use Rattle.file_text_print.proofs.goes_on.Goals as goal
 

@@ -1,5 +1,4 @@
 -- A line with four bytes more: what the four calls of `extend` ensure, one after the other, by computing.
-use native.Mathlib.Omega.{arith}
 use mathlib.Core.Path.{refl}
 use Rattle.session_lines.specs.CommandLines.{fed}
 use Rattle.file_records.specs.Records.{four_bytes}

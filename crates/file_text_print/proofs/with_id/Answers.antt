@@ -2,12 +2,8 @@
 -- The loop keeps: `whole` with the characters from i on is the line with the id's characters, and i ≤ 4.
 -- A space ends the characters (id-ends), another byte is one of them (id-goes-on), and after four bytes none are left (id-whole).
 use native.Mathlib.Omega.{arith}
-use mathlib.Core.Path.{◌≡◌, refl, ◌∙◌}
-use Prim.Native.Nat.{◌-◌, ◌≤◌}
-use lib.ListN.{length, drop}
-use Rattle.session_lines.specs.CommandLines.{fed}
+use mathlib.Core.Path.{refl, ◌∙◌}
 use Rattle.file_text_print.proofs.Building.{id-ends, id-goes-on, id-whole}
-use Rattle.file_text_print.specs.Contents.{id_text}
 use Rattle.file_text_print.proofs.with_id.Goals as goal
 
 pub loop-i-init : goal.loop-i-init

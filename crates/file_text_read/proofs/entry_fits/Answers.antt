@@ -1,7 +1,7 @@
 -- Whether an entry may stand where it does.
 -- The six returns are: no entry, a Y or S, nothing said yet, a P, a day after an S, and a day by the cover; each cites the tests before it.
 use mathlib.Core.Path.{refl}
-use borrow.Author.Tests.{eq-eqb, ne_eqb, not-true, not-false}
+use borrow.Author.Tests.{eq-eqb, ne_eqb}
 use Rattle.file_text_read.specs.Lists.{entry_fits}
 use Rattle.file_text_read.proofs.entry_fits.Goals as goal
 

@@ -1,5 +1,4 @@
 -- The number of the next line, at most 999999999: the two returns are the two cases of `next_line`.
-use native.Mathlib.Omega.{arith}
 use mathlib.Core.Path.{refl}
 use borrow.Author.Tests.{lt-ltb, le-ltb}
 use Rattle.file_text_read.specs.Lists.{next_line}

@@ -3,9 +3,8 @@
 -- The loop keeps: the buffer is the one at entry with the first i bytes of the record pasted at `size`, i ≤ 32, and its length stays.
 use native.Mathlib.Omega.{arith}
 use mathlib.Core.Path.{◌≡◌, refl}
-use Prim.Native.Nat.{◌+◌, ◌-◌, ◌≤◌}
-use lib.ListN.{length, length-set}
-use lib.Seq.{paste, paste-zero}
+use lib.ListN.{length-set}
+use lib.Seq.{paste-zero}
 use Rattle.file_text_read.proofs.RecordsStored.{too_short, no_room, stored, byte-stored}
 use Rattle.file_text_read.proofs.store.Goals as goal
 

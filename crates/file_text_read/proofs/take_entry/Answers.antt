@@ -1,5 +1,4 @@
 -- An entry that may not stand there is a bad line; another changes the calendar, the records and the faults.
-use borrow.Author.Tests.{not-true, not-false}
 use Rattle.file_text_read.proofs.ListLines.{taken-bad, taken-good}
 use Rattle.file_text_read.proofs.take_entry.Goals as goal
 

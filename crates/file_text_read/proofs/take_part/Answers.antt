@@ -1,10 +1,7 @@
 -- The lines that end in a part of the list, and the line begun after them.
 -- The loop keeps `Going`: what t, l, the buffer and the bytes from i on say is what the whole part says, whatever follows; the records only grow.
 -- A byte that is no line feed lengthens the line (goes-byte), a line feed takes it (goes-line); at the end no byte is left (ends).
-use native.Mathlib.Omega.{arith}
-use Prim.Native.Nat.{◌-◌}
-use lib.ListN.{length}
-use Rattle.file_text_read.proofs.ListLines.{Going, begins, goes-byte, goes-line, ends}
+use Rattle.file_text_read.proofs.ListLines.{begins, goes-byte, goes-line, ends}
 use Rattle.file_text_read.proofs.take_part.Goals as goal
 
 pub loop-i-init : goal.loop-i-init

@@ -1,7 +1,8 @@
-use native.Mathlib.Omega.{arith}
+-- The loop keeps `Going`: what t, l, the buffer and the bytes from i on say is what the whole part says, whatever follows; the records only grow. A
+-- byte that is no line feed lengthens the line (goes-byte), a line feed takes it (goes-line); at the end no byte is left (ends).
 use Prim.Native.Nat.{◌-◌}
 use lib.ListN.{length}
-use Rattle.file_text_read.proofs.ListLines.{Going, begins, goes-byte, goes-line, ends}
+use Rattle.file_text_read.proofs.ListLines.{Going}
 use Rattle.file_text_read.proofs.take_part.Given as goal
 
 -- ---- what the loop keeps, and what falls

@@ -1,7 +1,7 @@
 -- The bytes that are shown, without the mark where the line is the first, say what the line says.
 use mathlib.Core.Path.{◌≡◌, sym}
 use native.Mathlib.Omega.{arith}
-use lib.ListN.{length, length-map}
+use lib.ListN.{length}
 use lib.Seq.{length-take-le}
 use Rattle.file_text_stripped.proofs.LineHeld.{said-held}
 use Rattle.file_text_stripped.proofs.held_entry.Goals as goal

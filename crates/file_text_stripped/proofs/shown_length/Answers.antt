@@ -1,7 +1,7 @@
 -- The bytes of a line that are shown: all that are held where the line is longer, else those before the blanks at its end.
 use mathlib.Core.Path.{◌≡◌, sym}
 use native.Mathlib.Omega.{arith}
-use lib.ListN.{length, length-map}
+use lib.ListN.{length}
 use lib.Seq.{length-take-le}
 use Rattle.file_text_stripped.proofs.LineHeld.{shown-over, shown-whole}
 use Rattle.file_text_stripped.proofs.shown_length.Goals as goal

@@ -1,6 +1,5 @@
 -- With 6 the day, with 5, 7 and 8 the line, with another number nothing.
 use Rattle.file_text_print.proofs.Building.{then}
-use borrow.Author.Tests.{not-true, not-false}
 use Rattle.file_text_told.proofs.ToldTexts.{where-day, where-none, where-line}
 use Rattle.file_text_told.proofs.with_where.Goals as goal
 

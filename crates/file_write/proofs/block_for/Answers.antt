@@ -2,10 +2,8 @@
 -- The loop keeps: of the 512 bytes of `body` those before j are the block's and the others zero (`Filled`), and j ≤ 510.
 -- With the check that `checked` writes after them they are the block of the definition (block_made).
 use mathlib.Core.Path.{◌∙◌}
-use Prim.Native.Nat.{◌-◌, ◌≤◌}
 use native.Mathlib.Omega.{arith}
-use Rattle.calendar.specs.Trading.{calendar_of_maps}
-use Rattle.file_calendar.proofs.Filling.{Filled, filled_none, filled_more}
+use Rattle.file_calendar.proofs.Filling.{filled_none, filled_more}
 use Rattle.file_draft.specs.Drafts.{block_byte}
 use Rattle.file_write.proofs.Buffers.{block_made}
 use Rattle.file_write.proofs.block_for.Goals as goal

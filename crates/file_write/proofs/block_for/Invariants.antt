@@ -1,10 +1,9 @@
-use mathlib.Core.Path.{◌∙◌}
+-- The loop keeps: of the 512 bytes of `body` those before j are the block's and the others zero (`Filled`), and j ≤ 510. With the check that
+-- `checked` writes after them they are the block of the definition (block_made).
 use Prim.Native.Nat.{◌-◌, ◌≤◌}
-use native.Mathlib.Omega.{arith}
 use Rattle.calendar.specs.Trading.{calendar_of_maps}
-use Rattle.file_calendar.proofs.Filling.{Filled, filled_none, filled_more}
+use Rattle.file_calendar.proofs.Filling.{Filled}
 use Rattle.file_draft.specs.Drafts.{block_byte}
-use Rattle.file_write.proofs.Buffers.{block_made}
 use Rattle.file_write.proofs.block_for.Given as goal
 
 abbrev pub invariant-loop-j : goal.invariant-loop-j

@@ -1,9 +1,8 @@
 -- The buffer afterwards has the block at its place and is otherwise as it was.
 -- The loop keeps: the buffer is the one at entry with the first j bytes of the block pasted at `at` (`Copied`), and j ≤ 512. So its length stays.
-use Prim.Native.Nat.{◌-◌, ◌≤◌}
 use mathlib.Core.Path.{◌≡◌}
 use native.Mathlib.Omega.{arith}
-use Rattle.file_write.proofs.Buffers.{Copied, copied_none, copied_more, copied-long}
+use Rattle.file_write.proofs.Buffers.{copied_none, copied_more, copied-long}
 use Rattle.file_write.proofs.put_block.Goals as goal
 
 pub loop-j-init : goal.loop-j-init

@@ -1,7 +1,6 @@
+-- The loop keeps: the buffer is the one at entry with the first j bytes of the block pasted at `at` (`Copied`), and j ≤ 512. So its length stays.
 use Prim.Native.Nat.{◌-◌, ◌≤◌}
-use mathlib.Core.Path.{◌≡◌}
-use native.Mathlib.Omega.{arith}
-use Rattle.file_write.proofs.Buffers.{Copied, copied_none, copied_more, copied-long}
+use Rattle.file_write.proofs.Buffers.{Copied}
 use Rattle.file_write.proofs.put_block.Given as goal
 
 abbrev pub invariant-loop-j : goal.invariant-loop-j

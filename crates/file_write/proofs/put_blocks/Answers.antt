@@ -1,9 +1,8 @@
 -- The buffer afterwards has the first `blocks` blocks of the file, and the bytes after them remain.
 -- The loop keeps: the first k blocks stand in the buffer and the rest of it is as it was (`Put`), and k ≤ blocks. A block more is `put-more`.
 use mathlib.Core.Path.{◌≡◌}
-use Prim.Native.Nat.{◌-◌, ◌≤◌}
 use native.Mathlib.Omega.{arith}
-use Rattle.file_write.proofs.Buffers.{Put, put-none, put-long, put-more}
+use Rattle.file_write.proofs.Buffers.{put-none, put-long, put-more}
 use Rattle.file_write.proofs.put_blocks.Goals as goal
 
 pub loop-k-init : goal.loop-k-init

@@ -1,7 +1,6 @@
-use mathlib.Core.Path.{◌≡◌}
+-- The loop keeps: the first k blocks stand in the buffer and the rest of it is as it was (`Put`), and k ≤ blocks. A block more is `put-more`.
 use Prim.Native.Nat.{◌-◌, ◌≤◌}
-use native.Mathlib.Omega.{arith}
-use Rattle.file_write.proofs.Buffers.{Put, put-none, put-long, put-more}
+use Rattle.file_write.proofs.Buffers.{Put}
 use Rattle.file_write.proofs.put_blocks.Given as goal
 
 -- ---- what the loop keeps, and what falls

@@ -3,12 +3,11 @@
 use mathlib.Core.Path.{◌≡◌, refl, sym, ◌∙◌}
 use mathlib.Core.Bool.{false}
 use mathlib.Core.List.{List}
-use mathlib.Core.Logic.{◌⊎◌, inl, inr, ⊎_elim}
+use mathlib.Core.Logic.{◌⊎◌, inl, inr}
 use Prim.Native.Nat.{ℕ, ◌*◌, ◌≤◌, ◌<◌}
 use native.Mathlib.Omega.{arith}
 use lib.ListN.{length, take}
 use Rattle.questions.proofs.Bools.{lt-or-ge}
-use Rattle.file_intake_text.specs.GatewayTexts.{IntakeReached}
 use Rattle.file_intake_text.proofs.Pieces.{goes_on, says-unread, says-finished, says-refused}
 use borrow.Author.Rules.{rules}
 use Rattle.gateway_run.proofs.read_blocks.Goals as goal

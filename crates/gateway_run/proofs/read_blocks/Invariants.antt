@@ -1,13 +1,9 @@
-use mathlib.Core.Path.{◌≡◌, refl, sym, ◌∙◌}
+-- The loop is left at the input's end, or at a block that is refused whatever follows, or at a read that failed.
+use mathlib.Core.Path.{◌≡◌}
 use mathlib.Core.Bool.{false}
-use mathlib.Core.List.{List}
-use mathlib.Core.Logic.{◌⊎◌, inl, inr, ⊎_elim}
-use Prim.Native.Nat.{ℕ, ◌*◌, ◌≤◌, ◌<◌}
-use native.Mathlib.Omega.{arith}
-use lib.ListN.{length, take}
-use Rattle.questions.proofs.Bools.{lt-or-ge}
+use Prim.Native.Nat.{◌*◌}
+use lib.ListN.{length}
 use Rattle.file_intake_text.specs.GatewayTexts.{IntakeReached}
-use Rattle.file_intake_text.proofs.Pieces.{goes_on, says-unread, says-finished, says-refused}
 use Rattle.gateway_run.proofs.read_blocks.Given as goal
 
 abbrev pub invariant-loop-rt : goal.invariant-loop-rt

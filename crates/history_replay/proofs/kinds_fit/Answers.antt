@@ -1,15 +1,11 @@
 -- Shown: yes exactly where every call of the list has a kind of 0 to 3.
 -- The loop keeps: k is at most the number of calls, and the calls before k have such a kind. A call with another ends it
 -- with no (`kinds-no`); after the last one all have (`kinds-yes`).
-use lib.ListN.{length}
-use Prim.Native.Nat.{◌-◌, ◌/◌, ◌≤◌}
 use native.Mathlib.Omega.{arith}
-use mathlib.Core.Path.{◌≡◌}
 use mathlib.Core.Bool.{true}
 use borrow.Author.Tests.{le-leb}
-use Rattle.questions.specs.Search.{every}
 use Rattle.questions.proofs.Search.{every-none, every_more}
-use Rattle.history_replay.proofs.ReplayBuffer.{kind_at, kinds-no, kinds-yes}
+use Rattle.history_replay.proofs.ReplayBuffer.{kinds-no, kinds-yes}
 use Rattle.history_replay.proofs.kinds_fit.Goals as goal
 
 -- ---- the loop

@@ -1,8 +1,9 @@
+-- The loop keeps (`Replaying`): the calls from i on, run on table t, end as all calls run on the first table; the answers of the calls before i with
+-- those still to come are all answers; the buffer begins with the first i and is else as it was.
 use lib.ListN.{length}
 use Prim.Native.Nat.{◌-◌, ◌/◌, ◌%◌, ◌≤◌}
-use native.Mathlib.Omega.{arith}
 use mathlib.Core.Path.{◌≡◌}
-use Rattle.history_replay.proofs.ReplayBuffer.{Replaying, begins, long, turns, ends}
+use Rattle.history_replay.proofs.ReplayBuffer.{Replaying}
 use Rattle.history_replay.proofs.run_calls.Given as goal
 
 -- ---- what the loop keeps

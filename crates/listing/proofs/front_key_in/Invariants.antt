@@ -1,3 +1,5 @@
+-- The loop keeps: the search from `key` on gives what the search from the date's key gives. A key that may be the front is it (`front-here`),
+-- another is passed by (`search-next`); `key` comes nearer to `end`.
 use Rattle.listing.proofs.Front.{searched}
 use Rattle.calendar.specs.Trading.{calendar_with}
 use Prim.Native.Nat.{◌-◌}

@@ -1,3 +1,6 @@
+-- Both loops keep `Walking`: `complete` is yes; the places listed and those still to fill are a complete listing's, at most 15; and filling those,
+-- the rest of this step's and the later steps', from `from` on gives what the start gives. A place is filled by `takes`, a key from `end` on leaves
+-- both loops (`stops`), and after the last step `finishes` gives the listing.
 use Rattle.listing.proofs.Fresh.{mat_of}
 use Rattle.listing.specs.Months.{set_at, rule_of}
 use Rattle.listing.proofs.ListLoops.{rest, Walking}

@@ -1,3 +1,4 @@
+-- For kinds 0 to 3 the next month by arithmetic; for kinds 4 and 5 the loop looks at one key after the other, as the definition does.
 use Rattle.listing.specs.Months.{set_at}
 use Rattle.questions.specs.Search.{first_from}
 use Prim.Native.Nat.{◌-◌}

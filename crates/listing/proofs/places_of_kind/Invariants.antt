@@ -1,3 +1,5 @@
+-- The loop keeps: `step` is at most 4, and `sum` with the places of the steps from `step` on is all places of the kind. A turn adds one step's count
+-- (`rest-count`); after the last step none is left (`rest-zero`).
 use Rattle.listing.proofs.ListLoops.{rest}
 use lib.ListN.{length}
 use Prim.Native.Nat.{◌+◌, ◌-◌, ◌≤◌, ◌<◌}

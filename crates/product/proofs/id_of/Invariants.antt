@@ -1,3 +1,5 @@
+-- The loop keeps: i is at most 4, and the first i bytes pass. A byte that fails fails the id (`every-not`), one that passes is one more
+-- (`every_more`); at the end i is 4.
 use Prim.Native.Nat.{◌≤◌, ◌-◌}
 use mathlib.Core.Path.{◌≡◌}
 use mathlib.Core.Bool.{true}

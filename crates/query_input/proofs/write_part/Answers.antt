@@ -1,12 +1,9 @@
 -- Buffer after buffer: what was written is the text up to the place that is reached.
-use mathlib.Core.Path.{◌≡◌, refl, sym, ◌∙◌}
+use mathlib.Core.Path.{refl, sym, ◌∙◌}
 use mathlib.Core.Bool.{true≢false}
-use Prim.Native.Nat.{◌-◌, ◌≤◌}
 use native.Mathlib.Omega.{arith}
-use lib.ListN.{length, drop}
 use Rattle.questions.proofs.Bools.{said-no, said-yes}
-use Rattle.delivery_queries.specs.Queries.{standing_in}
-use Rattle.delivery_sessions.specs.QueryRuns.{QueryHanded, answers}
+use Rattle.delivery_sessions.specs.QueryRuns.{answers}
 use Rattle.delivery_sessions.proofs.QueryRuns.{handed-none, handed-more, handed-all}
 use borrow.Author.Rules.{rules}
 use Rattle.query_input.proofs.write_part.Goals as goal

@@ -1,15 +1,9 @@
-use mathlib.Core.Path.{◌≡◌, refl, sym, ap, ◌∙◌}
-use mathlib.Core.Bool.{true≢false}
+-- Part after part: a run from here on is the rest of one from line 1 on, with as many bytes as were read; after the last read the last line ends it.
+use mathlib.Core.Path.{◌≡◌}
 use Prim.Native.Nat.{◌≤◌}
-use native.Mathlib.Omega.{arith}
 use lib.ListN.{length}
-use lib.Seq.{length-take-le}
-use Rattle.questions.proofs.Bools.{said-no, said-yes}
-use Rattle.streams.specs.declared.output.Sent.{Sent}
-use Rattle.streams.specs.declared.reads.Input.{Input}
 use Rattle.delivery_queries.specs.Queries.{standing_in}
 use Rattle.delivery_sessions.specs.QueryRuns.{Came}
-use Rattle.delivery_sessions.proofs.QueryRuns.{came-more, came-all}
 use Rattle.query_input.proofs.write_rest.Given as goal
 
 abbrev pub invariant-loop-part : goal.invariant-loop-part

@@ -1,7 +1,7 @@
 -- Shown: the first b tables, or all if fewer, are taken in their order and stand at the end of the queue. The number taken,
 -- k, is at most the count (`few-least`), so the three `put_after` stay within 200 places: the first k, the rest, and the
 -- first k after the rest; together they are the definition's queue (`handled-is`).
-use lib.ListN.{length, length-map}
+use lib.ListN.{length}
 use mathlib.Core.Path.{◌≡◌}
 use Rattle.rounds.proofs.QueueQuestions.{placed, few-least, rest-length, handled-is}
 use native.Mathlib.Omega.{arith}

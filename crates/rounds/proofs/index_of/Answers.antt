@@ -2,12 +2,9 @@
 -- The loop keeps: i is at most n, and the index among the first n is i more than the index among those from i on. The table
 -- at place i ends it (`index-here`); after the last place none is left (`index-none`).
 use Rattle.rounds.proofs.QueuePlaces.{index-here, index-next, index-none}
-use Rattle.rounds.specs.Rounds.{index_of}
-use lib.ListN.{length, take, drop}
-use Prim.Native.Nat.{◌+◌, ◌-◌, ◌≤◌}
 use native.Mathlib.Nat.{zero-add}
 use native.Mathlib.Omega.{arith}
-use mathlib.Core.Path.{◌≡◌, sym}
+use mathlib.Core.Path.{sym}
 use Rattle.rounds.proofs.index_of.Goals as goal
 
 -- ---- the loop

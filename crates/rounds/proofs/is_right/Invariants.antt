@@ -1,12 +1,10 @@
-use Rattle.rounds.specs.Rounds.{queue_place_right, queue_right}
-use Rattle.questions.proofs.Search.{every-none, every_more, every-not}
-use Rattle.questions.proofs.Bools.{and_both, said-no, said-yes}
+-- The loop keeps: n is at most 200, i at most n, and the places before i are right. A place with a no ends with no; after the last one i is the
+-- count, so all used places are right.
+use Rattle.rounds.specs.Rounds.{queue_place_right}
 use Rattle.questions.specs.Search.{every}
-use borrow.Author.Tests.{le-leb, lt-leb}
 use mathlib.Core.Bool.{true}
 use Prim.Native.Nat.{◌-◌, ◌≤◌}
-use native.Mathlib.Omega.{arith}
-use mathlib.Core.Path.{◌≡◌, sym}
+use mathlib.Core.Path.{◌≡◌}
 use Rattle.rounds.proofs.is_right.Given as goal
 
 -- ---- what the loop keeps

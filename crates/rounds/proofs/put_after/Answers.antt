@@ -1,10 +1,7 @@
 -- Shown: the places hold the first n numbers of the other places, then those at first to end − 1, then zeros.
 -- The loop keeps (`Putting`): the places before `at` are filled, they and the numbers from i to end are the whole, and
 -- `at` with what is left to put is at most 200, so that every write is within the places.
-use Rattle.rounds.proofs.QueuePlaces.{Putting, puts, puts-more, puts-all}
-use lib.ListN.{take, drop}
-use mathlib.Core.List.{◌++◌}
-use Prim.Native.Nat.{◌-◌}
+use Rattle.rounds.proofs.QueuePlaces.{puts, puts-more, puts-all}
 use native.Mathlib.Omega.{arith}
 use Rattle.rounds.proofs.put_after.Goals as goal
 

@@ -1,8 +1,9 @@
-use Rattle.rounds.proofs.QueuePlaces.{Putting, puts, puts-more, puts-all}
+-- The loop keeps (`Putting`): the places before `at` are filled, they and the numbers from i to end are the whole, and `at` with what is left to put
+-- is at most 200, so that every write is within the places.
+use Rattle.rounds.proofs.QueuePlaces.{Putting}
 use lib.ListN.{take, drop}
 use mathlib.Core.List.{◌++◌}
 use Prim.Native.Nat.{◌-◌}
-use native.Mathlib.Omega.{arith}
 use Rattle.rounds.proofs.put_after.Given as goal
 
 -- ---- what the loop keeps

@@ -1,6 +1,6 @@
 -- The queue is the tables that were queued and then the new one (`joined_is`): the used places are put into zeros and the
 -- table is written after them, within the places since fewer than 200 are used.
-use lib.ListN.{length, length-map}
+use lib.ListN.{length}
 use mathlib.Core.Path.{◌≡◌}
 use Rattle.rounds.proofs.QueueQuestions.{joined_is}
 use native.Mathlib.Omega.{arith}

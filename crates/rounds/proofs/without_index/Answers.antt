@@ -1,6 +1,6 @@
 -- The queue is the tables before the index and those after it, in their order (`left_is`): two `put_after`, the second after
 -- the first `index` places, and both within the 200 places since the index is below the count.
-use lib.ListN.{length, length-map}
+use lib.ListN.{length}
 use mathlib.Core.Path.{◌≡◌}
 use Rattle.rounds.proofs.QueueQuestions.{placed, left_is}
 use lib.Seq.{length-take-le}

@@ -1,10 +1,9 @@
 -- Shown: a yes says that the command is a roll, that `ten` is yes, and that the roll of a sound table, under any second map,
 -- is the same table on the date. The four returns with no have nothing to show; the last has the date in the cover, not
 -- before the table's, and the front in the first place (`rolls-kept`).
-use native.Mathlib.Omega.{arith}
 use mathlib.Core.Path.{◌≡◌, refl, sym}
 use mathlib.Core.Bool.{true≢false}
-use lib.ListN.{length, length-map}
+use lib.ListN.{length}
 use borrow.Author.Tests.{le-leb}
 use Rattle.questions.proofs.Bools.{said-yes}
 use Rattle.session_apart.proofs.Keeping.{rolls-kept}

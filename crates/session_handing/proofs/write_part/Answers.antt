@@ -2,14 +2,10 @@
 -- the buffer has its length of 512 or more, and what was sent, then the answers to the part from `s.at` on, are
 -- those to all of it (`Handed`). Each turn leads on (`handed-more`); at the end nothing is left (`handed-all`).
 use native.Mathlib.Omega.{arith}
-use Prim.Native.Nat.{◌-◌, ◌≤◌}
-use mathlib.Core.Path.{◌≡◌, refl, sym, ◌∙◌}
+use mathlib.Core.Path.{refl, sym, ◌∙◌}
 use mathlib.Core.Bool.{true≢false}
-use lib.ListN.{length, drop}
 use Rattle.questions.proofs.Bools.{said-no, said-yes}
-use Rattle.file_calendar.specs.Calendars.{calendar_answer}
-use Rattle.table.specs.Table.{open_in}
-use Rattle.session_parts.specs.TermsParts.{Handed, answers}
+use Rattle.session_parts.specs.TermsParts.{answers}
 use Rattle.session_parts.proofs.TermsRuns.{handed-none, handed-more, handed-all}
 use borrow.Author.Rules.{rules}
 use Rattle.session_handing.proofs.write_part.Goals as goal

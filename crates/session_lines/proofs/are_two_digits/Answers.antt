@@ -2,7 +2,6 @@
 -- 64.
 use mathlib.Core.Path.{ap₂}
 use mathlib.Core.Bool.{◌&&◌}
-use native.Mathlib.Omega.{arith}
 use Rattle.session_lines.proofs.are_two_digits.Goals as goal
 
 pub returns : goal.returns

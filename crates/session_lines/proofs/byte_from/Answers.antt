@@ -1,9 +1,7 @@
 -- `byte_from` gives the place of the first such byte from a place on, or the end. The loop keeps: i is `from` or lies between it and
 -- the end, and no byte from `from` up to i is such a byte. It returns at one, or at the end; from a place past the end it does not begin.
 use native.Mathlib.Omega.{arith}
-use Prim.Native.Nat.{◌-◌, ◌≤◌, ◌<◌}
-use mathlib.Core.Path.{◌≡◌, refl}
-use lib.ListN.{length, get_or}
+use mathlib.Core.Path.{refl}
 use Rattle.session_lines.proofs.BytePlaces.{none_more}
 use Rattle.session_lines.proofs.byte_from.Goals as goal
 

@@ -1,6 +1,5 @@
 -- Shown: the command is the definition's. A line that begins with O is an open or another line (`begins-o`), any other a
 -- roll, a close or another line (`begins-else`).
-use native.Mathlib.Omega.{arith}
 use Rattle.session_lines.proofs.CommandForms.{begins-o, begins-else}
 use Rattle.session_lines.specs.CommandLines.{line_command}
 use mathlib.Core.Path.{◌∙◌}

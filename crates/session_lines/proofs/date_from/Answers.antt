@@ -1,9 +1,8 @@
 -- The date from a place of the line on. After place 54 the ten bytes do not all fit the 64, so there is no date
 -- (`date-beyond`); else it is what `date_at` says.
 use mathlib.Core.Path.{◌≡◌}
-use lib.ListN.{length, length-map}
+use lib.ListN.{length}
 use Rattle.session_lines.proofs.CommandForms.{date-beyond}
-use native.Mathlib.Omega.{arith}
 use Rattle.session_lines.proofs.date_from.Goals as goal
 
 pub returns-then-at-gt54 : goal.returns-then-at-gt54

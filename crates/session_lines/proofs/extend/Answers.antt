@@ -1,6 +1,5 @@
 -- A line with one byte more, as the definition says: a full one of 64 bytes stays as it is; else the byte is written after
 -- the bytes it has, within the 64.
-use native.Mathlib.Omega.{arith}
 use Rattle.session_lines.specs.CommandLines.{extended}
 use borrow.Author.Tests.{lt-ltb, le-ltb}
 use mathlib.Core.Path.{refl}

@@ -1,10 +1,6 @@
 -- `feed` gives a line with all bytes of a slice more. The loop keeps: the line so far, fed with the bytes from i on, is the first
 -- line fed with all. A full line takes no more (`fed-full`); a turn is `fed-step`, and at the end nothing is left (`fed-done`).
-use native.Mathlib.Omega.{arith}
-use Prim.Native.Nat.{◌-◌}
-use mathlib.Core.Path.{◌≡◌, refl, sym, ◌∙◌}
-use lib.ListN.{length, drop}
-use Rattle.session_lines.specs.CommandLines.{fed}
+use mathlib.Core.Path.{refl, sym, ◌∙◌}
 use Rattle.session_lines.proofs.LineFeeding.{fed-full, fed-step, fed-done}
 use Rattle.session_lines.proofs.feed.Goals as goal
 

@@ -1,6 +1,5 @@
 -- Byte i of the id: the line's byte 2 + i where i is below k, else a space; each `return` rewrites by its test. Since i is
 -- below 4, the byte is within the line.
-use native.Mathlib.Omega.{arith}
 use mathlib.Core.Path.{refl}
 use borrow.Author.Tests.{lt-ltb, le-ltb}
 use Rattle.session_lines.proofs.id_byte_at.Goals as goal

@@ -1,6 +1,5 @@
 -- The four bytes are the definition's, each by the contract of `id_byte_at` for places 0 to 3.
 use Rattle.session_lines.specs.CommandLines.{id_in_line}
-use native.Mathlib.Omega.{arith}
 use Rattle.session_lines.proofs.id_in_line.Goals as goal
 
 pub returns : goal.returns

@@ -5,7 +5,6 @@ use Prim.Native.Nat.{ℕ, ◌+◌}
 use mathlib.Core.Path.{ap, ap₂}
 use mathlib.Core.Bool.{◌&&◌}
 use lib.Dec.{eqb}
-use native.Mathlib.Omega.{arith}
 use Rattle.session_lines.specs.CommandLines.{date_form}
 use Rattle.session_lines.proofs.is_date_form.Goals as goal
 

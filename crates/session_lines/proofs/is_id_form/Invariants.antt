@@ -1,13 +1,10 @@
-use Rattle.session_lines.specs.CommandLines.{id_form}
+-- The loop keeps: k is at most 4, i at most k, and the i bytes before are such characters. Another byte ends it with no; after the last one i is k.
 use Rattle.product.specs.Fields.{id_character}
-use Rattle.questions.proofs.Bools.{said-no, said-yes}
-use Rattle.questions.proofs.Search.{every-none, every_more, every-not}
 use Rattle.questions.specs.Search.{every}
 use Prim.Native.Nat.{◌+◌, ◌-◌, ◌≤◌}
 use lib.ListN.{get_or}
 use mathlib.Core.Bool.{true}
-use mathlib.Core.Path.{◌≡◌, sym}
-use native.Mathlib.Omega.{arith}
+use mathlib.Core.Path.{◌≡◌}
 use Rattle.session_lines.proofs.is_id_form.Given as goal
 
 -- ---- what the loop keeps

@@ -2,7 +2,6 @@
 -- `open-many`); else the three tests are the definition's (`open-rest`), and every byte read is within the line.
 use Rattle.session_lines.proofs.CommandForms.{open-few, open-many, open-rest}
 use mathlib.Core.Path.{sym}
-use native.Mathlib.Omega.{arith}
 use Rattle.session_lines.proofs.is_open_form.Goals as goal
 
 pub returns-then-k-lt1 : goal.returns-then-k-lt1

@@ -3,7 +3,6 @@
 use Rattle.session_lines.proofs.CommandForms.{move-length, move-formless, move-dateless, move-is}
 use borrow.Author.Tests.{not-true, not-false}
 use mathlib.Core.Path.{◌∙◌}
-use native.Mathlib.Omega.{arith}
 use Rattle.session_lines.proofs.move_command.Goals as goal
 
 pub returns-then-length-ne12 : goal.returns-then-length-ne12

@@ -2,12 +2,7 @@
 -- those to what is left of the part, are those to all of it (`Going`), and question 10 is as it is carried
 -- along. Each turn leads on in the part; where `goes_on` says no the answers are complete (`finishes`).
 use native.Mathlib.Omega.{arith}
-use Prim.Native.Nat.{◌-◌}
-use lib.ListN.{length}
-use Rattle.file_calendar.specs.Calendars.{calendar_answer}
-use Rattle.table.specs.Table.{open_in}
-use Rattle.session_parts.specs.TermsParts.{progress_with, KnownStep}
-use Rattle.session_parts.proofs.TermsPassing.{has-next, Going, begins, goes, finishes}
+use Rattle.session_parts.proofs.TermsPassing.{has-next, begins, goes, finishes}
 use Rattle.session_parts.proofs.answer_part.Goals as goal
 
 -- ---- before the loop

@@ -4,10 +4,7 @@
 use native.Mathlib.Omega.{arith}
 use Rattle.session_text.proofs.TextsInBuffer.{then}
 use Rattle.session_text.proofs.TermsTexts.{no_lines, more-lines, lines-done, no-width, lines-wider, lines-rise}
-use Rattle.session_text.specs.TermsText.{maturities_text, lines_width}
-use Rattle.session_text.specs.Buffer.{Written}
-use lib.ListN.{length}
-use Prim.Native.Nat.{◌+◌, ◌-◌, ◌≤◌}
+use Prim.Native.Nat.{◌+◌}
 use Rattle.session_text.proofs.put_maturities.Goals as goal
 
 -- ---- the loop

@@ -1,6 +1,5 @@
-use native.Mathlib.Omega.{arith}
-use Rattle.session_text.proofs.TextsInBuffer.{then}
-use Rattle.session_text.proofs.TermsTexts.{no_lines, more-lines, lines-done, no-width, lines-wider, lines-rise}
+-- The loop keeps: i is at most n, the lines of the first i are written, and the next place is at most their width after the first. The widths rise
+-- with i (`lines-rise`), so line i has room; after the last one i is n (`lines-done`).
 use Rattle.session_text.specs.TermsText.{maturities_text, lines_width}
 use Rattle.session_text.specs.Buffer.{Written}
 use lib.ListN.{length}

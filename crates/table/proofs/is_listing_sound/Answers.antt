@@ -5,7 +5,6 @@ use Rattle.table.proofs.TableQuestions.{listing-unlike, listing-numbers, listing
 use Rattle.table.specs.Table.{lists_fresh, covered_in}
 use Rattle.table.proofs.FirstPlace.{keys-there}
 use Rattle.questions.proofs.Bools.{both, said-no, said-yes}
-use native.Mathlib.Omega.{arith}
 use mathlib.Core.Path.{sym}
 use Rattle.table.proofs.is_listing_sound.Goals as goal
 

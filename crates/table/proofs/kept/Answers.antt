@@ -1,7 +1,6 @@
 -- The outcome is the same table with the calendar and the date, by computing; the fifteen places follow from the array's
 -- length.
 use mathlib.Core.Path.{refl}
-use lib.ListN.{length-map}
 use Rattle.table.proofs.kept.Goals as goal
 
 pub returns : goal.returns

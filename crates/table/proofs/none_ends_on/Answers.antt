@@ -2,10 +2,7 @@
 -- The loop keeps: i is at most 15, and no place before i ends on the day. A place that does ends it with no
 -- (`none_found`); after the last one i is 15 (`none-all`).
 use native.Mathlib.Omega.{arith}
-use mathlib.Core.Path.{◌≡◌}
-use Prim.Native.Nat.{◌-◌, ◌≤◌}
-use lib.ListN.{length}
-use Rattle.table.proofs.Unmoved.{NoneEnds, none-begins, none_more, none_found, none-all}
+use Rattle.table.proofs.Unmoved.{none-begins, none_more, none_found, none-all}
 use Rattle.table.proofs.none_ends_on.Goals as goal
 
 pub loop-i-init : goal.loop-i-init

@@ -3,11 +3,8 @@
 -- earlier day left (`back_none`); a trading day is found (`search-at`), another is passed (`search-on`).
 use native.Mathlib.Omega.{arith}
 use mathlib.Core.Path.{sym, ◌∙◌}
-use Prim.Native.Nat.{◌-◌, ◌≤◌}
-use Rattle.calendar.specs.Trading.{calendar_with}
 use borrow.Author.Tests.{le-leb}
-use Rattle.table.specs.Table.{steps_back}
-use Rattle.table.proofs.Around.{Searching, back_test, back-starts, back_none, search-at, search-on, search-end}
+use Rattle.table.proofs.Around.{back-starts, back_none, search-at, search-on, search-end}
 use Rattle.table.proofs.steps_back.Goals as goal
 
 -- ---- the loop

@@ -1,10 +1,9 @@
-use native.Mathlib.Omega.{arith}
-use mathlib.Core.Path.{sym, ◌∙◌}
+-- The loop keeps: n is from 1 to 7, and the search from n on finds what the search from 1 finds. A day below n has no earlier day left
+-- (`back_none`); a trading day is found (`search-at`), another is passed (`search-on`).
 use Prim.Native.Nat.{◌-◌, ◌≤◌}
 use Rattle.calendar.specs.Trading.{calendar_with}
-use borrow.Author.Tests.{le-leb}
 use Rattle.table.specs.Table.{steps_back}
-use Rattle.table.proofs.Around.{Searching, back_test, back-starts, back_none, search-at, search-on, search-end}
+use Rattle.table.proofs.Around.{Searching, back_test}
 use Rattle.table.proofs.steps_back.Given as goal
 
 -- ---- what the loop keeps

@@ -3,10 +3,7 @@
 -- search from 1 finds. A trading day is found (`search-at`), another is passed (`search-on`).
 use native.Mathlib.Omega.{arith}
 use mathlib.Core.Path.{sym, ◌∙◌}
-use Prim.Native.Nat.{◌-◌, ◌≤◌, ◌<◌}
-use Rattle.calendar.specs.Trading.{calendar_with}
-use Rattle.table.specs.Table.{steps_on}
-use Rattle.table.proofs.Around.{Searching, on_test, on-late, on-starts, search-at, search-on, search-end}
+use Rattle.table.proofs.Around.{on-late, on-starts, search-at, search-on, search-end}
 use Rattle.table.proofs.steps_on.Goals as goal
 
 -- ---- a day after 2099

@@ -1,3 +1,5 @@
+-- The loop keeps: i is at most n, and the numbers of the places before i are right. A place with a no ends it with no; after the last one i is n, so
+-- all are right.
 use Rattle.table_numbering.specs.Numbering.{number_right}
 use Rattle.questions.specs.Search.{every}
 use mathlib.Core.Bool.{true}

@@ -1,3 +1,5 @@
+-- The loop keeps: i is at most 15, and the places before i are right. A place with a no ends it with no; after the last one i is 15, so all are
+-- right. n is the number of places of the kind.
 use Rattle.table_numbering.specs.Numbering.{place_right}
 use Rattle.questions.specs.Search.{every}
 use mathlib.Core.Bool.{true}

@@ -1,3 +1,5 @@
+-- The loop keeps: the count is at most i, i at most n, and the count with the missing among the places from i on is the number of all that are
+-- missing. Place i adds 0 or 1 (`missing-next`); from n on none are missing (`missing-none`).
 use Rattle.table_numbering.specs.Numbering.{missing}
 use lib.ListN.{length, take, drop}
 use Prim.Native.Nat.{◌+◌, ◌-◌, ◌≤◌}

@@ -1,3 +1,5 @@
+-- The loop keeps: n places are there, and the month is among the places from i to n exactly where it is among the first n. `listed_here` is the
+-- `return` with yes, `listed_next` a turn; from n on no place is left (`listed-none`).
 use Rattle.table_numbering.specs.Numbering.{is_listed}
 use lib.ListN.{length, take, drop}
 use Prim.Native.Nat.{◌-◌, ◌≤◌}

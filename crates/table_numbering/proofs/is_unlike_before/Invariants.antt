@@ -1,3 +1,5 @@
+-- The loop keeps: j is at most i, and no place before j has the number of place i. A place with that number ends it with no; after the last one j is
+-- i.
 use Rattle.listing.specs.Rules.{unused}
 use Rattle.questions.specs.Search.{every}
 use lib.Dec.{eqb}

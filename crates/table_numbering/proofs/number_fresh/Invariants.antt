@@ -1,3 +1,5 @@
+-- The loop keeps (`Numbering`): the places before i hold the maturities that are done, these with the rest renumbered are the whole, and at most i
+-- numbers have been given, so that the next one fits.
 use Rattle.table_numbering.proofs.FirstMaturities.{Numbering}
 use lib.ListN.{length, take}
 use Prim.Native.Nat.{◌-◌, ◌≤◌}

@@ -1,3 +1,5 @@
+-- The loop keeps: n places are there, and the month's number among the places from i to n is its number among the first n. `number-here` is the
+-- `return` with a number, `number-next` a turn; from n on no place is left (`number-none`).
 use Rattle.table_numbering.specs.Numbering.{number_of}
 use lib.ListN.{length, take, drop}
 use Prim.Native.Nat.{◌-◌, ◌≤◌}

@@ -1,9 +1,9 @@
+-- The loop keeps: n is the number of entries, and the key stands from entry j on as often as from the first one asked. An entry with the key ends it
+-- with no (`not-gone`); after the last one it stands no time (`gone`).
 use Rattle.table_vendor.specs.VendorPasses.{entry_count}
-use Rattle.table_vendor.proofs.ListEntries.{times-next, not-gone, gone}
 use Rattle.table_vendor.specs.Vendor.{entries_of, times}
-use mathlib.Core.Path.{◌≡◌, refl, ◌∙◌, sym}
+use mathlib.Core.Path.{◌≡◌}
 use Prim.Native.Nat.{◌-◌, ◌*◌, ◌≤◌}
-use native.Mathlib.Omega.{arith}
 use lib.ListN.{drop}
 use Rattle.table_vendor.proofs.is_absent.Given as goal
 

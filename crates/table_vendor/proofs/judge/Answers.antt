@@ -4,7 +4,7 @@
 use Rattle.table_vendor.proofs.FreshEntries.{least-most, vendor-said, vendor-10}
 use Rattle.questions.proofs.Bools.{said-no, said-yes}
 use mathlib.Core.Path.{◌≡◌, ◌∙◌, sym}
-use lib.ListN.{length, length-map}
+use lib.ListN.{length}
 use Rattle.table_vendor.proofs.judge.Goals as goal
 
 pub returns-then-not-is_sound : goal.returns-then-not-is_sound

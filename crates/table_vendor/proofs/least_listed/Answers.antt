@@ -1,13 +1,10 @@
 -- Shown: the least key of the first n maturities that does not stand once in the list with its day, 65,536 where none.
 -- The loop keeps: looking on from place i with the least so far gives what looking from the first place with 65,536 gives
 -- (`place-next`); from n on nothing is left, and it is the least so far (`place-done`).
-use Rattle.table_vendor.specs.VendorPasses.{least_listed}
 use Rattle.table_vendor.specs.Vendor.{entries_of}
 use Rattle.table_vendor.proofs.ListEntries.{place-next, place-done}
-use mathlib.Core.Path.{◌≡◌, refl, ◌∙◌, sym}
-use Prim.Native.Nat.{◌-◌, ◌≤◌}
+use mathlib.Core.Path.{refl, ◌∙◌, sym}
 use native.Mathlib.Omega.{arith}
-use lib.ListN.{length, take, drop}
 use Rattle.table_vendor.proofs.least_listed.Goals as goal
 
 -- ---- the loop

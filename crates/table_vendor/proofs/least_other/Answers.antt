@@ -1,14 +1,11 @@
 -- Shown: the least of the key found before and the list's keys that are not listed.
 -- The loop keeps: n is the number of entries, and looking on from entry j with the least so far gives what looking at the
 -- whole list with the key found before gives (`other-next`); after the last entry it is the least so far (`other-done`).
-use Rattle.table_vendor.specs.VendorPasses.{entry_count, least_other}
 use Rattle.listing.specs.Months.{places_of_kind}
 use Rattle.table_vendor.proofs.ListEntries.{other-next, other-done}
-use Rattle.table_vendor.specs.Vendor.{entries_of}
-use mathlib.Core.Path.{◌≡◌, refl, ◌∙◌, sym}
-use Prim.Native.Nat.{◌-◌, ◌*◌, ◌≤◌}
+use mathlib.Core.Path.{refl, ◌∙◌, sym}
 use native.Mathlib.Omega.{arith}
-use lib.ListN.{take, drop}
+use lib.ListN.{take}
 use Rattle.table_vendor.proofs.least_other.Goals as goal
 
 -- ---- the loop

@@ -1,10 +1,10 @@
+-- The loop keeps: n is the number of entries, and looking on from entry j with the least so far gives what looking at the whole list with the key
+-- found before gives (`other-next`); after the last entry it is the least so far (`other-done`).
 use Rattle.table_vendor.specs.VendorPasses.{entry_count, least_other}
 use Rattle.listing.specs.Months.{places_of_kind}
-use Rattle.table_vendor.proofs.ListEntries.{other-next, other-done}
 use Rattle.table_vendor.specs.Vendor.{entries_of}
-use mathlib.Core.Path.{◌≡◌, refl, ◌∙◌, sym}
+use mathlib.Core.Path.{◌≡◌}
 use Prim.Native.Nat.{◌-◌, ◌*◌, ◌≤◌}
-use native.Mathlib.Omega.{arith}
 use lib.ListN.{take, drop}
 use Rattle.table_vendor.proofs.least_other.Given as goal
 

@@ -3,11 +3,10 @@
 -- in the whole list. At the first entry with it the day decides, then whether it is absent after; without one it is no.
 use Rattle.table_vendor.specs.VendorPasses.{entry_count}
 use Rattle.table_vendor.proofs.ListEntries.{times-next, day-next, once-not, once-if, once-none}
-use Rattle.table_vendor.specs.Vendor.{entries_of, times, vendor_day_in}
 use mathlib.Core.Path.{◌≡◌, refl, ◌∙◌, sym}
-use Prim.Native.Nat.{◌-◌, ◌*◌, ◌≤◌, ◌<◌}
+use Prim.Native.Nat.{◌*◌, ◌<◌}
 use native.Mathlib.Omega.{arith}
-use lib.ListN.{get_or, drop}
+use lib.ListN.{get_or}
 use Rattle.table_vendor.proofs.stands_once.Goals as goal
 
 -- ---- the loop

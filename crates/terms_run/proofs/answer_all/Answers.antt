@@ -2,14 +2,10 @@
 -- own, and a run that goes on from here is one from the start, with as many bytes as were read (`CameFar`). Each part leads on (`far-more`), and
 -- after the last read the last line ends it (`far-all`, `far-input`).
 use native.Mathlib.Omega.{arith}
-use mathlib.Core.Path.{◌≡◌, refl, sym, ◌∙◌}
-use lib.ListN.{length}
+use mathlib.Core.Path.{refl, sym, ◌∙◌}
 use mathlib.Core.Bool.{true≢false}
 use Rattle.questions.proofs.Bools.{said-no, said-yes}
-use Rattle.file_calendar.specs.Calendars.{calendar_answer}
-use Rattle.file_load.specs.Load.{judge_call}
-use Rattle.table.specs.Table.{open_in}
-use Rattle.terms_run.proofs.PartsRead.{CameFar, far_none, far-more, far-all, far-input, failed-2}
+use Rattle.terms_run.proofs.PartsRead.{far_none, far-more, far-all, far-input, failed-2}
 use Rattle.terms_run.proofs.answer_all.Goals as goal
 
 -- ---- before the loop

@@ -1,6 +1,6 @@
+-- `closed_days` is shown to end and not to overflow. The loop keeps: the day is at most 36,525, the count at most the day and the sum at most 36,525
+-- times the day; a turn adds to both or to neither, and each of the two cases is arithmetic.
 use Prim.Native.Nat.{◌-◌, ◌*◌, ◌≤◌}
-use native.Mathlib.Omega.{arith}
-use mathlib.Core.Logic.{⊎_elim}
 use Rattle.compare_files.proofs.calendars.closed_days.Given as goal
 
 -- ---- the loop's invariant and its measure

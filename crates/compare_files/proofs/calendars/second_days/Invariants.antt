@@ -1,6 +1,6 @@
+-- `second_days` is shown to end and not to overflow, as `closed_days` is. The loop keeps: the day is at most 36,525, the count at most the day and
+-- the sum at most 36,525 times the day, in both cases of the test.
 use Prim.Native.Nat.{◌-◌, ◌*◌, ◌≤◌}
-use native.Mathlib.Omega.{arith}
-use mathlib.Core.Logic.{⊎_elim}
 use Rattle.compare_files.proofs.calendars.second_days.Given as goal
 
 -- ---- the loop's invariant and its measure

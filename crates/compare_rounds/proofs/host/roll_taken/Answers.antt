@@ -1,10 +1,7 @@
 -- `roll_taken` is shown to end and to reach only tables of the host. The loop keeps: n is at most 200 and i at most n, each of the first n
 -- numbers is at most 199, and there are 200 tables. The first and the third hold since the queue is right (`right-count`, `right-number`).
 use Rattle.rounds.proofs.Queues.{right-count, right-number}
-use lib.ListN.{length, get_or, length-map}
-use mathlib.Core.Path.{◌≡◌}
 use native.Mathlib.Omega.{arith}
-use Prim.Native.Nat.{ℕ, ◌-◌, ◌≤◌, ◌<◌}
 use Rattle.compare_rounds.proofs.host.roll_taken.Goals as goal
 
 -- ---- before the loop

@@ -1,7 +1,7 @@
-use Rattle.rounds.proofs.Queues.{right-count, right-number}
-use lib.ListN.{length, get_or, length-map}
+-- The loop keeps: n is at most 200 and i at most n, each of the first n numbers is at most 199, and there are 200 tables. The first and the third
+-- hold since the queue is right (`right-count`, `right-number`).
+use lib.ListN.{length, get_or}
 use mathlib.Core.Path.{◌≡◌}
-use native.Mathlib.Omega.{arith}
 use Prim.Native.Nat.{ℕ, ◌-◌, ◌≤◌, ◌<◌}
 use Rattle.compare_rounds.proofs.host.roll_taken.Given as goal
 

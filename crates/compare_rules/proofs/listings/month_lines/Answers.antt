@@ -2,7 +2,6 @@
 -- which holds at the start since the month of any day is (`month-most`). The other needs are found by search.
 use native.Mathlib.Omega.{arith}
 use Rattle.days.proofs.MonthOfDay.{month-most}
-use Prim.Native.Nat.{◌-◌, ◌≤◌}
 use Rattle.compare_rules.proofs.listings.month_lines.Goals as goal
 
 -- ---- before the loop: the months of the cover's start and end

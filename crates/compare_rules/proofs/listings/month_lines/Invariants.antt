@@ -1,5 +1,5 @@
-use native.Mathlib.Omega.{arith}
-use Rattle.days.proofs.MonthOfDay.{month-most}
+-- The loop keeps: the end and the month are at most 1,200, which holds at the start since the month of any day is (`month-most`). The other needs
+-- are found by search.
 use Prim.Native.Nat.{◌-◌, ◌≤◌}
 use Rattle.compare_rules.proofs.listings.month_lines.Given as goal
 

@@ -1,7 +1,7 @@
+-- The loop keeps: i is at most 256 and the list's length is 1,024, which a write keeps. The other needs are found by search.
 use mathlib.Core.Path.{◌≡◌}
-use lib.ListN.{length, length-set}
+use lib.ListN.{length}
 use Prim.Native.Nat.{◌-◌, ◌≤◌}
-use native.Mathlib.Omega.{arith}
 use Rattle.compare_tables.proofs.histories.read_calls.Given as goal
 
 -- ---- the loop's invariant and its measure

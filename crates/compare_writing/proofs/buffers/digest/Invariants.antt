@@ -1,6 +1,7 @@
+-- The loop keeps: the sum is below 4,294,967,291, so 257 times it and a byte more fit 64 bits, and i is at most the length of the bytes. By
+-- arithmetic.
 use lib.ListN.{length}
 use Prim.Native.Nat.{◌-◌, ◌≤◌, ◌<◌}
-use native.Mathlib.Omega.{arith}
 use Rattle.compare_writing.proofs.buffers.digest.Given as goal
 
 -- ---- the loop's invariant and its measure

@@ -1,7 +1,4 @@
 -- `fill` is shown to end, to write within the buffer and to keep its length. The loop keeps: the length, and that i is at most it. By arithmetic.
-use lib.ListN.{length}
-use mathlib.Core.Path.{◌≡◌}
-use Prim.Native.Nat.{◌-◌, ◌≤◌}
 use native.Mathlib.Omega.{arith}
 use Rattle.compare_writing.proofs.buffers.fill.Goals as goal
 

@@ -1,7 +1,7 @@
+-- The loop keeps: the length, and that i is at most it. By arithmetic.
 use lib.ListN.{length}
 use mathlib.Core.Path.{◌≡◌}
 use Prim.Native.Nat.{◌-◌, ◌≤◌}
-use native.Mathlib.Omega.{arith}
 use Rattle.compare_writing.proofs.buffers.fill.Given as goal
 
 abbrev pub invariant-loop-i : goal.invariant-loop-i

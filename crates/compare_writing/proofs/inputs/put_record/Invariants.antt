@@ -1,7 +1,7 @@
+-- The loop keeps: the length, that i is at most 32, and that 32 bytes from `at` on lie within it. By arithmetic.
 use lib.ListN.{length}
 use mathlib.Core.Path.{◌≡◌}
 use Prim.Native.Nat.{◌+◌, ◌-◌, ◌≤◌}
-use native.Mathlib.Omega.{arith}
 use Rattle.compare_writing.proofs.inputs.put_record.Given as goal
 
 -- ---- the loop's invariant and its measure

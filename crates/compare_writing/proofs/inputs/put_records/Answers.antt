@@ -1,8 +1,5 @@
 -- `put_records` is shown to end and to keep the length of the records. The loop keeps: that
 -- length, and that p is at most the number of places, 15 for each whole block. By arithmetic.
-use lib.ListN.{length}
-use mathlib.Core.Path.{◌≡◌}
-use Prim.Native.Nat.{◌-◌, ◌≤◌}
 use native.Mathlib.Omega.{arith}
 use Rattle.compare_writing.proofs.inputs.put_records.Goals as goal
 

@@ -1,7 +1,7 @@
+-- The loop keeps: that length, and that p is at most the number of places, 15 for each whole block. By arithmetic.
 use lib.ListN.{length}
 use mathlib.Core.Path.{◌≡◌}
 use Prim.Native.Nat.{◌-◌, ◌≤◌}
-use native.Mathlib.Omega.{arith}
 use Rattle.compare_writing.proofs.inputs.put_records.Given as goal
 
 abbrev pub invariant-loop-p : goal.invariant-loop-p

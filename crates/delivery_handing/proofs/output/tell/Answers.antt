@@ -1,6 +1,5 @@
 -- All bytes of the line are handed to the library, and counted; the sum is small.
 use Rattle.std.proofs.Common.{◌≡◌, ◌≤◌, length, sym, refl, arith, length-take-le}
-use lib.ListN.{length-map}
 use Rattle.delivery_handing.proofs.output.tell.Goals as goal
 use Rattle.delivery_handing.proofs.output.tell.Goals.{After-bytes-1}
 

@@ -1,5 +1,5 @@
 -- All of the bytes are handed to the library's write, whose count grows by their number; the sum is small.
-use Rattle.std.proofs.Common.{◌≡◌, length, take, sym, refl, arith, length-take-le, rules}
+use Rattle.std.proofs.Common.{◌≡◌, length, take, refl, arith, length-take-le}
 use Rattle.delivery_handing.proofs.output.write_out.Goals as goal
 
 pub returns-then-out-n : goal.returns-then-out-n

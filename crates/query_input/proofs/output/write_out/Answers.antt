@@ -1,5 +1,5 @@
 -- All bytes at the start of the buffer are written, or the output is no longer open.
-use mathlib.Core.Path.{sym, ◌∙◌, ap}
+use mathlib.Core.Path.{◌∙◌, ap}
 use lib.Seq.{length-take-le}
 use Rattle.session_parts.specs.TermsParts.{counted}
 use Rattle.query_input.proofs.output.write_out.Goals as goal

@@ -12,7 +12,7 @@ use native.Mathlib.Omega.{arith}
 use Prim.Native.Nat.{ℕ, ◌≤◌}
 use mathlib.Core.Path.{◌≡◌, refl, ◌∙◌, ap}
 use mathlib.Core.Bool.{true, not}
-use lib.ListN.{length, length-map, drop}
+use lib.ListN.{length, drop}
 use Rattle.rounds.proofs.Queue.join.Goals as goal
 use Rattle.rounds.proofs.Queue.join.Goals.{Start, Else-not-is_right, Else-table-gt199}
 
