@@ -658,7 +658,7 @@ def some_places(script):
 
 # As many rows as there may be, and more.
 def too_many_rows(script):
-    one = mornings.many_rows(script.chance)
+    one = mornings.many_rows(script.chance.below(mornings.ENDINGS))(script.chance)
     script.use(one.file)
     script.judge_file()
     script.read_notices(one.notices)

@@ -199,9 +199,14 @@ def every_byte(chance):
     return Morning('every byte of a row', SMALL, OPEN, rows.every_byte(chance, row), questions.odd_lines(chance))
 
 
-# As many rows as there may be, and more.
-def many_rows(chance):
-    return Morning('many rows', ONE, OPEN, chance.choice(rows.many(chance)), b'', chance.choice((WHOLE, STORED)))
+# As many rows as there may be, and more: the texts of rows.many, which end in as many ways.
+ENDINGS = 4
+
+
+def many_rows(place):
+    def made(chance):
+        return Morning('many rows', ONE, OPEN, rows.many(chance)[place], b'', chance.choice((WHOLE, STORED)))
+    return made
 
 
 # The files of cases.py by their refusal, 0 for none.
@@ -237,8 +242,8 @@ def large_example(chance):
 
 
 # Each maker with the number of its runs.
-MAKERS = ((odd_lines, 3), (every_byte, 4), (many_rows, 4), *((stored_file(number), 3) for number in range(9)),
-          (many_products, 4),
+MAKERS = ((odd_lines, 3), (every_byte, 4), *((many_rows(place), 1) for place in range(ENDINGS)),
+          *((stored_file(number), 3) for number in range(9)), (many_products, 4),
           (large_example, 1), (slip, 40), (history_with_others, 80))
 
 
