@@ -90,10 +90,6 @@ pub refused_none : (test : ℕ → Bool) → false ≡ some 0 test
 unfolding some
 refused_none test = refl
 
--- what is said of the first p places is said of the first q where p is q
-pub refused_all : (test : ℕ → Bool) (p q : ℕ) → p ≡ q → (b : Bool) → b ≡ some p test → b ≡ some q test
-refused_all test p q e b a = rw (← e) a
-
 -- of no places nothing is told
 pub openings-none : (part : ℕ → List ℕ) (n : ℕ) → Grew n (length (parts_text part 0)) n
 openings-none part n = omega (arith, parts_none part)
@@ -102,7 +98,3 @@ openings-none part n = omega (arith, parts_none part)
 pub openings-more : (part : ℕ → List ℕ) (p n m k : ℕ) → Grew n (length (parts_text part p)) m → Grew m (length (part p)) k
     → Grew n (length (parts_text part (p + 1))) k
 openings-more part p n m k a b = omega (arith, a, b, parts_more part p)
-
--- what was told of the first p places was told of the first q where p is q
-pub openings-all : (part : ℕ → List ℕ) (p q n m : ℕ) → p ≡ q → Grew n (length (parts_text part p)) m → Grew n (length (parts_text part q)) m
-openings-all part p q n m e a = rw (← e) a

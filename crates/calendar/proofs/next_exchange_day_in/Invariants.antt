@@ -9,7 +9,7 @@ use Rattle.calendar.proofs.next_exchange_day_in.Given as goal
 abbrev pub invariant-loop-d : goal.invariant-loop-d
 invariant-loop-d l =
     (l.d ≤ l.end) × (first_from (exchange_day (calendar_of_maps l.cover l.closed l.exchange)) 36525 (l.end - l.d) l.d
-      ≡ next_exchange_day (calendar_of_maps l.cover l.closed l.exchange) l.day)
+    ≡ next_exchange_day (calendar_of_maps l.cover l.closed l.exchange) l.day)
 
 abbrev pub decreases-loop-d : goal.decreases-loop-d
 decreases-loop-d l = l.end - l.d

@@ -8,7 +8,7 @@ use Rattle.delivery_handing.proofs.print_places.Given as goal
 abbrev pub invariant-loop-p : goal.invariant-loop-p
 invariant-loop-p l =
     (Runs l.file l.text (calendar_answer l.judged) l.t l.calls l.ids → HandedTo l.file l.text 0 l.initial.h.sent.bytes l.initial.h.told
-      → HandedTo l.file l.text l.p l.h.sent.bytes l.h.told)
+    → HandedTo l.file l.text l.p l.h.sent.bytes l.h.told)
     × (l.p ≤ place_count l.file) × (length l.refusals ≡ 6554) × (length l.out ≡ 1024)
 
 abbrev pub decreases-loop-p : goal.decreases-loop-p

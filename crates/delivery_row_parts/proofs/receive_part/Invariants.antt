@@ -6,8 +6,14 @@ use Rattle.delivery_row_parts.proofs.receive_part.Given as goal
 
 abbrev pub invariant-loop-at : goal.invariant-loop-at
 invariant-loop-at l =
-    PartTold l.file l.initial.s (record { ids = l.initial.ids; keys = l.initial.keys; days = l.initial.days;
-      fulls = l.initial.fulls; numbers = l.initial.numbers; backs = l.initial.backs }) l.part l.s
+    PartTold l.file l.initial.s (record {
+      ids = l.initial.ids;
+      keys = l.initial.keys;
+      days = l.initial.days;
+      fulls = l.initial.fulls;
+      numbers = l.initial.numbers;
+      backs = l.initial.backs;
+    }) l.part l.s
     (record { ids = l.ids; keys = l.keys; days = l.days; fulls = l.fulls; numbers = l.numbers; backs = l.backs }) (drop l.at l.part)
 
 abbrev pub decreases-loop-at : goal.decreases-loop-at

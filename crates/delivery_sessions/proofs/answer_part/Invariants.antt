@@ -9,7 +9,7 @@ use Rattle.delivery_sessions.proofs.answer_part.Given as goal
 abbrev pub invariant-loop-judged : goal.invariant-loop-judged
 invariant-loop-judged l =
     Going (standing_in l.judged l.file l.t l.calls l.ids (length l.initial.refusals)) l.initial.s.number
-      l.initial.s.refused l.initial.s.line l.part l.initial.s.at l.initial.out l.out l.s
+    l.initial.s.refused l.initial.s.line l.part l.initial.s.at l.initial.out l.out l.s
     × (length l.refusals ≡ length l.initial.refusals)
 
 abbrev pub decreases-loop-judged : goal.decreases-loop-judged

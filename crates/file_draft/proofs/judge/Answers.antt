@@ -89,7 +89,7 @@ returns-then-not-years_right c = sym (first-no 3 _ (headers-written _ _ ∙ said
 pub returns-then-not-counts_right : goal.returns-then-not-counts_right
 unfolding write_asks
 returns-then-not-counts_right c = sym (yes-3 (goal.at.returns-then-not-counts_right c).Else-not-years_right ∙
-  first-no 4 _ (order-written _ _ ∙ said-no c.counts_right.ensures c.if-not-counts_right.true))
+    first-no 4 _ (order-written _ _ ∙ said-no c.counts_right.ensures c.if-not-counts_right.true))
 
 pub within_cover-held-requires : goal.within_cover-held-requires
 within_cover-held-requires c =

@@ -54,7 +54,7 @@ records c = of-block c.args.b.now c.requires.2 c.block_records_right.ensures
 yes-7 : (c : Else-not-block_records_right) → Passed 6 c.args.s c.args.b.now
 unfolding block_asks
 yes-7 c = yes-6 (goal.at.Else-not-block_records_right c).Else-not-weeks_go_on ∙
-  first-yes 7 _ (said-yes (records (goal.at.Else-not-block_records_right c).After-block_records_right) c.if-not-block_records_right.false)
+    first-yes 7 _ (said-yes (records (goal.at.Else-not-block_records_right c).After-block_records_right) c.if-not-block_records_right.false)
 
 -- ---- the refusals 2 to 4
 pub returns-then-not-block_check_right : goal.returns-then-not-block_check_right
@@ -64,7 +64,7 @@ returns-then-not-block_check_right c = sym (first-no 2 _ (said-no (check (goal.a
 pub returns-then-not-block_header_right : goal.returns-then-not-block_header_right
 unfolding block_asks
 returns-then-not-block_header_right c = sym (yes-2 (goal.at.returns-then-not-block_header_right c).Else-not-block_check_right ∙
-  first-no 3 _ (said-no c.block_header_right.ensures c.if-not-block_header_right.true))
+    first-no 3 _ (said-no c.block_header_right.ensures c.if-not-block_header_right.true))
 
 pub in_turn-requires : goal.in_turn-requires
 in_turn-requires c = c.requires.0
@@ -77,7 +77,7 @@ returns-then-not-in_turn c = sym (yes-3 (goal.at.returns-then-not-in_turn c).Els
 pub returns-then-not-calendar_clean : goal.returns-then-not-calendar_clean
 unfolding block_asks
 returns-then-not-calendar_clean c =
-  sym (yes-4 (goal.at.returns-then-not-calendar_clean c).Else-not-in_turn ∙ first-no 5 _ (said-no c.calendar_clean.ensures c.if-not-calendar_clean.true))
+    sym (yes-4 (goal.at.returns-then-not-calendar_clean c).Else-not-in_turn ∙ first-no 5 _ (said-no c.calendar_clean.ensures c.if-not-calendar_clean.true))
 
 pub weeks_go_on-requires : goal.weeks_go_on-requires
 weeks_go_on-requires c = c.requires.1
@@ -85,12 +85,12 @@ weeks_go_on-requires c = c.requires.1
 pub returns-then-not-weeks_go_on : goal.returns-then-not-weeks_go_on
 unfolding block_asks
 returns-then-not-weeks_go_on c =
-  sym (yes-5 (goal.at.returns-then-not-weeks_go_on c).Else-not-calendar_clean ∙ first-no 6 _ (said-no c.weeks_go_on.ensures c.if-not-weeks_go_on.true))
+    sym (yes-5 (goal.at.returns-then-not-weeks_go_on c).Else-not-calendar_clean ∙ first-no 6 _ (said-no c.weeks_go_on.ensures c.if-not-weeks_go_on.true))
 
 pub returns-then-not-block_records_right : goal.returns-then-not-block_records_right
 unfolding block_asks
 returns-then-not-block_records_right c = sym (yes-6 (goal.at.returns-then-not-block_records_right c).Else-not-weeks_go_on ∙
-  first-no 7 _ (said-no (records (goal.at.returns-then-not-block_records_right c).After-block_records_right) c.if-not-block_records_right.true))
+    first-no 7 _ (said-no (records (goal.at.returns-then-not-block_records_right c).After-block_records_right) c.if-not-block_records_right.true))
 
 pub returns-then-not-ids_go_on : goal.returns-then-not-ids_go_on
 unfolding block_asks ids_go_on

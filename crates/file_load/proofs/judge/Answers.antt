@@ -52,7 +52,7 @@ weeks c = c.every_week_trades.ensures ∙ ap every_week (made (goal.at.After-eve
 yes-6 : (c : Else-not-every_week_trades) → Passed 6 c.args.file.now
 unfolding load_asks
 yes-6 c = yes-5 (goal.at.Else-not-every_week_trades c).Else-not-calendars_clean ∙
-  first-yes 6 _ (said-yes (weeks (goal.at.Else-not-every_week_trades c).After-every_week_trades) c.if-not-every_week_trades.false)
+    first-yes 6 _ (said-yes (weeks (goal.at.Else-not-every_week_trades c).After-every_week_trades) c.if-not-every_week_trades.false)
 
 yes-7 : (c : Else-not-products_right) → Passed 7 c.args.file.now
 unfolding load_asks

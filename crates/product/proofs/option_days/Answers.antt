@@ -51,7 +51,7 @@ returns-in-11 c = sym (days (goal.at.returns-in-11 c).After-group_number-number 
 
 pub returns-in_default-number-3 : goal.returns-in_default-number-3
 returns-in_default-number-3 c =
-  sym (days (goal.at.returns-in_default-number-3 c).After-group_number-number ∙ not-eleven c.in-18242.is c.in_default-number-3.in_default-number-3-own.rest.1)
+    sym (days (goal.at.returns-in_default-number-3 c).After-group_number-number ∙ not-eleven c.in-18242.is c.in_default-number-3.in_default-number-3-own.rest.1)
 
 -- ---- any other country
 pub returns-in_default : goal.returns-in_default

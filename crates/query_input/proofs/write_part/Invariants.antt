@@ -10,7 +10,7 @@ abbrev pub invariant-loop-s : goal.invariant-loop-s
 invariant-loop-s l =
     (512 ≤ length l.initial.out) × (length l.out ≡ length l.initial.out) × (length l.refusals ≡ length l.initial.refusals)
     × QueryHanded (standing_in l.judged l.file l.t l.calls l.ids (length l.initial.refusals)) l.initial.s.number
-      l.initial.s.refused l.initial.s.line l.part l.initial.sent.bytes l.s.number
+    l.initial.s.refused l.initial.s.line l.part l.initial.sent.bytes l.s.number
     l.s.refused l.s.line (drop l.s.at l.part) l.sent.bytes
 
 abbrev pub decreases-loop-s : goal.decreases-loop-s

@@ -12,7 +12,7 @@ use Rattle.session_parts.proofs.answer_part.Given as goal
 abbrev pub invariant-loop-judged : goal.invariant-loop-judged
 invariant-loop-judged l =
     Going (open_in (calendar_answer l.judged) l.file) (progress_with l.initial.s l.initial.closed l.initial.exchange).kept
-      l.initial.s.line l.part l.initial.s.at l.initial.out l.out (progress_with l.s l.closed l.exchange)
+    l.initial.s.line l.part l.initial.s.at l.initial.out l.out (progress_with l.s l.closed l.exchange)
     × KnownStep l.judged l.right l.s l.closed l.exchange
 
 -- ---- the loop's measure

@@ -56,21 +56,21 @@ returns-then-not-product_right c = rw (said-no c.product_right.ensures c.if-not-
 
 pub returns-then-not-is_valid_cover : goal.returns-then-not-is_valid_cover
 returns-then-not-is_valid_cover c =
-  sym (yes-1 (goal.at.returns-then-not-is_valid_cover c).Else-not-product_right ∙ rw (said-no c.is_valid_cover.ensures c.if-not-is_valid_cover.true))
+    sym (yes-1 (goal.at.returns-then-not-is_valid_cover c).Else-not-product_right ∙ rw (said-no c.is_valid_cover.ensures c.if-not-is_valid_cover.true))
 
 pub returns-then-not-is_clean : goal.returns-then-not-is_clean
 returns-then-not-is_clean c = sym (yes-2 (goal.at.returns-then-not-is_clean c).Else-not-is_valid_cover ∙ rw (said-no c.is_clean.ensures c.if-not-is_clean.true))
 
 pub returns-then-not-every_week_trades : goal.returns-then-not-every_week_trades
 returns-then-not-every_week_trades c =
-  sym (yes-3 (goal.at.returns-then-not-every_week_trades c).Else-not-is_clean ∙ rw (said-no c.every_week_trades.ensures c.if-not-every_week_trades.true))
+    sym (yes-3 (goal.at.returns-then-not-every_week_trades c).Else-not-is_clean ∙ rw (said-no c.every_week_trades.ensures c.if-not-every_week_trades.true))
 
 pub returns-then-not-in_cover : goal.returns-then-not-in_cover
 returns-then-not-in_cover c = sym (yes-4 (goal.at.returns-then-not-in_cover c).Else-not-every_week_trades ∙ rw (said-no c.in_cover.ensures c.if-not-in_cover.true))
 
 pub returns-then-not-is_week_into_cover : goal.returns-then-not-is_week_into_cover
 returns-then-not-is_week_into_cover c =
-  sym (yes-5 (goal.at.returns-then-not-is_week_into_cover c).Else-not-in_cover ∙ rw (said-no c.is_week_into_cover.ensures c.if-not-is_week_into_cover.true))
+    sym (yes-5 (goal.at.returns-then-not-is_week_into_cover c).Else-not-in_cover ∙ rw (said-no c.is_week_into_cover.ensures c.if-not-is_week_into_cover.true))
 
 pub returns : goal.returns
 returns c = c.is_listing_sound.ensures ∙ sym (yes-6 (goal.at.returns c).Else-not-is_week_into_cover)

@@ -48,7 +48,7 @@ yes-24 : (c : Else-not-is_week_into_cover) → Passed 4 (asks c.args.judged c.ar
 unfolding asks_in
 yes-24 c =
     yes-11 (goal.at.Else-not-is_week_into_cover c).Else-not-in_cover ∙ first-yes 24 _ (rw
-      (product (goal.at.Else-not-is_week_into_cover c).After-product_at-product) at (said-yes c.is_week_into_cover.ensures c.if-not-is_week_into_cover.false))
+    (product (goal.at.Else-not-is_week_into_cover c).After-product_at-product) at (said-yes c.is_week_into_cover.ensures c.if-not-is_week_into_cover.false))
 
 -- ---- the refusals
 pub returns-then-refusal-ne0 : goal.returns-then-refusal-ne0
@@ -78,7 +78,7 @@ unfolding asks_in
 returns-then-not-l c =
     let l = rw (product (goal.at.returns-then-not-l c).After-product_at-product) at (c.list_in-l.ensures ∙ listing-second c.args.judged.calendar [] _ _ _) in
     rw c.none_listed-then-not-l.ensures (listed-no _ _ _ _ 15 (yes-24 (goal.at.returns-then-not-l c).Else-not-is_week_into_cover ∙
-      first-no 16 _ (said-no (complete-is _ _ _ _ _ l) (not-true _ c.if-not-l.true))))
+    first-no 16 _ (said-no (complete-is _ _ _ _ _ l) (not-true _ c.if-not-l.true))))
 
 pub returns : goal.returns
 unfolding asks_in
@@ -86,4 +86,4 @@ returns c =
     let p = product (goal.at.returns c).After-product_at-product in
     let l = rw p at (c.list_in-l.ensures ∙ listing-second c.args.judged.calendar [] _ _ _) in
     rw (p, l) (listed-yes _ _ _ _ (yes-24 (goal.at.returns c).Else-not-is_week_into_cover ∙
-      first-yes 16 _ (said-yes (complete-is _ _ _ _ _ l) (not-false _ c.if-not-l.false)) ∙ no-asks))
+    first-yes 16 _ (said-yes (complete-is _ _ _ _ _ l) (not-false _ c.if-not-l.false)) ∙ no-asks))

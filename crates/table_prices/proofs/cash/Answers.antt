@@ -46,7 +46,7 @@ pub returns-then-not-price_right : goal.returns-then-not-price_right
 unfolding cash_asks
 returns-then-not-price_right c =
     c.no_cash-then-not-price_right.ensures ∙
-      cash-no _ _ _ _ 18 _ (yes-10 (goal.at.returns-then-not-price_right c).Else-not-is_sound) (said-no c.price_right.ensures c.if-not-price_right.true)
+    cash-no _ _ _ _ 18 _ (yes-10 (goal.at.returns-then-not-price_right c).Else-not-is_sound) (said-no c.price_right.ensures c.if-not-price_right.true)
 
 pub returns-then-not-is_multiple : goal.returns-then-not-is_multiple
 unfolding cash_asks
@@ -58,14 +58,14 @@ pub returns-then-not-is_future : goal.returns-then-not-is_future
 unfolding cash_asks
 returns-then-not-is_future c =
     c.no_cash-then-not-is_future.ensures ∙
-      cash-no _ _ _ _ 20 _ (yes-20 (goal.at.returns-then-not-is_future c).Else-not-is_multiple) (said-no c.is_future.ensures c.if-not-is_future.true)
+    cash-no _ _ _ _ 20 _ (yes-20 (goal.at.returns-then-not-is_future c).Else-not-is_multiple) (said-no c.is_future.ensures c.if-not-is_future.true)
 
 pub returns-then-not-final_right-contracts_right : goal.returns-then-not-final_right-contracts_right
 unfolding cash_asks
 returns-then-not-final_right-contracts_right c =
     let last = both-are c.final_right.ensures c.contracts_right.ensures in
     c.no_cash-then-not-final_right-contracts_right.ensures ∙ cash-no _ _ _ _ 21 _
-      (yes-21 (goal.at.returns-then-not-final_right-contracts_right c).Else-not-is_future) (said-no last c.if-not-final_right-contracts_right.true)
+    (yes-21 (goal.at.returns-then-not-final_right-contracts_right c).Else-not-is_future) (said-no last c.if-not-final_right-contracts_right.true)
 
 -- ---- the cash
 pub returns : goal.returns

@@ -30,7 +30,7 @@ returns-then-not-price_right c = sym (yes-10 (goal.at.returns-then-not-price_rig
 
 pub returns-then-not-is_multiple : goal.returns-then-not-is_multiple
 returns-then-not-is_multiple c =
-  sym (yes-19 (goal.at.returns-then-not-is_multiple c).Else-not-price_right ∙ first-no 20 _ (said-no c.is_multiple.ensures c.if-not-is_multiple.true))
+    sym (yes-19 (goal.at.returns-then-not-is_multiple c).Else-not-price_right ∙ first-no 20 _ (said-no c.is_multiple.ensures c.if-not-is_multiple.true))
 
 pub returns : goal.returns
 returns c = sym (yes-19 (goal.at.returns c).Else-not-price_right ∙ first-yes 20 _ (said-yes c.is_multiple.ensures c.if-not-is_multiple.false) ∙ no-asks)

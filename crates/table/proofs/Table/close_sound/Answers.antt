@@ -37,7 +37,7 @@ yes-14 c s = yes-13 (goal.at.Else-not-is_trading_day c).Else-day-self s ∙ firs
 
 yes-15 : (c : Else-not-keeps_weeks) → Passed 5 (goal.at.Else-not-keeps_weeks c).Start
 yes-15 c s = yes-14 (goal.at.Else-not-keeps_weeks c).Else-not-is_trading_day s ∙
-  first-yes 15 _ (said-yes (c.keeps_weeks.ensures (sound-parts _ s).weeks) c.if-not-keeps_weeks.false)
+    first-yes 15 _ (said-yes (c.keeps_weeks.ensures (sound-parts _ s).weeks) c.if-not-keeps_weeks.false)
 
 -- ---- the refusals
 pub returns-then-self-gt60000 : goal.returns-then-self-gt60000
@@ -66,7 +66,7 @@ returns-then-none_ends_on c s =
     let none = none_of _ _ (sym c.none_ends_on.ensures ∙ c.if-none_ends_on.true) in
     (rw c.close_day-cal.ensures at c.kept.ensures.0) ∙
     sym (unmoved _ s c.kept.ensures.1 _ c.if-day-self.false none _ (close-cover _ _) (last-but _ _)) ∙
-      close-last _ _ (yes-15 (goal.at.returns-then-none_ends_on c).Else-not-keeps_weeks s)
+    close-last _ _ (yes-15 (goal.at.returns-then-none_ends_on c).Else-not-keeps_weeks s)
 
 -- ---- one does
 pub returns : goal.returns
