@@ -20,12 +20,10 @@ helper n = n
 """
 PROOF = """-- Shown: a sum, by its law.
 use Rattle.sums.proofs.Sums.{add_zero}
+use Rattle.sums.proofs.sum.Goals as goal
 
-returns : Goals.returns
+pub returns : goal.returns
 returns c = add_zero _
-
-pub sum_spec : statement
-sum_spec = tie.close (tie.spec returns)
 """
 EDIT = 'file: src/lib.rt\nold: a + b\nnew: a - b\n'
 
@@ -42,7 +40,7 @@ class Planted(unittest.TestCase):
         self.write('crates/sums/src/lib.rt', 'fn sum() { a + b }\n')
         self.write('crates/sums/must-fail/less.edit', EDIT)
         self.write('crates/sums/proofs/Sums.antt', LAWS)
-        self.write('crates/sums/proofs/sum/Proof.antt', PROOF)
+        self.write('crates/sums/proofs/sum/Answers.antt', PROOF)
 
     def write(self, name, text):
         path = self.root / name
@@ -80,8 +78,8 @@ class Laws(Planted):
         self.assertEqual(self.said('laws', '--check')[0], 0)
 
     def test_proof_without_heading(self):
-        self.write('crates/sums/proofs/sum/Proof.antt', PROOF.partition('\n')[2])
-        self.assertEqual(self.said('laws', '--check'), (1, ['crates/sums/proofs/sum/Proof.antt:1: the proof does not begin with what it shows']))
+        self.write('crates/sums/proofs/sum/Answers.antt', PROOF.partition('\n')[2])
+        self.assertEqual(self.said('laws', '--check'), (1, ['crates/sums/proofs/sum/Answers.antt:1: the proof does not begin with what it shows']))
 
     def test_long_line(self):
         for length, status in ((180, 0), (181, 1)):
@@ -91,8 +89,8 @@ class Laws(Planted):
 
     def test_where_cited(self):
         self.assertEqual(self.said('laws', 'add_zero')[1], [
-            'crates/sums/proofs/Sums.antt:4: makes add_zero', 'crates/sums/proofs/sum/Proof.antt:2: imports add_zero of Rattle.sums.proofs.Sums',
-            'crates/sums/proofs/sum/Proof.antt:5: cites add_zero'])
+            'crates/sums/proofs/Sums.antt:4: makes add_zero', 'crates/sums/proofs/sum/Answers.antt:2: imports add_zero of Rattle.sums.proofs.Sums',
+            'crates/sums/proofs/sum/Answers.antt:6: cites add_zero'])
 
 
 class Texts(Planted):
