@@ -8,7 +8,7 @@ use Rattle.session_text.proofs.put_year.Goals as goal
 -- ---- a year from 2000 to 2099
 pub returns : goal.returns
 returns c = (
-  rw (year-digits _ c.if-year-lt2000.false c.if-year-ge2100.false)
+  rw (year-digits c.args.year (omega arith) (omega arith))
       (then c.put-second.ensures.0 (then c.put-third.ensures.0 c.put_two.ensures.0)),
   omega (arith, c.put-second.ensures.1, c.put-third.ensures.1, c.put_two.ensures.1),
 )
