@@ -17,7 +17,11 @@ import re
 import sys
 import time
 
-ROOT = os.path.dirname(os.path.dirname(os.path.abspath(__file__)))
+# As a module of tests/unit this file is tools.progress, and the folder tools is not searched.
+sys.path.append(os.path.dirname(os.path.abspath(__file__)))
+import kit
+
+ROOT = str(kit.ROOT)
 CRATE = re.compile(r'rt: (\w+ (?:proved|NOT PROVED.*|is kept)\b)')
 EDIT = re.compile(r'rt: must-fail ([^:]+?)(?:\.edit)?: (.*)')
 REFUSED = re.compile(r'refused, as it must be(?: \((only [^,(:]*)[^)]*\))?(?:: .*)?$')
@@ -27,24 +31,9 @@ VERDICT = re.compile(r'logic=(proved|not-proved)\b')
 WRONG = re.compile(r'rt: .*(FAILED|NOT PROVED|failed|did not build|mend these first|was killed|disk is full)')
 
 
-# The crates of crates.txt with those that each uses.
-def crates():
-    with open(os.path.join(ROOT, 'crates.txt')) as lines:
-        parts = [line.split('#')[0].split(':') for line in lines if ':' in line.split('#')[0]]
-    return {head.split()[0]: used.split() for head, used in parts}
-
-
 # Some crates and all that they use; every crate where none is named.
 def reached(names):
-    used, found, todo = crates(), set(), list(names)
-    if not todo:
-        return set(used)
-    while todo:
-        name = todo.pop()
-        if name in used and name not in found:
-            found.add(name)
-            todo += used[name]
-    return found
+    return set(kit.reached(names, kit.listed()))
 
 
 # The number of must-fail edits of some crates.
