@@ -4,7 +4,7 @@ from dataclasses import dataclass
 from pathlib import Path
 
 FUNCTION = re.compile(r'^ *(?:pub(?:\(crate\))? )?(?:extern "C" )?(?:fn|const) (\w+)')
-IMPL = re.compile(r'^impl(?:<[^>]*>)? (\w+)')
+IMPL = re.compile(r'^impl(?:<[^>]*>)? (?:[^{]* for )?(\w+)')
 DECLARED = re.compile(r'^(?:pub )?(struct|enum) (\w+)')
 THEOREM = re.compile(r'^ *(?:(?:unfoldable|abbrev|opaque) )?(?:pub )?(?:record |data )?([^\s:({]+)[^:]* :')
 

@@ -6,6 +6,8 @@ use mathlib.Core.Bool.{Bool, true, false, ◌&&◌, cond}
 use mathlib.Core.Logic.{◌⊎◌, inl, inr}
 use native.Mathlib.Nat.{mul_assoc, mul_comm, mul-add, mul-le-mul}
 use native.Mathlib.Omega.{arith}
+use Rattle.std.specs.Int.{abs_diff}
+use Rattle.std.proofs.lemmas.Bool.Decides.{nat_tests}
 use lib.Dec.{leb, ltb}
 use lib.IntN.{ℤ, pos, negsuc, neg_ℤ, nat_abs, ◌-ℤ◌, ◌*ℤ◌}
 use borrow.Author.Tests.{leb-true, lt-ltb, le-ltb}
@@ -13,6 +15,11 @@ use Rattle.questions.proofs.Bools.{and-fst, and-snd, lt-or-ge}
 use Rattle.product.specs.Fields.{size_right}
 use Rattle.amounts.specs.declared.Amount.{Amount}
 use Rattle.amounts.specs.Prices.{price_right, final_right, contracts_right, cash_amount, below, cash_parts, cash_admitted, distance, signed, Parts, WholeSizes}
+
+-- how far two prices are apart, as the library's method has it
+pub far-apart : (a f : ℕ) → abs_diff a f ≡ distance a f
+unfolding distance
+far-apart a f = grind (arith, nat_tests)
 
 -- the difference of two prices
 rise : (a f : ℕ) → a ≤ f → pos f -ℤ pos a ≡ pos (f - a)

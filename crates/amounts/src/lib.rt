@@ -2,7 +2,7 @@
 #![tactic(auto)]
 
 ghost use Rattle.std.specs.Prelude.{◌≡◌};
-ghost use Rattle.amounts.specs.Prices.{price_right, multiple_of, final_right, contracts_right, nearest, new_size, new_price, ratio_right, measure_right, distance, cash_admitted, cash_of};
+ghost use Rattle.amounts.specs.Prices.{price_right, multiple_of, final_right, contracts_right, nearest, new_size, new_price, ratio_right, measure_right, cash_admitted, cash_of};
 
 // Cash: its sign, which covers both numbers, the amount in 1/10,000 and the rest in 1/100,000,000.
 #[repr(C)]
@@ -24,10 +24,7 @@ pub fn price_right(price: u32) -> bool
 pub fn is_multiple(price: u32, tick: u16) -> bool
     ensures { result ≡ multiple_of tick price }
 {
-    if tick == 0 {
-        return false;
-    }
-    price % (tick as u32) == 0
+    tick != 0 && price % (tick as u32) == 0
 }
 
 // Question 22, the final price.
@@ -91,16 +88,6 @@ pub fn measure_right(size: u32, p: u16, q: u16, price: u32) -> bool
     (1 <= moved) & (moved <= 999999999)
 }
 
-// How far two prices are apart.
-fn apart(agreed: u32, final_price: u32) -> u32
-    ensures { result ≡ distance agreed final_price }
-{
-    if final_price < agreed {
-        return agreed - final_price;
-    }
-    final_price - agreed
-}
-
 // The numbers that cash is defined for.
 pub fn cash_admitted(contracts: u32, size: u32, agreed: u32, final_price: u32) -> bool
     ensures { result ≡ cash_admitted contracts size agreed final_price }
@@ -123,7 +110,7 @@ pub fn cash(contracts: u32, size: u32, agreed: u32, final_price: u32) -> Amount
             rest: 0,
         };
     }
-    let change = (contracts as u64) * (apart(agreed, final_price) as u64);
+    let change = (contracts as u64) * (agreed.abs_diff(final_price) as u64);
     let whole = (size / 10000) as u64;
     let part = (size % 10000) as u64;
     let parts = change * part;

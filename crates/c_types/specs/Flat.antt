@@ -3,6 +3,7 @@
 -- Assumes nothing.
 use Rattle.std.specs.Prelude.{ℕ, ◌≡◌, true, cond, List, eqb}
 use Rattle.questions.specs.Questions.{Answer}
+use Rattle.calendar.specs.declared.Calendar.{Calendar}
 use Rattle.days.specs.declared.Date.{Date}
 use Rattle.product.specs.Fields.{kind_of, kind_number, kind_right, zero_product}
 use Rattle.product.specs.declared.Product.{Product}
@@ -16,7 +17,9 @@ use Rattle.c_types.specs.declared.FlatTable.{FlatTable}
 use Rattle.c_types.specs.declared.FlatOutcome.{FlatOutcome}
 use Rattle.c_types.specs.declared.FlatMeasured.{FlatMeasured}
 use Rattle.c_types.specs.declared.DateReply.{DateReply}
+use Rattle.c_types.specs.declared.Made.{Made}
 use Rattle.c_types.specs.declared.VerdictReply.{VerdictReply}
+use Rattle.c_types.specs.declared.WrittenFile.{WrittenFile}
 
 -- the product that a flat one stands for; one of zeros, which 7 refuses, where its kind number is no kind
 unfoldable pub unflat_product : FlatProduct → Product
@@ -97,6 +100,14 @@ measured_on t m = cond (eqb m.refusal 0) (flat_measured m) (unmeasured_on t m.re
 -- the number and the values that a reply with a date stands for
 abbrev pub date_reply : DateReply → Answer Date
 date_reply r = record { refusal = r.refusal; value = record { year = r.year; month = r.month; day = r.day } }
+
+-- the number and the value that a reply about a file that is written stands for
+abbrev pub written_reply : WrittenFile → Answer ℕ
+written_reply w = record { refusal = w.refusal; value = w.length }
+
+-- the number and the value that a made-up calendar's reply stands for
+abbrev pub made_answer : Made → Answer Calendar
+made_answer m = record { refusal = m.refusal; value = m.calendar }
 
 -- the number and the values that a reply about a list stands for
 abbrev pub verdict_reply : VerdictReply → Answer Judgement

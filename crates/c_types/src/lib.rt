@@ -5,12 +5,15 @@ ghost use Rattle.std.specs.Prelude.{◌≡◌};
 ghost use Rattle.days.specs.Dates.{day_answer, date_answer};
 ghost use Rattle.table_values.specs.Values.{day_reply};
 ghost use Rattle.table_vendor.specs.Vendor.{verdict_answer};
-ghost use Rattle.c_types.specs.Flat.{unflat_product, unflat_table, flat_product, flat_table, flat_outcome, outcome_on, measured_on, date_reply, verdict_reply, record_flat};
+ghost use Rattle.calendar.specs.Trading.{zero_calendar};
+ghost use Rattle.questions.specs.Refusals.{result_answer};
+ghost use Rattle.c_types.specs.Flat.{made_answer, written_reply, unflat_product, unflat_table, flat_product, flat_table, flat_outcome, outcome_on, measured_on, date_reply, verdict_reply, record_flat};
 
 use calendar::Calendar;
-use days::{DateAnswer, DayAnswer};
+use days::Date;
 use listing::Maturity;
-use product::Product;
+use product::{Kind, Product};
+use questions::Refusal;
 use table::{Outcome, Table};
 use table_measures::Measured;
 use table_values::DayReply;
@@ -83,6 +86,14 @@ pub struct DateReply {
     pub day: u16,
 }
 
+// The refusal, 0 where a made-up calendar was made, and the calendar, zeros with a refusal.
+#[repr(C)]
+#[derive(Clone, Copy)]
+pub struct Made {
+    pub refusal: u8,
+    pub calendar: Calendar,
+}
+
 // The number of a refusal, or 0 and what is said of a list: yes, or no with a key.
 #[repr(C)]
 #[derive(Clone, Copy)]
@@ -96,14 +107,13 @@ pub struct VerdictReply {
 pub fn unflat_product(p: FlatProduct) -> Product
     ensures { result ≡ unflat_product p }
 {
-    if !product::kind_right(p.kind) {
+    let Ok(kind) = Kind::try_from(p.kind) else {
         return product::zero_product();
-    }
+    };
     let id = p.id;
     let group = p.group;
     let market = p.market;
     let currency = p.currency;
-    let kind = product::kind_or_future(product::kind_of(p.kind));
     Product {
         id,
         group,
@@ -215,38 +225,72 @@ pub fn measured_on(t: FlatTable, m: Measured) -> FlatMeasured
     }
 }
 
+// The refusal, 0 where a file was written, and its length, 0 with a refusal.
+#[repr(C)]
+#[derive(Clone, Copy)]
+pub struct WrittenFile {
+    pub refusal: u8,
+    pub length: usize,
+}
+
+// The result of a writing as a reply.
+pub fn reply_of_writing(written: Result<usize, Refusal>) -> WrittenFile
+    ensures { written_reply result ≡ result_answer 0 written }
+{
+    match written {
+        Ok(length) => WrittenFile { refusal: 0, length },
+        Err(refusal) => WrittenFile {
+            refusal: refusal.number(),
+            length: 0,
+        },
+    }
+}
+
 // An answer with a day as a reply.
-pub fn reply_of_day(answer: DayAnswer) -> DayReply
+pub fn reply_of_day(answer: Result<u16, Refusal>) -> DayReply
     ensures { day_reply result ≡ day_answer answer }
 {
     match answer {
-        DayAnswer::Day(number) => DayReply {
-            refusal: 0,
-            day: number,
-        },
-        DayAnswer::NotADate => DayReply {
-            refusal: 23,
+        Ok(day) => DayReply { refusal: 0, day },
+        Err(refusal) => DayReply {
+            refusal: refusal.number(),
             day: 0,
         },
     }
 }
 
 // An answer with a date as a reply.
-pub fn reply_of_date(answer: DateAnswer) -> DateReply
+pub fn reply_of_date(answer: Result<Date, Refusal>) -> DateReply
     ensures { date_reply result ≡ date_answer answer }
 {
     match answer {
-        DateAnswer::Is(date) => DateReply {
+        Ok(date) => DateReply {
             refusal: 0,
             year: date.year,
             month: date.month,
             day: date.day,
         },
-        DateAnswer::NotADay => DateReply {
-            refusal: 23,
+        Err(refusal) => DateReply {
+            refusal: refusal.number(),
             year: 0,
             month: 0,
             day: 0,
+        },
+    }
+}
+
+// A made-up calendar as a reply.
+pub fn reply_of_made(made: Result<Calendar, Refusal>) -> Made
+    ensures { made_answer result ≡ result_answer zero_calendar made }
+{
+    match made {
+        Ok(calendar) => Made {
+            refusal: 0,
+            calendar,
+        },
+        Err(refusal) => Made {
+            refusal: refusal.number(),
+            calendar: calendar::zero_calendar(),
         },
     }
 }
@@ -256,18 +300,18 @@ pub fn reply_of_verdict(verdict: Verdict) -> VerdictReply
     ensures { verdict_reply result ≡ verdict_answer verdict }
 {
     match verdict {
-        Verdict::Same => VerdictReply {
+        Ok(None) => VerdictReply {
             refusal: 0,
             same: true,
             key: 0,
         },
-        Verdict::Differs(key) => VerdictReply {
+        Ok(Some(key)) => VerdictReply {
             refusal: 0,
             same: false,
             key,
         },
-        Verdict::Unsound => VerdictReply {
-            refusal: 10,
+        Err(refusal) => VerdictReply {
+            refusal: refusal.number(),
             same: false,
             key: 0,
         },

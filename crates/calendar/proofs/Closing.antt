@@ -3,12 +3,11 @@
 use mathlib.Core.Path.{◌≡◌, refl, ◌∙◌, sym, ap}
 use mathlib.Core.Bool.{Bool, true, false, not, ◌&&◌, cond, and-false}
 use mathlib.Core.List.{List}
-use Prim.Native.Nat.{ℕ, ◌-◌, ◌*◌, ◌/◌, ◌%◌, ◌^◌, ◌≤◌}
+use Prim.Native.Nat.{ℕ, ◌-◌, ◌*◌, ◌/◌, ◌%◌, ◌^◌}
 use native.Mathlib.Omega.{arith}
 use lib.Dec.{eqb, ltb}
 use lib.Bits.{bit_or}
 use lib.ListN.{length, get_or, set}
-use lib.Seq.{set_out}
 use borrow.Author.Tests.{eqb-true, eqb-false, not-true}
 use Rattle.questions.proofs.Bools.{clash, both}
 use Rattle.questions.proofs.Search.{every-at, every-all}
@@ -17,7 +16,7 @@ use Rattle.calendar.specs.declared.Calendar.{Calendar}
 use Rattle.calendar.specs.Bits.{bit_at, set_bit}
 use Rattle.calendar.specs.Trading.{calendar_of_maps, valid_cover, in_cover, slot_of, closed_on, trading_day, in_second_map, may_be_closed, bits_clean, clean_slot}
 use Rattle.calendar.specs.Trading.{clean, close_day}
-use Rattle.calendar.proofs.Bits.{set_here, set_other, set_keeps, set-turn, marked, one_shl}
+use Rattle.calendar.proofs.Bits.{set_here, set_other, set_keeps, set-turn, one_shl}
 use Rattle.calendar.proofs.Covered.{covered, slot-below, slot-may, slot_same}
 use Rattle.calendar.proofs.Clean.{bits-more, bits-second}
 
@@ -157,20 +156,6 @@ module _ (cal : Calendar) (d : ℕ) where
   pub close-out : in_cover cal.cover d ≡ false → cal ≡ close_day cal d
   unfolding close_day
   close-out e = rw e
-
-  -- closing a day whose byte is past the end of the map changes nothing
-  pub close-past : length cal.closed ≤ slot_of cal.cover d / 8 → cal ≡ close_day cal d
-  unfolding close_day set_bit
-  close-past h = go (in_cover cal.cover d)
-    where
-      go : (b : Bool) → cal ≡ record {
-        cover = cal.cover;
-        closed = cond b (set_bit cal.closed (slot_of cal.cover d)) cal.closed;
-        exchange =
-            cal.exchange;
-      }
-      go true = rw (set_out cal.closed (slot_of cal.cover d / 8) (marked cal.closed (slot_of cal.cover d)) h)
-      go false = refl
 
   -- the code's store
   pub close-store : (slot : ℕ) → slot ≡ slot_of cal.cover d → in_cover cal.cover d ≡ true

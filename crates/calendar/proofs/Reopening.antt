@@ -2,12 +2,8 @@
 -- Assumes nothing.
 use mathlib.Core.Path.{◌≡◌, refl, sym}
 use mathlib.Core.Bool.{Bool, true, false, not, ◌&&◌, cond}
-use Prim.Native.Nat.{ℕ, ◌-◌, ◌*◌, ◌/◌, ◌%◌, ◌^◌, ◌≤◌}
-use native.Mathlib.Omega.{arith}
+use Prim.Native.Nat.{ℕ}
 use lib.Dec.{eqb, ltb}
-use lib.Bits.{bit_and}
-use lib.ListN.{length, get_or, set}
-use lib.Seq.{set_out}
 use borrow.Author.Tests.{eqb-true, eqb-false, not-true}
 use Rattle.questions.proofs.Bools.{clash, both}
 use Rattle.questions.proofs.Search.{every-at, every-all}
@@ -15,7 +11,7 @@ use Rattle.days.specs.Gregorian.{weekday_of}
 use Rattle.calendar.specs.declared.Calendar.{Calendar}
 use Rattle.calendar.specs.Bits.{bit_at, clear_bit}
 use Rattle.calendar.specs.Trading.{in_cover, slot_of, closed_on, trading_day, every_week, may_be_closed, bits_clean, clean_slot, clean, reopen_day}
-use Rattle.calendar.proofs.Bits.{clear-here, clear-other, clear-before, cleared, one_shl}
+use Rattle.calendar.proofs.Bits.{clear-here, clear-other, clear-before}
 use Rattle.calendar.proofs.Clean.{bits-zero}
 use Rattle.calendar.proofs.Weeks.{weeks-more}
 
@@ -89,36 +85,7 @@ module _ (cal : Calendar) (d : ℕ) where
   pub weeks-reopen : every_week cal ≡ true → every_week (reopen_day cal d) ≡ true
   weeks-reopen e = weeks-more (reopen_day cal d) cal (sym reopen-cover) trading-stays e
 
-  -- where nothing is cleared: a day outside the cover, or a slot past the maps
+  -- where nothing is cleared: a day outside the cover
   pub reopen-out : in_cover cal.cover d ≡ false → cal ≡ reopen_day cal d
   unfolding reopen_day
   reopen-out e = rw e
-
-  -- reopening a day whose byte is past the end of both maps changes nothing
-  pub reopen-past : length cal.closed ≤ slot_of cal.cover d / 8 → length cal.exchange ≤ slot_of cal.cover d / 8 → cal ≡ reopen_day cal d
-  unfolding reopen_day clear_bit
-  reopen-past h l = go (in_cover cal.cover d)
-    where
-      at : ℕ
-      at = slot_of cal.cover d
-
-      go : (b : Bool) → cal ≡ record {
-        cover = cal.cover;
-        closed = cond b (clear_bit cal.closed at) cal.closed;
-        exchange =
-            cond b (clear_bit cal.exchange at) cal.exchange;
-      }
-      go true = rw (set_out cal.closed (at / 8) (cleared cal.closed at) h, set_out cal.exchange (at / 8) (cleared cal.exchange at) l)
-      go false = refl
-
-  -- the code's stores
-  pub reopen-store : (slot : ℕ) → slot ≡ slot_of cal.cover d → in_cover cal.cover d ≡ true
-      → ◌≡◌ {A = Calendar} (record {
-        cover = cal.cover;
-        closed =
-            set cal.closed (slot / 8) (bit_and (get_or cal.closed (slot / 8) 0) (255 - 1 * 2 ^ (7 - slot % 8) % 256));
-        exchange =
-            set cal.exchange (slot / 8) (bit_and (get_or cal.exchange (slot / 8) 0) (255 - 1 * 2 ^ (7 - slot % 8) % 256));
-      }) (reopen_day cal d)
-  unfolding reopen_day clear_bit
-  reopen-store slot q e = rw (one_shl (7 - slot % 8) (omega arith), e, q)

@@ -2,12 +2,12 @@
 #![tactic(auto)]
 
 ghost use Rattle.std.specs.Prelude.{◌≡◌, ◌&&◌, ◌-◌, ◌≤◌};
-ghost use Rattle.calendar.specs.Bits.{bit_at};
+ghost use Rattle.calendar.specs.Bits.{bit_at, set_bit, clear_bit};
 ghost use Rattle.calendar.specs.Trading.{calendar_of_maps, calendar_with, open_calendar, zero_calendar, valid_cover, cover_start, cover_end, in_cover, slot_of, closed_on, trading_day, in_second_map, exchange_day, next_exchange_day, nth_exchange_day, close_day, reopen_day, closed_weekday};
 
 // A run of whole years.
 #[repr(C)]
-#[derive(Clone, Copy)]
+#[derive(Clone, Copy, PartialEq, Eq)]
 pub struct Cover {
     pub first_year: u16,
     pub years: u16,
@@ -51,21 +51,7 @@ pub fn zero_calendar() -> Calendar
 pub fn is_valid_cover(cover: Cover) -> bool
     ensures { result ≡ valid_cover cover }
 {
-    let first = cover.first_year;
-    let years = cover.years;
-    if years < 1 {
-        return false;
-    }
-    if 16 < years {
-        return false;
-    }
-    if first < 2000 {
-        return false;
-    }
-    if 2100 < first {
-        return false;
-    }
-    first + years <= 2100
+    (1..=16).contains(&cover.years) && (2000..=2100 - cover.years).contains(&cover.first_year)
 }
 
 // The first day of the cover.
@@ -79,41 +65,20 @@ pub fn cover_start(cover: Cover) -> u16
 pub fn cover_end(cover: Cover) -> u16
     ensures { (result ≡ cover_end cover) × (result ≤ 36525) }
 {
-    let first = cover.first_year;
-    let years = cover.years;
-    if 2100 <= first {
-        return 36525;
-    }
-    if 2100 - first <= years {
-        return 36525;
-    }
-    days::year_start(first + years)
+    days::year_start(cover.first_year.saturating_add(cover.years))
 }
 
 pub fn in_cover(cover: Cover, day: u16) -> bool
     ensures { result ≡ in_cover cover day }
 {
-    if day < cover_start(cover) {
-        return false;
-    }
-    day < cover_end(cover)
-}
-
-// How many years one is after another; 0 where it is not.
-fn years_after(year: u16, first: u16) -> u16
-    ensures { result ≡ year - first }
-{
-    if year < first {
-        return 0;
-    }
-    year - first
+    (cover_start(cover)..cover_end(cover)).contains(&day)
 }
 
 // The place of a day's bit in the maps of the years.
 pub fn slot_of(cover: Cover, day: u16) -> usize
     ensures { result ≡ slot_of cover day }
 {
-    let year = years_after(days::year_of(day), cover.first_year);
+    let year = days::year_of(day).saturating_sub(cover.first_year);
     368 * (year as usize) + (days::day_in_year(day) as usize)
 }
 
@@ -124,28 +89,47 @@ fn has_year_of(cover: Cover, day: u16) -> bool
     if 36525 <= day {
         return false;
     }
-    let year = days::year_of(day);
-    let first = cover.first_year;
-    if year < first {
-        return false;
+    match days::year_of(day).checked_sub(cover.first_year) {
+        Some(year) => year < cover.years,
+        None => false,
     }
-    year - first < cover.years
+}
+
+// Whether a map has the bit of a slot. A bit past its end counts as 0.
+fn has_bit(map: &[u8], slot: usize) -> bool
+    ensures { result ≡ bit_at map.now slot }
+{
+    match map.get(slot / 8) {
+        Some(byte) => (*byte >> (7 - slot % 8)) % 2 == 1,
+        None => false,
+    }
+}
+
+// Sets the bit of a slot; a slot past the map's end changes nothing.
+fn set_bit(map: &mut [u8], slot: usize)
+    ensures { map.new ≡ set_bit map.old slot }
+{
+    let at = slot / 8;
+    if at < map.len() {
+        map[at] = map[at] | 1 << (7 - slot % 8);
+    }
+}
+
+// Clears the bit of a slot; a slot past the map's end changes nothing.
+fn clear_bit(map: &mut [u8], slot: usize)
+    ensures { map.new ≡ clear_bit map.old slot }
+{
+    let at = slot / 8;
+    if at < map.len() {
+        map[at] = map[at] & (255 - (1 << (7 - slot % 8)));
+    }
 }
 
 // Whether a map has the day. None has a day outside the cover.
 fn is_marked(cover: Cover, map: &[u8], day: u16) -> bool
     ensures { result ≡ (in_cover cover day && bit_at map.now (slot_of cover day)) }
 {
-    if !has_year_of(cover, day) {
-        return false;
-    }
-    let slot = slot_of(cover, day);
-    let at = slot / 8;
-    if map.len() <= at {
-        return false;
-    }
-    let byte = map[at];
-    (byte >> (7 - slot % 8)) % 2 == 1
+    has_year_of(cover, day) && has_bit(map, slot_of(cover, day))
 }
 
 // A day outside the cover is not closed.
@@ -174,13 +158,7 @@ pub fn is_trading_day_in(cover: Cover, closed: &[u8], day: u16) -> bool
     if 5 <= days::weekday(day) {
         return false;
     }
-    let slot = slot_of(cover, day);
-    let at = slot / 8;
-    if closed.len() <= at {
-        return true;
-    }
-    let byte = closed[at];
-    !((byte >> (7 - slot % 8)) % 2 == 1)
+    !has_bit(closed, slot_of(cover, day))
 }
 
 pub fn is_trading_day(cal: Calendar, day: u16) -> bool
@@ -211,18 +189,9 @@ pub fn is_exchange_day(cal: Calendar, day: u16) -> bool
 pub fn next_exchange_day_in<'a>(cover: Cover, closed: &'a [u8], exchange: &'a [u8], day: u16) -> u16
     ensures { result ≡ next_exchange_day (calendar_of_maps cover closed.now exchange.now) day }
 {
-    let end = cover_end(cover);
-    if end <= day {
-        return 36525;
-    }
-    let mut d = day + 1;
-    while d < end {
-        if is_exchange_day_in(cover, closed, exchange, d) {
-            return d;
-        }
-        d += 1;
-    }
-    36525
+    (day.saturating_add(1)..cover_end(cover))
+        .find(|d| is_exchange_day_in(cover, closed, exchange, *d))
+        .unwrap_or(36525)
 }
 
 // The n-th exchange day after a day, by the cover and the lent maps; 36,525 where the cover has none.
@@ -236,10 +205,8 @@ pub fn nth_exchange_day_in<'a>(
     ensures { result ≡ nth_exchange_day (calendar_of_maps cover closed.now exchange.now) n day }
 {
     let mut d = day;
-    let mut i: u16 = 0;
-    while i < n {
+    for _ in 0..n {
         d = next_exchange_day_in(cover, closed, exchange, d);
-        i += 1;
     }
     d
 }
@@ -260,14 +227,8 @@ pub fn close_day(cal: Calendar, day: u16) -> Calendar
     if !in_cover(cover, day) {
         return cal;
     }
-    let slot = slot_of(cover, day);
-    let at = slot / 8;
-    if 736 <= at {
-        return cal;
-    }
-    let bit: u8 = 1 << (7 - slot % 8);
     let mut next = cal;
-    next.closed[at] = next.closed[at] | bit;
+    set_bit(&mut next.closed, slot_of(cover, day));
     next
 }
 
@@ -280,14 +241,9 @@ pub fn reopen_day(cal: Calendar, day: u16) -> Calendar
         return cal;
     }
     let slot = slot_of(cover, day);
-    let at = slot / 8;
-    if 736 <= at {
-        return cal;
-    }
-    let bit: u8 = 1 << (7 - slot % 8);
     let mut next = cal;
-    next.closed[at] = next.closed[at] & (255 - bit);
-    next.exchange[at] = next.exchange[at] & (255 - bit);
+    clear_bit(&mut next.closed, slot);
+    clear_bit(&mut next.exchange, slot);
     next
 }
 

@@ -10,8 +10,8 @@ use lib.Bits.{bit_or}
 use lib.Dec.{leb, ltb}
 use borrow.Author.Tests.{le-leb, lt-leb, lt-ltb, le-ltb}
 use Rattle.questions.specs.Search.{every}
-use Rattle.questions.proofs.Bools.{same_test, lt-or-ge}
-use Rattle.questions.proofs.Search.{every-at, every-all, every-add, every-not, every_one}
+use Rattle.questions.proofs.Bools.{lt-or-ge}
+use Rattle.questions.proofs.Search.{every-at}
 use Rattle.days.specs.Gregorian.{weekday_of}
 use Rattle.days.specs.Dates.{year_start}
 use Rattle.days.proofs.Years.{year-start-is, year-start-past, year-start-le}
@@ -22,6 +22,7 @@ use Rattle.calendar.specs.Trading.{may_close, may_be_closed, bits_clean, clean}
 use Rattle.calendar.proofs.Covered.{may-not, may-day, may_past}
 use Rattle.calendar_words.specs.DayWords.{day_bit, Weekends}
 use Rattle.calendar_words.proofs.DayWords.{or-day, shr-day, every-same, both-every}
+use Rattle.calendar_checks.proofs.Ranges.{every-sum}
 use Rattle.calendar_checks.specs.Maps.{Barred, Used}
 
 -- a year that has days has 365 or 366
@@ -114,17 +115,6 @@ rest-other y z h =
     let w : (y - 2000 + 4) / 4 ≡ (y - 2000 + 3) / 4 = omega arith in
     omega (arith, year-start-is y a (omega arith), year-start-is (y + 1) (omega arith) (omega arith))
 
--- a test over the next n numbers
-module _ (f : ℕ → Bool) (m n : ℕ) where
-  -- where the first m numbers pass, the first m + n pass exactly where the next n do
-  pub every-split : every m f ≡ true → every (m + n) f ≡ every n (λ j. f (m + j))
-  every-split h =
-      same_test _ _ (λ e. every-all (λ j. f (m + j)) n (λ j l. every-at f (m + n) (m + j) e (omega arith))) (λ e. every-add f m n h e)
-
-  -- where not all of the next n numbers pass, not all of k numbers that include them pass
-  pub every-fails : (k : ℕ) → every n (λ j. f (m + j)) ≡ false → m + n ≤ k → every k f ≡ false
-  every-fails k e l = let p = every_one (λ j. f (m + j)) n e in every-not f k (m + p.at) p.fails (omega (arith, p.below))
-
 -- 5, of day n of the map k of a year, and of a slot of the maps
 abbrev pub map_day : List ℕ → ℕ → ℕ → ℕ → Bool
 map_day map k y n = not (bit_at map (368 * k + n)) || may_close y n
@@ -141,14 +131,15 @@ module _ (map : List ℕ) (c : Cover) (n : ℕ) (u : Used c n) where
       every-same (λ m. slot_day map c (368 * k + m)) (map_day map k (c.first_year + k)) 368
       (λ m l. ap (λ (q : Bool). not (bit_at map (368 * k + m)) || q) (u.here k m h l))
 
-  -- where the slots of the first n maps pass, all slots pass exactly where the bits after those maps are 0
-  pub slots-after : every (368 * n) (slot_day map c) ≡ true → every 5888 (slot_day map c) ≡ every (5888 - 368 * n) (λ p. not (bit_at map (368 * n + p)))
-  slots-after h =
-      let e : 5888 ≡ 368 * n + (5888 - 368 * n) = omega (arith, u.most) in
-      ap (λ (m : ℕ). every m (slot_day map c)) e ∙ every-split (slot_day map c) (368 * n) (5888 - 368 * n) h ∙
-      every-same (λ p. slot_day map c (368 * n + p)) (λ p. not (bit_at map (368 * n + p))) (5888 - 368 * n)
-      (λ p l. ap (λ (q : Bool). not (bit_at map (368 * n + p)) || q) (u.beyond (368 * n + p) (omega arith) (omega arith)) ∙
-      or-false (not (bit_at map (368 * n + p))))
+  -- all slots pass where those of the first n maps do, and the bits after those maps are 0
+  pub slots-after : (every (368 * n) (slot_day map c) && every (5888 - 368 * n) (λ p. not (bit_at map (368 * n + p)))) ≡ every 5888 (slot_day map c)
+  slots-after =
+      let e : 368 * n + (5888 - 368 * n) ≡ 5888 = omega (arith, u.most) in
+      ap (λ (b : Bool). every (368 * n) (slot_day map c) && b)
+      (every-same (λ p. not (bit_at map (368 * n + p))) (λ p. slot_day map c (368 * n + p)) (5888 - 368 * n)
+      (λ p l. sym (or-false (not (bit_at map (368 * n + p)))) ∙
+      ap (λ (q : Bool). not (bit_at map (368 * n + p)) || q) (sym (u.beyond (368 * n + p) (omega arith) (omega arith))))) ∙
+      every-sum (slot_day map c) (368 * n) (5888 - 368 * n) ∙ ap (λ (m : ℕ). every m (slot_day map c)) e
 
 -- 5, of both maps
 pub both-clean : (cal : Calendar) → (every 5888 (slot_day cal.closed cal.cover)

@@ -69,17 +69,11 @@ fn year_is_clean(closed: &[u8; 736], k: u16, year: u16) -> bool
     ensures { result ≡ every 368 (λ n. not (bit_at closed.now (368 * k + n)) || may_close year n) }
 {
     let barred = year_barred(year);
-    let mut j: u16 = 0;
-    while j < 6 {
-        if !is_apart(calendar_words::weeks_of(closed, k, j), barred >> 8) {
-            return false;
-        }
-        j += 1;
-    }
-    is_apart(
-        calendar_words::rest_of(closed, k),
-        rest_barred(year, barred),
-    )
+    (0..6).all(|j| is_apart(calendar_words::weeks_of(closed, k, j), barred >> 8))
+        & is_apart(
+            calendar_words::rest_of(closed, k),
+            rest_barred(year, barred),
+        )
 }
 
 // How many maps may have closed days: one for each year of the cover, of 16; none where it begins after 2099.
@@ -100,14 +94,8 @@ fn first_is_clean(cover: Cover, closed: &[u8; 736]) -> bool
     ensures { result ≡ every 5888 (λ s. not (bit_at closed.now s) || may_be_closed cover s) }
 {
     let used = maps_used(cover);
-    let mut k: u16 = 0;
-    while k < used {
-        if !year_is_clean(closed, k, cover.first_year + k) {
-            return false;
-        }
-        k += 1;
-    }
-    calendar_words::is_empty_after(closed, used)
+    (0..used).all(|k| year_is_clean(closed, k, cover.first_year + k))
+        & calendar_words::is_empty_after(closed, used)
 }
 
 // The same of both maps: the second has only days that the first has.
@@ -256,13 +244,11 @@ fn year_trades(cover: Cover, closed: &[u8; 736], k: u16) -> bool
 {
     let weekends = calendar_words::weekends_from(days::year_start(cover.first_year + k) + 6);
     let mut window = days_before(cover, closed, k);
-    let mut j: u16 = 0;
-    while j < 6 {
+    for j in 0..6 {
         window = calendar_words::moved_on(window, calendar_words::weeks_of(closed, k, j), 56);
         if !calendar_words::no_seven(window | weekends) {
             return false;
         }
-        j += 1;
     }
     rest_trades(cover, closed, k, window)
 }
@@ -272,15 +258,7 @@ fn years_trade(cover: Cover, closed: &[u8; 736]) -> bool
     requires { valid_cover cover ≡ true }
     ensures { result ≡ true → every_week (calendar_with cover closed.now) ≡ true }
 {
-    let years = cover.years;
-    let mut k: u16 = 0;
-    while k < years {
-        if !year_trades(cover, closed, k) {
-            return false;
-        }
-        k += 1;
-    }
-    true
+    (0..cover.years).all(|k| year_trades(cover, closed, k))
 }
 
 // Question 6: every run of seven days in the cover holds a trading day. The quick look answers yes; the loop over the days answers the rest.

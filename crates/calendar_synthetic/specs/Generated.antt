@@ -6,7 +6,6 @@ use Rattle.days.specs.Gregorian.{weekday_of}
 use Rattle.calendar.specs.declared.Cover.{Cover}
 use Rattle.calendar.specs.declared.Calendar.{Calendar}
 use Rattle.calendar.specs.Trading.{valid_cover, cover_start, cover_end, clean, every_week, close_day, open_calendar, zero_calendar}
-use Rattle.calendar_synthetic.specs.declared.Made.{Made}
 
 -- 'The next value is (1,664,525 × value + 1,013,904,223) mod 2^32'
 abbrev pub next_value : ℕ → ℕ
@@ -47,10 +46,6 @@ made_asks cover = ask 4 (valid_cover cover) ∷ []
 -- '.. and a calendar of zeros'
 unfoldable pub made_call : ℕ → Cover → Answer Calendar
 made_call seed cover = answer (made_asks cover) zero_calendar (made_from seed cover)
-
--- the number and the value that an answer stands for
-abbrev pub made_answer : Made → Answer Calendar
-made_answer m = record { refusal = m.refusal; value = m.calendar }
 
 -- 'every calendar made this way passes questions 5 and 6, for every seed and every cover of 1 to 16 years from 2000 to 2099':
 -- of a valid cover (proofs, Passing)

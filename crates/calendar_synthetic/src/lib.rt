@@ -2,17 +2,12 @@
 #![tactic(auto)]
 
 ghost use Rattle.std.specs.Prelude.{◌≡◌};
-ghost use Rattle.calendar_synthetic.specs.Generated.{next_value, value_at, calendar_at, made_answer, made_call};
+ghost use Rattle.calendar_synthetic.specs.Generated.{next_value, value_at, calendar_at, made_call};
+ghost use Rattle.calendar.specs.Trading.{zero_calendar};
+ghost use Rattle.questions.specs.Refusals.{result_answer};
 
 use calendar::{Calendar, Cover};
-
-// The refusal, 0 where a calendar was made, and the calendar, zeros with a refusal.
-#[repr(C)]
-#[derive(Clone, Copy)]
-pub struct Made {
-    pub refusal: u8,
-    pub calendar: Calendar,
-}
+use questions::Refusal;
 
 // The value after a value. The product needs 53 bits.
 pub fn next_value(value: u32) -> u32
@@ -49,27 +44,17 @@ fn calendar_at(cal: Calendar, day: u16, value: u32) -> Calendar
 }
 
 // The calendar of a seed, for a cover of 1 to 16 years from 2000 to 2099. The first value is the one after the seed.
-pub fn make(seed: u32, cover: Cover) -> Made
-    ensures { made_answer result ≡ made_call seed cover }
+pub fn make(seed: u32, cover: Cover) -> Result<Calendar, Refusal>
+    ensures { result_answer zero_calendar result ≡ made_call seed cover }
 {
     if !calendar::is_valid_cover(cover) {
-        let zeros = calendar::zero_calendar();
-        return Made {
-            refusal: 4,
-            calendar: zeros,
-        };
+        return Err(Refusal::WrongBlocks);
     }
-    let end = calendar::cover_end(cover);
     let mut cal = calendar::open_calendar(cover);
     let mut value = seed;
-    let mut day = calendar::cover_start(cover);
-    while day < end {
+    for day in calendar::cover_start(cover)..calendar::cover_end(cover) {
         value = value_at(day, value);
         cal = calendar_at(cal, day, value);
-        day += 1;
     }
-    Made {
-        refusal: 0,
-        calendar: cal,
-    }
+    Ok(cal)
 }

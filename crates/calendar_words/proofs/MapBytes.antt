@@ -1,15 +1,15 @@
 -- Bytes of maps: bytes without a day, and bytes with only the days of another.
 -- Assumes nothing.
 use mathlib.Core.Path.{◌≡◌, refl, ◌∙◌, sym, ap, ap₂}
-use mathlib.Core.Bool.{Bool, true, false, not, ◌&&◌, ◌||◌}
-use mathlib.Core.List.{List}
-use Prim.Native.Nat.{ℕ, ◌+◌, ◌-◌, ◌*◌, ◌/◌, ◌%◌, ◌^◌, ◌≤◌, ◌<◌}
+use mathlib.Core.Bool.{Bool, true, false, not, ◌&&◌, ◌||◌, and-true, and_assoc}
+use mathlib.Core.List.{List, [], ◌∷◌}
+use Prim.Native.Nat.{ℕ, zero, suc, ◌+◌, ◌-◌, ◌*◌, ◌/◌, ◌%◌, ◌^◌, ◌≤◌, ◌<◌}
 use native.Mathlib.Nat.{zero-div}
-use native.Mathlib.Numerals.{add-one}
 use native.Mathlib.Omega.{arith}
 use lib.Bits.{bit_or, or_add_and, and_le_r}
 use lib.Dec.{eqb}
-use lib.ListN.{get_or}
+use lib.ListN.{get_or, length}
+use Rattle.std.specs.List.{fold}
 use borrow.Author.Tests.{eqb-true, eq-eqb, eqb-false}
 use Rattle.questions.specs.Search.{every}
 use Rattle.questions.proofs.Bools.{same_test, or-zero}
@@ -55,10 +55,23 @@ none_in map at k = every 8 (λ p. not (byte_bit (get_or map (at + k) 0) p))
 abbrev pub within_in : List ℕ → List ℕ → ℕ → Bool
 within_in first second k = every 8 (λ p. not (byte_bit (get_or second k 0) p) || byte_bit (get_or first k 0) p)
 
--- a test over the next byte, of bytes whose days are taken together
-pub bytes-more : (f : ℕ → Bool) (n x y : ℕ) → eqb x 0 ≡ every n f → eqb y 0 ≡ f n → eqb (bit_or x y) 0 ≡ every (n + 1) f
+-- a test over one number more at the front
+every-front : (n : ℕ) (f : ℕ → Bool) → every (suc n) f ≡ (f 0 && every n (λ k. f (suc k)))
 unfolding every
-bytes-more f n x y e h = or-zero x y ∙ ap₂ ◌&&◌ e h ∙ rw (add-one n)
+every-front zero f = sym (and-true (f 0))
+every-front (suc n) f = ap (λ (b : Bool). b && f (suc n)) (every-front n f) ∙ and_assoc (f 0) (every n (λ k. f (suc k))) (f (suc n))
+
+-- numbers taken together, bit by bit, from a on: 0 just where a is, and where each of them is
+pub together : {A : Type 0} (h : A → ℕ) (z : A) (test : ℕ → Bool) (xs : List A) (a : ℕ)
+    → ((k : ℕ) → k < length xs → eqb (h (get_or xs k z)) 0 ≡ test k) → eqb (fold (λ d x. bit_or d (h x)) a xs) 0 ≡ (eqb a 0 && every (length xs) test)
+unfolding every
+together h z test [] a e = sym (and-true (eqb a 0))
+together h z test (x ∷ xs) a e =
+    together h z (λ k. test (suc k)) xs (bit_or a (h x)) (λ k l. e (suc k) (omega (arith, l))) ∙
+    ap (λ (b : Bool). b && every (length xs) (λ k. test (suc k))) (or-zero a (h x)) ∙
+    and_assoc (eqb a 0) (eqb (h x) 0) (every (length xs) (λ k. test (suc k))) ∙
+    ap (λ (b : Bool). eqb a 0 && (b && every (length xs) (λ k. test (suc k)))) (e 0 (omega arith)) ∙
+    ap (λ (b : Bool). eqb a 0 && b) (sym (every-front (length xs) test))
 
 -- a test over bytes and their bits is one over slots
 pub every-bits : (g : ℕ → ℕ → Bool) (n : ℕ) → every n (λ k. every 8 (g k)) ≡ every (8 * n) (λ s. g (s / 8) (s % 8))

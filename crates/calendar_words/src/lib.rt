@@ -2,7 +2,7 @@
 // The compiler reads the bytes of a word at once, and many bytes of a map.
 #![tactic(auto)]
 
-ghost use Rattle.std.specs.Prelude.{◌≡◌, not, ◌||◌, ◌+◌, ◌-◌, ◌*◌, ◌%◌, ◌≤◌, ◌<◌, eqb, ltb, get_or};
+ghost use Rattle.std.specs.Prelude.{◌≡◌, not, ◌||◌, ◌+◌, ◌-◌, ◌*◌, ◌%◌, ◌≤◌, ◌<◌, eqb, ltb, get_or, bit_or};
 ghost use Rattle.questions.specs.Search.{every};
 ghost use Rattle.calendar.specs.Bits.{byte_bit, bit_at};
 ghost use Rattle.calendar_words.specs.DayWords.{day_word, weeks_of, rest_of, weekends_from, moved_on, no_seven, bytes_from};
@@ -113,25 +113,12 @@ pub fn no_seven(x: u64) -> bool
     four & (four >> 3) == 0
 }
 
-// A byte of a map, 0 where it has no day.
-fn days_of(byte: u8) -> u8
-    ensures { eqb result 0 ≡ every 8 (λ p. not (byte_bit byte p)) }
-{
-    byte
-}
-
 // The days that the bytes of a map from a place on have together. The compiler reads many bytes at once.
 fn days_from(map: &[u8; 736], at: usize) -> u8
     requires { at ≤ 736 }
     ensures { eqb result 0 ≡ every (736 - at) (λ k. every 8 (λ p. not (byte_bit (get_or map.now (at + k) 0) p))) }
 {
-    let mut days: u8 = 0;
-    let mut i = at;
-    while i < 736 {
-        days = days | days_of(map[i]);
-        i += 1;
-    }
-    days
+    map[at..].iter().fold(0, |days, byte| days | *byte)
 }
 
 // Whether a map has no day after its first k years.
@@ -146,7 +133,7 @@ pub fn is_empty_after(map: &[u8; 736], k: u16) -> bool
 
 // The days of the second of two bytes that the first has not.
 fn days_beyond(first: u8, second: u8) -> u8
-    ensures { eqb result 0 ≡ every 8 (λ p. not (byte_bit second p) || byte_bit first p) }
+    ensures { (result ≡ bit_or first second - first) × (eqb result 0 ≡ every 8 (λ p. not (byte_bit second p) || byte_bit first p)) }
 {
     (first | second) - first
 }
@@ -155,13 +142,10 @@ fn days_beyond(first: u8, second: u8) -> u8
 fn all_beyond<'a>(first: &'a [u8; 736], second: &'a [u8; 736]) -> u8
     ensures { eqb result 0 ≡ every 736 (λ k. every 8 (λ p. not (byte_bit (get_or second.now k 0) p) || byte_bit (get_or first.now k 0) p)) }
 {
-    let mut days: u8 = 0;
-    let mut i: usize = 0;
-    while i < 736 {
-        days = days | days_beyond(first[i], second[i]);
-        i += 1;
-    }
-    days
+    first
+        .iter()
+        .zip(second)
+        .fold(0, |days, (a, b)| days | days_beyond(*a, *b))
 }
 
 // Whether a map has only days that another has.

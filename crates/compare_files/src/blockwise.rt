@@ -1,14 +1,14 @@
 // A file loaded block by block.
 ghost use Rattle.std.specs.Prelude.{◌≡◌, length};
 
-use compare_text::{end_line, put_byte, put_short, put_size, start_line};
+use compare_text::{end_line, put_number, start_line};
 use file_intake::Intake;
 use file_load::Counts;
 
 fn put_answer(rt: HostRuntime, refusal: u8, counts: Counts) {
-    put_byte(rt, refusal);
-    put_short(rt, counts.years);
-    put_short(rt, counts.records);
+    put_number(rt, refusal);
+    put_number(rt, counts.years);
+    put_number(rt, counts.records);
 }
 
 // The refusals of three calls: 511 bytes of a block, a final call before it, and the block.
@@ -20,9 +20,9 @@ fn hand_over(rt: HostRuntime, state: Intake, block: &[u8]) -> Intake
     let early = before.finish();
     let held = early.state;
     let next = held.take(block);
-    put_byte(rt, short.refusal);
-    put_byte(rt, early.refusal);
-    put_byte(rt, next.refusal);
+    put_number(rt, short.refusal);
+    put_number(rt, early.refusal);
+    put_number(rt, next.refusal);
     next.state
 }
 
@@ -30,15 +30,13 @@ fn hand_over(rt: HostRuntime, state: Intake, block: &[u8]) -> Intake
 fn hand_over_all(rt: HostRuntime, announced: Intake, file: &[u8]) {
     let blocks = file.len() / 512;
     let mut state = announced;
-    let mut k: usize = 0;
-    while k < blocks {
+    for k in 0..blocks {
         state = hand_over(rt, state, file_blocks::block_at(file, k));
-        k += 1;
     }
     let more = state.take(file_blocks::block_at(file, 0));
     let held = more.state;
     let last = held.finish();
-    put_byte(rt, more.refusal);
+    put_number(rt, more.refusal);
     put_answer(rt, last.refusal, last.counts);
 }
 
@@ -50,8 +48,8 @@ fn print_calls(rt: HostRuntime, file: &[u8]) {
     }
     let first = file_intake::announce(blocks as u16);
     start_line(rt, b'U');
-    put_size(rt, blocks);
-    put_byte(rt, first.refusal);
+    put_number(rt, blocks);
+    put_number(rt, first.refusal);
     if first.refusal == 0 {
         let state = first.state;
         hand_over_all(rt, state, file);

@@ -1,19 +1,19 @@
 // The records that are found in a file.
-use compare_text::{end_line, put_byte, put_long, put_short, put_size, start_line};
+use compare_text::{end_line, put_number, start_line};
 use file_load::Found;
 use product::Product;
 
 fn put_four(rt: HostRuntime, bytes: [u8; 4]) {
-    put_byte(rt, bytes[0]);
-    put_byte(rt, bytes[1]);
-    put_byte(rt, bytes[2]);
-    put_byte(rt, bytes[3]);
+    put_number(rt, bytes[0]);
+    put_number(rt, bytes[1]);
+    put_number(rt, bytes[2]);
+    put_number(rt, bytes[3]);
 }
 
 fn put_three(rt: HostRuntime, bytes: [u8; 3]) {
-    put_byte(rt, bytes[0]);
-    put_byte(rt, bytes[1]);
-    put_byte(rt, bytes[2]);
+    put_number(rt, bytes[0]);
+    put_number(rt, bytes[1]);
+    put_number(rt, bytes[2]);
 }
 
 // The fields of a record.
@@ -26,9 +26,9 @@ fn put_product(rt: HostRuntime, item: Product) {
     put_four(rt, id);
     put_four(rt, group);
     put_four(rt, market);
-    put_byte(rt, product::kind_number(kind));
-    put_long(rt, item.size);
-    put_short(rt, item.tick);
+    put_number(rt, product::kind_number(kind));
+    put_number(rt, item.size);
+    put_number(rt, item.tick);
     put_three(rt, currency);
 }
 
@@ -37,15 +37,15 @@ fn id_line(rt: HostRuntime, file: &[u8], id: [u8; 4]) {
     start_line(rt, b'I');
     match file_load::find(file, id) {
         Found::At(block, record) => {
-            put_byte(rt, 0);
-            put_size(rt, block);
-            put_size(rt, record);
+            put_number(rt, 0);
+            put_number(rt, block);
+            put_number(rt, record);
             put_product(rt, file_load::product_at(file, block, record));
         }
         Found::Nothing => {
-            put_byte(rt, 9);
-            put_size(rt, 0);
-            put_size(rt, 0);
+            put_number(rt, 9);
+            put_number(rt, 0);
+            put_number(rt, 0);
         }
     }
     end_line(rt);

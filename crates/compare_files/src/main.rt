@@ -6,9 +6,7 @@ mod blockwise;
 mod calendars;
 mod finds;
 
-ghost use Rattle.std.specs.Prelude.{◌<◌};
-
-use compare_text::{end_line, open_read, put_byte, put_short, read_full, start_line};
+use compare_text::{end_line, open_read, put_number, read_full, start_line};
 use std::fs::File;
 
 // The counts of a file, and of an accepted one the calendar and some records; then the answers of loading it block by block.
@@ -16,22 +14,16 @@ fn file_lines(rt: HostRuntime, file: &[u8], index: u16) {
     let loaded = file_load::load(file);
     let counts = loaded.counts;
     start_line(rt, b'F');
-    put_short(rt, index);
-    put_byte(rt, loaded.refusal);
-    put_short(rt, counts.years);
-    put_short(rt, counts.records);
+    put_number(rt, index);
+    put_number(rt, loaded.refusal);
+    put_number(rt, counts.years);
+    put_number(rt, counts.records);
     end_line(rt);
     if loaded.refusal == 0 {
         calendars::print(rt, file);
         finds::print(rt, file);
     }
     blockwise::print(rt, file);
-}
-
-fn wide(byte: u8) -> usize
-    ensures { result < 256 }
-{
-    byte as usize
 }
 
 // The length of the next file; more than any file has where the cases end.
@@ -41,7 +33,7 @@ fn next_length(from: &mut File) -> usize {
     if n < 4 {
         return usize::MAX;
     }
-    16777216 * wide(head[0]) + 65536 * wide(head[1]) + 256 * wide(head[2]) + wide(head[3])
+    u32::from_be_bytes(head) as usize
 }
 
 // Reads one file to the start of the buffer and prints its lines; whether there was one.
@@ -59,12 +51,10 @@ fn one(rt: HostRuntime, from: &mut File, buffer: &mut [u8], index: u16) -> bool 
 
 // At most 1,000 files.
 fn all(rt: HostRuntime, from: &mut File, buffer: &mut [u8]) {
-    let mut index: u16 = 0;
-    while index < 1000 {
+    for index in 0..1000 {
         if !one(rt, from, buffer, index) {
             return;
         }
-        index += 1;
     }
 }
 

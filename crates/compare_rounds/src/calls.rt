@@ -1,10 +1,10 @@
 // The calls of a script on the queue, and the lines that they print.
-ghost use Rattle.std.specs.Prelude.{◌≡◌, true, ◌≤◌, ◌<◌};
+ghost use Rattle.std.specs.Prelude.{◌≡◌, true, ◌≤◌};
 ghost use Rattle.rounds.specs.Rounds.{queue_right};
 
 use crate::reading::Record;
-use compare_text::{end_line, put_long, put_short, start_line};
-use rounds::{Changed, Queue};
+use compare_text::{end_line, put_number, start_line};
+use rounds::{Changed, Handled, Queue};
 
 // The letters of the calls: an empty queue, a joining, a leaving, a call of the round, one whose tables are rolled;
 // a place and the count of a queue that no call made.
@@ -33,24 +33,15 @@ pub struct QueueCalled {
 fn used(count: u16) -> usize
     ensures { result ≤ 200 }
 {
-    if 200 < count {
-        return 200;
-    }
-    count as usize
+    usize::from(count.min(200))
 }
 
 fn put_first(rt: HostRuntime, tables: [u16; 200], n: usize)
     requires { n ≤ 200 }
 {
-    for i in 0..n {
-        put_short(rt, tables[i]);
+    for number in &tables[..n] {
+        put_number(rt, *number);
     }
-}
-
-fn wide(number: u16) -> u32
-    ensures { result < 65536 }
-{
-    number as u32
 }
 
 // The sum of the numbers from place n on.
@@ -59,7 +50,7 @@ fn sum_from(tables: [u16; 200], n: usize) -> u32
 {
     let mut sum: u32 = 0;
     for i in n..200 {
-        sum += wide(tables[i]);
+        sum += u32::from(tables[i]);
     }
     sum
 }
@@ -68,9 +59,9 @@ fn sum_from(tables: [u16; 200], n: usize) -> u32
 fn put_queue(rt: HostRuntime, q: Queue) {
     let tables = q.tables;
     let n = used(q.count);
-    put_short(rt, q.count);
+    put_number(rt, q.count);
     put_first(rt, tables, n);
-    put_long(rt, sum_from(tables, n));
+    put_number(rt, sum_from(tables, n));
 }
 
 // A step that takes no table.
@@ -87,8 +78,8 @@ fn change(rt: HostRuntime, letter: u8, number: u16, c: Changed) -> QueueCalled
 {
     let queue = c.queue;
     start_line(rt, letter);
-    put_short(rt, number);
-    put_short(rt, c.refusal as u16);
+    put_number(rt, number);
+    put_number(rt, c.refusal as u16);
     put_queue(rt, queue);
     end_line(rt);
     only(queue)
@@ -98,12 +89,12 @@ fn change(rt: HostRuntime, letter: u8, number: u16, c: Changed) -> QueueCalled
 fn handle(rt: HostRuntime, q: Queue, letter: u8, b: u16) -> QueueCalled
     ensures { queue_right result.taken ≡ true }
 {
-    let h = q.handle(b);
+    let h = Handled::for_c(q, q.handle(b));
     let taken = h.taken;
     let queue = h.queue;
     start_line(rt, letter);
-    put_short(rt, b);
-    put_short(rt, h.refusal as u16);
+    put_number(rt, b);
+    put_number(rt, h.refusal as u16);
     put_queue(rt, taken);
     put_queue(rt, queue);
     end_line(rt);
@@ -135,8 +126,8 @@ pub(crate) fn step(rt: HostRuntime, q: Queue, r: Record) -> QueueCalled
     let number = r.number;
     match letter {
         EMPTY => only(Queue::empty()),
-        JOIN => change(rt, letter, number, q.join(number)),
-        LEAVE => change(rt, letter, number, q.leave(number)),
+        JOIN => change(rt, letter, number, Changed::for_c(q, q.join(number))),
+        LEAVE => change(rt, letter, number, Changed::for_c(q, q.leave(number))),
         HANDLE => only(handle(rt, q, letter, number).queue),
         MORNING => handle(rt, q, letter, number),
         PLACE => only(with_place(q, number, r.second)),

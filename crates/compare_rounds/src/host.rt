@@ -3,7 +3,7 @@ ghost use Rattle.std.specs.Prelude.{◌≡◌, true};
 ghost use Rattle.rounds.specs.Rounds.{queue_right};
 
 use crate::reading::Record;
-use compare_text::{end_line, put_short, start_line};
+use compare_text::{end_line, put_number, start_line};
 use rounds::Queue;
 use table::{Outcome, Table};
 
@@ -25,12 +25,12 @@ pub(crate) fn nothing_opened() -> Host {
 fn outcome_line(rt: HostRuntime, letter: u8, number: u16, o: Outcome) {
     let t = o.table;
     start_line(rt, letter);
-    put_short(rt, number);
-    put_short(rt, o.refusal as u16);
-    put_short(rt, t.date);
-    put_short(rt, o.entered);
-    put_short(rt, o.left);
-    put_short(rt, t.given);
+    put_number(rt, number);
+    put_number(rt, o.refusal as u16);
+    put_number(rt, t.date);
+    put_number(rt, o.entered);
+    put_number(rt, o.left);
+    put_number(rt, t.given);
     end_line(rt);
 }
 
@@ -55,16 +55,12 @@ fn roll_taken(rt: HostRuntime, host: Host, taken: Queue, date: u16) -> Host
     let numbers = taken.tables;
     let n = taken.count as usize;
     let mut tables = host.tables;
-    let mut i: usize = 0;
-    while i < n {
+    for i in 0..n {
         let number = numbers[i];
-        let place = number as usize;
-        let t = tables[place];
-        let o = t.roll(date);
+        let place = usize::from(number);
+        let o = tables[place].roll(date);
         outcome_line(rt, b'R', number, o);
-        let rolled = o.table;
-        tables[place] = rolled;
-        i += 1;
+        tables[place] = o.table;
     }
     Host { tables }
 }

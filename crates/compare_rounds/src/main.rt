@@ -13,16 +13,13 @@ use std::fs::File;
 fn run(rt: HostRuntime, from: &mut File, file: &[u8]) {
     let mut queue = Queue::empty();
     let mut host = host::nothing_opened();
-    let mut turns: u32 = 1000000;
-    while 0 < turns {
-        let r = reading::next(from);
-        if r.letter == 0 {
+    for _ in 0..1000000 {
+        let Some(r) = reading::next(from) else {
             break;
-        }
+        };
         let c = calls::step(rt, queue, r);
         queue = c.queue;
         host = host::step(rt, file, host, r, c.taken);
-        turns -= 1;
     }
 }
 

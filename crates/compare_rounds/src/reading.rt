@@ -4,7 +4,7 @@ ghost use Rattle.io.specs.Counts.{IsPrefixLen};
 use compare_text::{read_file, read_full};
 use std::fs::File;
 
-// A record: its letter, two numbers and an id; the letter is 0 where the script has ended.
+// A record: its letter, two numbers and an id.
 #[derive(Clone, Copy)]
 pub struct Record {
     pub letter: u8,
@@ -13,21 +13,20 @@ pub struct Record {
     pub id: [u8; 4],
 }
 
-// A number of two bytes, big-endian.
-fn two(high: u8, low: u8) -> u16 {
-    256 * (high as u16) + (low as u16)
-}
-
-pub(crate) fn next(from: &mut File) -> Record {
+// The next record; none where the script has ended, or where the letter is 0.
+pub(crate) fn next(from: &mut File) -> Option<Record> {
     let mut bytes = [0u8; 16];
     let n = read_full(from, &mut bytes);
-    let letter = if n < 16 { 0 } else { bytes[0] };
-    Record {
-        letter,
-        number: two(bytes[2], bytes[3]),
-        second: two(bytes[4], bytes[5]),
-        id: [bytes[6], bytes[7], bytes[8], bytes[9]],
+    let letter = bytes[0];
+    if (n < 16) | (letter == 0) {
+        return None;
     }
+    Some(Record {
+        letter,
+        number: u16::from_be_bytes([bytes[2], bytes[3]]),
+        second: u16::from_be_bytes([bytes[4], bytes[5]]),
+        id: [bytes[6], bytes[7], bytes[8], bytes[9]],
+    })
 }
 
 // Reads the master file to the start of buf. One that cannot be opened counts as empty.

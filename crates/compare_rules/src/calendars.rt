@@ -1,55 +1,50 @@
 // The calendar functions on covers of several lengths with patterns of closures.
-ghost use Rattle.std.specs.Prelude.{◌<◌, ◌≤◌};
+ghost use Rattle.std.specs.Prelude.{◌<◌, ◌≤◌, ℕ};
 
 use crate::patterns::closed_by;
 use calendar::{Calendar, Cover};
-use compare_text::{end_line, put_answer, put_short, start_line};
+use compare_text::{end_line, put_answer, put_number, start_line};
 
 // What is asked of one day.
 fn calendar_day_line(rt: HostRuntime, cal: Calendar, day: u16) {
     start_line(rt, b'T');
-    put_short(rt, day);
+    put_number(rt, day);
     put_answer(rt, calendar::in_cover(cal.cover, day));
     put_answer(rt, calendar::is_closed(cal, day));
     put_answer(rt, calendar::is_trading_day(cal, day));
     let last = expiry::last_day(cal, day);
-    put_short(rt, last.day);
-    put_short(rt, last.back);
-    put_short(rt, calendar::nth_exchange_day(cal, day, 1));
-    put_short(rt, calendar::nth_exchange_day(cal, day, 3));
+    put_number(rt, last.day);
+    put_number(rt, last.back);
+    put_number(rt, calendar::nth_exchange_day(cal, day, 1));
+    put_number(rt, calendar::nth_exchange_day(cal, day, 3));
     end_line(rt);
 }
 
-fn day_lines(rt: HostRuntime, cal: Calendar, from: u16, to: u16, step: u16)
-    requires { (1 ≤ step) × (step < 100) × (to < 40000) }
+// A line for each day from one to another, by steps of so many days.
+pub(crate) fn day_lines<F: Fn(u16)>(from: u16, to: u16, step: u16, line: F)
+    requires { (1 ≤ step) × (step < 100) × (to < 40000) × ((day : ℕ) → F.pre line day) }
 {
     let mut day = from;
     while day <= to {
-        calendar_day_line(rt, cal, day);
+        line(day);
         day += step;
     }
 }
 
 // Question 15 of one day.
-fn closing_lines(rt: HostRuntime, cal: Calendar, from: u16, to: u16, step: u16)
-    requires { (1 ≤ step) × (step < 100) × (to < 40000) }
-{
-    let mut day = from;
-    while day <= to {
-        start_line(rt, b'X');
-        put_short(rt, day);
-        put_answer(rt, calendar_checks::trades_with_closed(cal, day));
-        end_line(rt);
-        day += step;
-    }
+fn closing_line(rt: HostRuntime, cal: Calendar, day: u16) {
+    start_line(rt, b'X');
+    put_number(rt, day);
+    put_answer(rt, calendar_checks::trades_with_closed(cal, day));
+    end_line(rt);
 }
 
 pub(crate) fn header(rt: HostRuntime, cal: Calendar, index: u16) {
     let cover = cal.cover;
     start_line(rt, b'K');
-    put_short(rt, index);
-    put_short(rt, cover.first_year);
-    put_short(rt, cover.years);
+    put_number(rt, index);
+    put_number(rt, cover.first_year);
+    put_number(rt, cover.years);
     put_answer(rt, calendar::is_valid_cover(cover));
     put_answer(rt, calendar_checks::is_clean(cal));
     put_answer(rt, calendar_checks::every_week_trades(cal));
@@ -57,7 +52,7 @@ pub(crate) fn header(rt: HostRuntime, cal: Calendar, index: u16) {
 }
 
 pub(crate) fn ten_before(day: u16) -> u16 {
-    if day < 10 { 0 } else { day - 10 }
+    day.saturating_sub(10)
 }
 
 fn one(rt: HostRuntime, cover: Cover, index: u16, pattern: u16, step: u16)
@@ -67,8 +62,13 @@ fn one(rt: HostRuntime, cover: Cover, index: u16, pattern: u16, step: u16)
     let from = ten_before(calendar::cover_start(cover));
     let to = calendar::cover_end(cover) + 9;
     header(rt, cal, index);
-    day_lines(rt, cal, from, to, 5 * step);
-    closing_lines(rt, cal, from, to, 7 * step);
+    day_lines(
+        from,
+        to,
+        5 * step,
+        |day: u16| calendar_day_line(rt, cal, day),
+    );
+    day_lines(from, to, 7 * step, |day: u16| closing_line(rt, cal, day));
 }
 
 // The four patterns of a cover.

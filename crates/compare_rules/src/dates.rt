@@ -1,16 +1,15 @@
 // The months, and the answers to many dates and day numbers.
-use compare_text::{end_line, put_short, start_line};
-use days::{DateAnswer, DayAnswer};
+use compare_text::{end_line, put_number, start_line};
 
 // Number, first day, weekday of that day, length.
 fn months(rt: HostRuntime) {
     for k in 0..1200u16 {
         let first = days::first_day(k);
         start_line(rt, b'M');
-        put_short(rt, k);
-        put_short(rt, first);
-        put_short(rt, days::weekday(first));
-        put_short(rt, days::month_length(2000 + k / 12, k % 12 + 1));
+        put_number(rt, k);
+        put_number(rt, first);
+        put_number(rt, days::weekday(first));
+        put_number(rt, days::month_length(2000 + k / 12, k % 12 + 1));
         end_line(rt);
     }
 }
@@ -18,17 +17,17 @@ fn months(rt: HostRuntime) {
 // Refusal and day number of a date.
 fn date(rt: HostRuntime, year: u16, month: u16, day: u16) {
     start_line(rt, b'D');
-    put_short(rt, year);
-    put_short(rt, month);
-    put_short(rt, day);
+    put_number(rt, year);
+    put_number(rt, month);
+    put_number(rt, day);
     match days::day_of_date(year, month, day) {
-        DayAnswer::Day(number) => {
-            put_short(rt, 0);
-            put_short(rt, number);
+        Ok(number) => {
+            put_number(rt, 0);
+            put_number(rt, number);
         }
-        DayAnswer::NotADate => {
-            put_short(rt, 23);
-            put_short(rt, 0);
+        Err(refusal) => {
+            put_number(rt, refusal.number() as u16);
+            put_number(rt, 0);
         }
     }
     end_line(rt);
@@ -55,19 +54,19 @@ fn all_dates(rt: HostRuntime) {
 // Refusal and date of a day number.
 fn number(rt: HostRuntime, n: u16) {
     start_line(rt, b'N');
-    put_short(rt, n);
+    put_number(rt, n);
     match days::date_of_day(n) {
-        DateAnswer::Is(d) => {
-            put_short(rt, 0);
-            put_short(rt, d.year);
-            put_short(rt, d.month);
-            put_short(rt, d.day);
+        Ok(d) => {
+            put_number(rt, 0);
+            put_number(rt, d.year);
+            put_number(rt, d.month);
+            put_number(rt, d.day);
         }
-        DateAnswer::NotADay => {
-            put_short(rt, 23);
-            put_short(rt, 0);
-            put_short(rt, 0);
-            put_short(rt, 0);
+        Err(refusal) => {
+            put_number(rt, refusal.number() as u16);
+            put_number(rt, 0);
+            put_number(rt, 0);
+            put_number(rt, 0);
         }
     }
     end_line(rt);

@@ -3,9 +3,8 @@ ghost use Rattle.std.specs.Prelude.{◌<◌};
 
 use crate::patterns::closed_by;
 use calendar::{Calendar, Cover};
-use compare_text::{end_line, put_answer, put_short, start_line};
-use listing::Maturity;
-use product::{Kind, KindAnswer, ListingText};
+use compare_text::{end_line, put_answer, put_maturities, put_number, start_line};
+use product::{Kind, ListingText};
 
 // The last trading day of each month of the cover, and the days stepped back.
 fn month_lines(rt: HostRuntime, cal: Calendar, group: [u8; 4]) {
@@ -13,22 +12,12 @@ fn month_lines(rt: HostRuntime, cal: Calendar, group: [u8; 4]) {
     let end = days::month_of(calendar::cover_end(cal.cover));
     for month in first..end {
         start_line(rt, b'A');
-        put_short(rt, month);
-        put_short(rt, expiry::third_friday(month));
+        put_number(rt, month);
+        put_number(rt, expiry::third_friday(month));
         let last = expiry::last_trading_day(cal, Kind::Future(ListingText::Of2008), group, month);
-        put_short(rt, last.day);
-        put_short(rt, last.back);
+        put_number(rt, last.day);
+        put_number(rt, last.back);
         end_line(rt);
-    }
-}
-
-fn put_maturities(rt: HostRuntime, maturities: [Maturity; 15]) {
-    for i in 0..15usize {
-        let m = maturities[i];
-        put_short(rt, m.key);
-        put_short(rt, m.day);
-        put_short(rt, m.back);
-        put_short(rt, m.number);
     }
 }
 
@@ -37,15 +26,15 @@ fn listing_line(rt: HostRuntime, cal: Calendar, kind: Kind, group: [u8; 4], date
     let l = listing::list(cal, kind, group, date);
     let maturities = l.maturities;
     start_line(rt, b'L');
-    put_short(rt, date);
-    put_short(rt, listing::front_key(cal, kind, group, date));
+    put_number(rt, date);
+    put_number(rt, listing::front_key(cal, kind, group, date));
     put_answer(rt, l.complete);
-    put_maturities(rt, maturities);
+    put_maturities(rt, &maturities);
     end_line(rt);
 }
 
 fn kind_lines(rt: HostRuntime, cal: Calendar, number: u8, group: [u8; 4]) {
-    let KindAnswer::Is(kind) = product::kind_of(number) else {
+    let Ok(kind) = Kind::try_from(number) else {
         return;
     };
     let end = calendar::cover_end(cal.cover);
@@ -71,9 +60,9 @@ fn cover(rt: HostRuntime, first_year: u16, years: u16) {
     for pattern in 3..6u16 {
         let cal = closed_by(c, pattern);
         start_line(rt, b'S');
-        put_short(rt, first_year);
-        put_short(rt, years);
-        put_short(rt, pattern);
+        put_number(rt, first_year);
+        put_number(rt, years);
+        put_number(rt, pattern);
         end_line(rt);
         group_lines(rt, cal, [70, 82, 49, 49]);
         group_lines(rt, cal, [73, 84, 48, 49]);

@@ -1,18 +1,18 @@
 // The values after seeds, and the closed days of made-up calendars.
 use calendar::{Calendar, Cover};
-use compare_text::{end_line, put_answer, put_long, put_short, start_line};
+use compare_text::{end_line, put_answer, put_number, start_line};
 
 // A value and the next one.
 fn value_line(rt: HostRuntime, value: u32) {
     start_line(rt, b'V');
-    put_long(rt, value);
-    put_long(rt, calendar_synthetic::next_value(value));
+    put_number(rt, value);
+    put_number(rt, calendar_synthetic::next_value(value));
     end_line(rt);
 }
 
 fn put_if_closed(rt: HostRuntime, cal: Calendar, day: u16) {
     if calendar::is_closed(cal, day) {
-        put_short(rt, day);
+        put_number(rt, day);
     }
 }
 
@@ -28,15 +28,16 @@ fn put_closed(rt: HostRuntime, cal: Calendar) {
 // A seed and a cover; the refusal, the calendar's cover, questions 5 and 6, and its closed days.
 fn calendar_line(rt: HostRuntime, seed: u32, first_year: u16, years: u16) {
     let made = calendar_synthetic::make(seed, Cover { first_year, years });
-    let cal = made.calendar;
+    let refusal = made.map_or_else(|refusal| refusal.number(), |_| 0);
+    let cal = made.unwrap_or(calendar::zero_calendar());
     let cover = cal.cover;
     start_line(rt, b'Z');
-    put_long(rt, seed);
-    put_short(rt, first_year);
-    put_short(rt, years);
-    put_short(rt, made.refusal as u16);
-    put_short(rt, cover.first_year);
-    put_short(rt, cover.years);
+    put_number(rt, seed);
+    put_number(rt, first_year);
+    put_number(rt, years);
+    put_number(rt, refusal);
+    put_number(rt, cover.first_year);
+    put_number(rt, cover.years);
     put_answer(rt, calendar_checks::is_clean(cal));
     put_answer(rt, calendar_checks::every_week_trades(cal));
     put_closed(rt, cal);

@@ -82,10 +82,8 @@ fn closed_if(cal: Calendar, pattern: u16, day: u16) -> Calendar
 pub(crate) fn closed_by(cover: Cover, pattern: u16) -> Calendar {
     let mut cal = calendar::open_calendar(cover);
     let end = calendar::cover_end(cover);
-    let mut day = calendar::cover_start(cover);
-    while day < end {
+    for day in calendar::cover_start(cover)..end {
         cal = closed_if(cal, pattern, day);
-        day += 1;
     }
     cal
 }
@@ -117,11 +115,9 @@ fn marked_if(cal: Calendar, second: u16, day: u16) -> Calendar {
 // The calendar with a pattern of the second map.
 pub(crate) fn with_second(cal: Calendar, second: u16) -> Calendar {
     let end = calendar::cover_end(cal.cover);
-    let mut day = calendar::cover_start(cal.cover);
     let mut next = cal;
-    while day < end {
+    for day in calendar::cover_start(cal.cover)..end {
         next = marked_if(next, second, day);
-        day += 1;
     }
     next
 }

@@ -1,16 +1,16 @@
 // Groups, days to settlement, ticks and cash.
-use compare_text::{end_line, put_answer, put_long, put_short, put_wide, start_line};
+use compare_text::{end_line, put_answer, put_number, start_line};
 
 // Whether a group is Italian, and an option's days to settlement.
 fn group_line(rt: HostRuntime, a: u8, b: u8, tens: u8, ones: u8) {
     let group = [a, b, tens, ones];
     start_line(rt, b'G');
-    put_short(rt, a as u16);
-    put_short(rt, b as u16);
-    put_short(rt, tens as u16);
-    put_short(rt, ones as u16);
+    put_number(rt, a as u16);
+    put_number(rt, b as u16);
+    put_number(rt, tens as u16);
+    put_number(rt, ones as u16);
     put_answer(rt, product::is_italian(group));
-    put_short(rt, product::option_days(group) as u16);
+    put_number(rt, product::option_days(group) as u16);
     end_line(rt);
 }
 
@@ -24,8 +24,8 @@ fn country(rt: HostRuntime, a: u8, b: u8) {
 
 fn tick_line(rt: HostRuntime, price: u32, tick: u16) {
     start_line(rt, b'P');
-    put_long(rt, price);
-    put_short(rt, tick);
+    put_number(rt, price);
+    put_number(rt, tick);
     put_answer(rt, amounts::price_right(price));
     put_answer(rt, amounts::is_multiple(price, tick));
     end_line(rt);
@@ -43,13 +43,13 @@ fn ticks(rt: HostRuntime, price: u32) {
 fn cash_line(rt: HostRuntime, contracts: u32, size: u32, agreed: u32, last: u32) {
     let cash = amounts::cash(contracts, size, agreed, last);
     start_line(rt, b'Q');
-    put_long(rt, contracts);
-    put_long(rt, size);
-    put_long(rt, agreed);
-    put_long(rt, last);
+    put_number(rt, contracts);
+    put_number(rt, size);
+    put_number(rt, agreed);
+    put_number(rt, last);
     put_answer(rt, cash.negative);
-    put_wide(rt, cash.amount);
-    put_short(rt, cash.rest);
+    put_number(rt, cash.amount);
+    put_number(rt, cash.rest);
     end_line(rt);
 }
 

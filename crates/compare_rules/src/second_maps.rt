@@ -1,30 +1,20 @@
 // The second map (02, note 4): question 5 and exchange days, on covers with patterns of closures and of the second map.
 ghost use Rattle.std.specs.Prelude.{◌<◌, ◌≤◌};
 
-use crate::calendars::{header, ten_before};
+use crate::calendars::{day_lines, header, ten_before};
 use crate::patterns::{closed_by, with_second};
 use calendar::{Calendar, Cover};
-use compare_text::{end_line, put_answer, put_short, start_line};
+use compare_text::{end_line, put_answer, put_number, start_line};
 
 // What is asked of one day.
 fn second_map_line(rt: HostRuntime, cal: Calendar, day: u16) {
     start_line(rt, b'E');
-    put_short(rt, day);
+    put_number(rt, day);
     put_answer(rt, calendar::is_in_second_map(cal, day));
     put_answer(rt, calendar::is_exchange_day(cal, day));
-    put_short(rt, calendar::nth_exchange_day(cal, day, 1));
-    put_short(rt, calendar::nth_exchange_day(cal, day, 4));
+    put_number(rt, calendar::nth_exchange_day(cal, day, 1));
+    put_number(rt, calendar::nth_exchange_day(cal, day, 4));
     end_line(rt);
-}
-
-fn day_lines(rt: HostRuntime, cal: Calendar, from: u16, to: u16, step: u16)
-    requires { (1 ≤ step) × (step < 100) × (to < 40000) }
-{
-    let mut day = from;
-    while day <= to {
-        second_map_line(rt, cal, day);
-        day += step;
-    }
 }
 
 fn one(rt: HostRuntime, cal: Calendar, index: u16, step: u16)
@@ -33,7 +23,7 @@ fn one(rt: HostRuntime, cal: Calendar, index: u16, step: u16)
     let from = ten_before(calendar::cover_start(cal.cover));
     let to = calendar::cover_end(cal.cover) + 9;
     header(rt, cal, index);
-    day_lines(rt, cal, from, to, step);
+    day_lines(from, to, step, |day: u16| second_map_line(rt, cal, day));
 }
 
 // A pattern of closures with both patterns of the second map.

@@ -1,13 +1,11 @@
 // The calls of a script on the table.
 use crate::reading::{four, read_master, two};
 use crate::show::{put_measured, put_outcome};
-use table::Table;
+use table::{Outcome, Table};
 
 // The table of zeros that open gives back for an empty file.
 pub(crate) fn no_table() -> Table {
-    let o = table::zero_table().open(b"", [0, 0, 0, 0], 0);
-    let t = o.table;
-    t
+    table::zero_table().open(b"", [0, 0, 0, 0], 0).table
 }
 
 pub(crate) fn open(rt: HostRuntime, bytes: [u8; 16]) -> Table {
@@ -15,30 +13,13 @@ pub(crate) fn open(rt: HostRuntime, bytes: [u8; 16]) -> Table {
     let mut file = io::large_buffer();
     let n = read_master(rt, bytes[1], &mut file);
     let o = table::zero_table().open(&file[..n], id, two(bytes[2], bytes[3]));
-    put_outcome(rt, b'O', o);
-    let t = o.table;
-    t
+    shown(rt, b'O', o)
 }
 
-pub(crate) fn roll(rt: HostRuntime, t: Table, date: u16) -> Table {
-    let o = t.roll(date);
-    put_outcome(rt, b'R', o);
-    let next = o.table;
-    next
-}
-
-pub(crate) fn close(rt: HostRuntime, t: Table, day: u16) -> Table {
-    let o = t.close(day);
-    put_outcome(rt, b'C', o);
-    let next = o.table;
-    next
-}
-
-pub(crate) fn reopen(rt: HostRuntime, t: Table, day: u16) -> Table {
-    let o = t.reopen(day);
-    put_outcome(rt, b'E', o);
-    let next = o.table;
-    next
+// Prints what a call gave back, and gives its table.
+pub(crate) fn shown(rt: HostRuntime, letter: u8, o: Outcome) -> Table {
+    put_outcome(rt, letter, o);
+    o.table
 }
 
 // p, q and the price stand where cash has its three numbers.
@@ -48,6 +29,5 @@ pub(crate) fn measure(rt: HostRuntime, t: Table, bytes: [u8; 16]) -> Table {
     let price = four(bytes[12], bytes[13], bytes[14], bytes[15]);
     let m = table_measures::measure(t, p, q, price);
     put_measured(rt, m);
-    let next = m.table;
-    next
+    m.table
 }

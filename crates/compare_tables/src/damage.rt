@@ -2,9 +2,9 @@
 ghost use Rattle.std.specs.Prelude.{◌<◌};
 
 use calendar::Calendar;
-use compare_text::{end_line, put_long, put_short, start_line};
+use compare_text::{end_line, put_number, start_line};
 use listing::Maturity;
-use product::{KindAnswer, Product};
+use product::{Kind, Product};
 use table::Table;
 
 // The numbers of the fields.
@@ -52,60 +52,12 @@ fn with_byte(bytes: [u8; 4], i: u16, byte: u8) -> [u8; 4] {
     changed
 }
 
-fn with_id(p: Product, i: u16, byte: u8) -> Product {
-    let old = p.id;
-    let id = with_byte(old, i, byte);
-    let mut changed = p;
-    changed.id = id;
-    changed
-}
-
-fn with_group(p: Product, i: u16, byte: u8) -> Product {
-    let old = p.group;
-    let group = with_byte(old, i, byte);
-    let mut changed = p;
-    changed.group = group;
-    changed
-}
-
-fn with_market(p: Product, i: u16, byte: u8) -> Product {
-    let old = p.market;
-    let market = with_byte(old, i, byte);
-    let mut changed = p;
-    changed.market = market;
-    changed
-}
-
 // Another kind, where the number is one of a kind.
 fn with_kind(p: Product, number: u8) -> Product {
-    let KindAnswer::Is(kind) = product::kind_of(number) else {
+    let Ok(kind) = Kind::try_from(number) else {
         return p;
     };
-    let id = p.id;
-    let group = p.group;
-    let market = p.market;
-    let currency = p.currency;
-    Product {
-        id,
-        group,
-        market,
-        kind,
-        size: p.size,
-        tick: p.tick,
-        currency,
-    }
-}
-
-fn with_size(p: Product, size: u32) -> Product {
-    let mut changed = p;
-    changed.size = size;
-    changed
-}
-
-fn with_tick(p: Product, tick: u16) -> Product {
-    let mut changed = p;
-    changed.tick = tick;
-    changed
+    Product { kind, ..p }
 }
 
 fn with_currency(p: Product, i: u16, byte: u8) -> Product {
@@ -114,102 +66,65 @@ fn with_currency(p: Product, i: u16, byte: u8) -> Product {
     }
     let mut currency = p.currency;
     currency[i as usize] = byte;
-    let mut changed = p;
-    changed.currency = currency;
-    changed
+    Product { currency, ..p }
 }
 
 // The product with one field changed.
 fn damage_product(p: Product, field: u8, i: u16, value: u32) -> Product {
     let byte = (value % 256) as u8;
     match field {
-        ID => with_id(p, i, byte),
-        GROUP => with_group(p, i, byte),
-        MARKET => with_market(p, i, byte),
+        ID => Product {
+            id: with_byte(p.id, i, byte),
+            ..p
+        },
+        GROUP => Product {
+            group: with_byte(p.group, i, byte),
+            ..p
+        },
+        MARKET => Product {
+            market: with_byte(p.market, i, byte),
+            ..p
+        },
         KIND => with_kind(p, byte),
-        SIZE => with_size(p, value),
-        TICK => with_tick(p, (value % 65536) as u16),
+        SIZE => Product { size: value, ..p },
+        TICK => Product {
+            tick: (value % 65536) as u16,
+            ..p
+        },
         CURRENCY => with_currency(p, i, byte),
         _ => p,
     }
 }
 
-fn with_first_year(cal: Calendar, first_year: u16) -> Calendar {
-    let mut changed = cal;
-    changed.cover.first_year = first_year;
-    changed
-}
-
-fn with_years(cal: Calendar, years: u16) -> Calendar {
-    let mut changed = cal;
-    changed.cover.years = years;
-    changed
-}
-
-// Byte i of the map of closed days with the bits of a value turned over.
-fn with_closed(cal: Calendar, i: u16, byte: u8) -> Calendar {
-    if 736 <= i {
-        return cal;
+// A map with the bits of a value turned over in byte i.
+fn with_flipped(map: [u8; 736], i: u16, byte: u8) -> [u8; 736] {
+    let mut changed = map;
+    if i < 736 {
+        changed[usize::from(i)] ^= byte;
     }
-    let mut changed = cal;
-    let old = changed.closed[i as usize];
-    changed.closed[i as usize] = old ^ byte;
-    changed
-}
-
-// The same of the second map.
-fn with_exchange(cal: Calendar, i: u16, byte: u8) -> Calendar {
-    if 736 <= i {
-        return cal;
-    }
-    let mut changed = cal;
-    let old = changed.exchange[i as usize];
-    changed.exchange[i as usize] = old ^ byte;
     changed
 }
 
 // The calendar with one field changed.
 fn damage_calendar(cal: Calendar, field: u8, i: u16, value: u16) -> Calendar {
+    let mut changed = cal;
     match field {
-        FIRST_YEAR => with_first_year(cal, value),
-        YEARS => with_years(cal, value),
-        CLOSED => with_closed(cal, i, (value % 256) as u8),
-        EXCHANGE => with_exchange(cal, i, (value % 256) as u8),
-        _ => cal,
+        FIRST_YEAR => changed.cover.first_year = value,
+        YEARS => changed.cover.years = value,
+        CLOSED => changed.closed = with_flipped(cal.closed, i, (value % 256) as u8),
+        EXCHANGE => changed.exchange = with_flipped(cal.exchange, i, (value % 256) as u8),
+        _ => (),
     }
+    changed
 }
 
 // A maturity with its key, day, days stepped back or number changed.
 fn damage_maturity(m: Maturity, field: u8, value: u16) -> Maturity {
-    let key = m.key;
-    let day = m.day;
-    let back = m.back;
-    let number = m.number;
     match field {
-        KEY => Maturity {
-            key: value,
-            day,
-            back,
-            number,
-        },
-        DAY => Maturity {
-            key,
-            day: value,
-            back,
-            number,
-        },
-        BACK => Maturity {
-            key,
-            day,
-            back: value,
-            number,
-        },
-        NUMBER => Maturity {
-            key,
-            day,
-            back,
-            number: value,
-        },
+        KEY => Maturity { key: value, ..m },
+        DAY => Maturity { day: value, ..m },
+        BACK => Maturity { back: value, ..m },
+        NUMBER => Maturity { number: value, ..m },
         _ => m,
     }
 }
@@ -238,9 +153,9 @@ pub(crate) fn damage(rt: HostRuntime, t: Table, field: u8, i: u16, value: u32) -
     let cal = t.calendar;
     let old = t.maturities;
     start_line(rt, b'D');
-    put_short(rt, field as u16);
-    put_short(rt, i);
-    put_long(rt, value);
+    put_number(rt, field as u16);
+    put_number(rt, i);
+    put_number(rt, value);
     end_line(rt);
     let short = (value % 65536) as u16;
     let product = damage_product(p, field, i, value);

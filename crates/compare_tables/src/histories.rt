@@ -1,9 +1,9 @@
 // Whole histories: a table is opened and a list of calls is run on it, in one call.
 ghost use Rattle.std.specs.Prelude.{◌≡◌, ◌≤◌, length};
 
-use crate::reading::{four, next, read_master, two};
+use crate::reading::{four, read_master, two};
 use crate::show::put_table;
-use compare_text::{end_line, put_long, put_short, start_line};
+use compare_text::{end_line, put_number, read_full, start_line};
 use history_replay::Replay;
 use std::fs::File;
 use table::Table;
@@ -12,28 +12,19 @@ use table::Table;
 fn at_most(number: u16, most: u16) -> usize
     ensures { result ≤ most }
 {
-    if most < number {
-        return most as usize;
-    }
-    number as usize
+    usize::from(number.min(most))
 }
 
 // A call's kind, from the letter of its record: 0 for a roll, 1 for a close, 2 for a reopening, 3 for a measure,
 // and for any other letter the number in the three bytes after it.
 fn kind_of(letter: u8, a: u8, b: u8, c: u8) -> u32 {
-    if letter == b'R' {
-        return 0;
+    match letter {
+        b'R' => 0,
+        b'C' => 1,
+        b'E' => 2,
+        b'Z' => 3,
+        _ => four(0, a, b, c),
     }
-    if letter == b'C' {
-        return 1;
-    }
-    if letter == b'E' {
-        return 2;
-    }
-    if letter == b'Z' {
-        return 3;
-    }
-    four(0, a, b, c)
 }
 
 // The four numbers of a call: the kind, and three as they stand in its record.
@@ -52,16 +43,14 @@ fn read_calls(from: &mut File, n: usize) -> [u32; 1024]
     ensures { length result ≡ 1024 }
 {
     let mut calls = [0u32; 1024];
-    let mut i: usize = 0;
-    while i < n {
-        let record = next(from);
-        let bytes = record.bytes;
+    for i in 0..n {
+        let mut bytes = [0u8; 16];
+        read_full(from, &mut bytes);
         let numbers = call_in(bytes);
         calls[4 * i] = numbers[0];
         calls[4 * i + 1] = numbers[1];
         calls[4 * i + 2] = numbers[2];
         calls[4 * i + 3] = numbers[3];
-        i += 1;
     }
     calls
 }
@@ -70,15 +59,13 @@ fn read_calls(from: &mut File, n: usize) -> [u32; 1024]
 fn put_answers(rt: HostRuntime, answers: [u32; 1024], n: usize)
     requires { n ≤ 256 }
 {
-    let mut i: usize = 0;
-    while i < n {
+    for i in 0..n {
         start_line(rt, b'A');
-        put_long(rt, answers[4 * i]);
-        put_long(rt, answers[4 * i + 1]);
-        put_long(rt, answers[4 * i + 2]);
-        put_long(rt, answers[4 * i + 3]);
+        put_number(rt, answers[4 * i]);
+        put_number(rt, answers[4 * i + 1]);
+        put_number(rt, answers[4 * i + 2]);
+        put_number(rt, answers[4 * i + 3]);
         end_line(rt);
-        i += 1;
     }
 }
 
@@ -87,11 +74,11 @@ fn put_replay(rt: HostRuntime, r: Replay) {
     let t = r.table;
     start_line(rt, b'H');
     if r.fits {
-        put_short(rt, 1);
+        put_number(rt, 1);
     } else {
-        put_short(rt, 0);
+        put_number(rt, 0);
     }
-    put_short(rt, r.refusal as u16);
+    put_number(rt, r.refusal as u16);
     put_table(rt, t);
     end_line(rt);
 }

@@ -46,9 +46,9 @@ fn table_step(rt: HostRuntime, from: &mut File, bytes: [u8; 16], t: Table) -> Ta
     let value = four(bytes[4], bytes[5], bytes[6], bytes[7]);
     match operation {
         OPEN => calls::open(rt, bytes),
-        ROLL => calls::roll(rt, t, number),
-        CLOSE => calls::close(rt, t, number),
-        REOPEN => calls::reopen(rt, t, number),
+        ROLL => calls::shown(rt, operation, t.roll(number)),
+        CLOSE => calls::shown(rt, operation, t.close(number)),
+        REOPEN => calls::shown(rt, operation, t.reopen(number)),
         MEASURE => calls::measure(rt, t, bytes),
         DAMAGE => damage::damage(rt, t, bytes[1], number, value),
         HISTORY => histories::run(rt, from, bytes),
@@ -88,15 +88,11 @@ fn run_script(rt: HostRuntime, from: &mut File) {
         table: empty,
         saved: empty,
     };
-    let mut turns: u32 = 1000000;
-    while 0 < turns {
-        let record = reading::next(from);
-        if !record.there {
+    for _ in 0..1000000 {
+        let Some(bytes) = reading::next(from) else {
             break;
-        }
-        let bytes = record.bytes;
+        };
         state = step(rt, from, bytes, state);
-        turns -= 1;
     }
 }
 

@@ -4,30 +4,20 @@ ghost use Rattle.io.specs.Counts.{IsPrefixLen};
 use compare_text::{read_file, read_full};
 use std::fs::File;
 
-// A record, and whether the script had one more.
-#[derive(Clone, Copy)]
-pub struct Record {
-    pub there: bool,
-    pub bytes: [u8; 16],
-}
-
-pub(crate) fn next(from: &mut File) -> Record {
+// The next record; none where the script has ended.
+pub(crate) fn next(from: &mut File) -> Option<[u8; 16]> {
     let mut bytes = [0u8; 16];
-    let n = read_full(from, &mut bytes);
-    Record {
-        there: n == 16,
-        bytes,
-    }
+    (read_full(from, &mut bytes) == 16).then_some(bytes)
 }
 
 // A number of two bytes, big-endian.
 pub(crate) fn two(high: u8, low: u8) -> u16 {
-    256 * (high as u16) + (low as u16)
+    u16::from_be_bytes([high, low])
 }
 
 // A number of four bytes, big-endian.
 pub(crate) fn four(a: u8, b: u8, c: u8, d: u8) -> u32 {
-    16777216 * (a as u32) + 65536 * (b as u32) + 256 * (c as u32) + (d as u32)
+    u32::from_be_bytes([a, b, c, d])
 }
 
 // Reads a master file, named by two digits, to the start of buf. One that cannot be opened counts as empty.

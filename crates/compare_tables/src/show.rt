@@ -1,27 +1,18 @@
 // The line of a table: date, given, first year, years, the sums of the closed days and of the product, the size,
 // all 15 maturities, and the sum of the second map where it is not 0.
-ghost use Rattle.std.specs.Prelude.{◌≤◌, ◌<◌};
+ghost use Rattle.std.specs.Prelude.{◌<◌};
 
-use compare_text::{end_line, put_long, put_short, start_line};
-use listing::Maturity;
+use compare_text::{end_line, put_maturities, put_number, start_line};
 use product::Product;
 use table::{Outcome, Table};
 use table_measures::Measured;
-
-fn wide(byte: u8) -> u32
-    ensures { result ≤ 255 }
-{
-    byte as u32
-}
 
 // The sum of (i + 1) times byte i of a map, mod 65,521. From the last byte on, a byte joins the running sum once for each place from its own to the first.
 fn map_sum(map: &[u8; 736]) -> u32 {
     let mut bytes: u32 = 0;
     let mut sum: u32 = 0;
-    let mut i: usize = 736;
-    while 0 < i {
-        i -= 1;
-        bytes += wide(map[i]);
+    for i in (0..736).rev() {
+        bytes += u32::from(map[i]);
         sum += bytes;
     }
     sum % 65521
@@ -39,13 +30,11 @@ fn mix_bytes(sum: u32, bytes: [u8; 4]) -> u32
     requires { sum < 65521 }
     ensures { result < 65521 }
 {
-    mix(
-        mix(
-            mix(mix(sum, wide(bytes[0])), wide(bytes[1])),
-            wide(bytes[2]),
-        ),
-        wide(bytes[3]),
-    )
+    let mut mixed = sum;
+    for byte in bytes {
+        mixed = mix(mixed, u32::from(byte));
+    }
+    mixed
 }
 
 // The sum of a product's fields but its size.
@@ -67,21 +56,11 @@ fn product_sum(p: Product) -> u32 {
     mix(mix_bytes(markets, codes), p.tick as u32)
 }
 
-fn put_maturities(rt: HostRuntime, maturities: [Maturity; 15]) {
-    for i in 0..15usize {
-        let m = maturities[i];
-        put_short(rt, m.key);
-        put_short(rt, m.day);
-        put_short(rt, m.back);
-        put_short(rt, m.number);
-    }
-}
-
 fn put_second(rt: HostRuntime, sum: u32) {
     if sum == 0 {
         return;
     }
-    put_long(rt, sum);
+    put_number(rt, sum);
 }
 
 pub(crate) fn put_table(rt: HostRuntime, t: Table) {
@@ -89,14 +68,14 @@ pub(crate) fn put_table(rt: HostRuntime, t: Table) {
     let cover = cal.cover;
     let p = t.product;
     let maturities = t.maturities;
-    put_short(rt, t.date);
-    put_short(rt, t.given);
-    put_short(rt, cover.first_year);
-    put_short(rt, cover.years);
-    put_long(rt, map_sum(&cal.closed));
-    put_long(rt, product_sum(p));
-    put_long(rt, p.size);
-    put_maturities(rt, maturities);
+    put_number(rt, t.date);
+    put_number(rt, t.given);
+    put_number(rt, cover.first_year);
+    put_number(rt, cover.years);
+    put_number(rt, map_sum(&cal.closed));
+    put_number(rt, product_sum(p));
+    put_number(rt, p.size);
+    put_maturities(rt, &maturities);
     put_second(rt, map_sum(&cal.exchange));
 }
 
@@ -104,9 +83,9 @@ pub(crate) fn put_table(rt: HostRuntime, t: Table) {
 pub(crate) fn put_outcome(rt: HostRuntime, letter: u8, o: Outcome) {
     let t = o.table;
     start_line(rt, letter);
-    put_short(rt, o.refusal as u16);
-    put_short(rt, o.entered);
-    put_short(rt, o.left);
+    put_number(rt, o.refusal as u16);
+    put_number(rt, o.entered);
+    put_number(rt, o.left);
     put_table(rt, t);
     end_line(rt);
 }
@@ -115,8 +94,8 @@ pub(crate) fn put_outcome(rt: HostRuntime, letter: u8, o: Outcome) {
 pub(crate) fn put_measured(rt: HostRuntime, m: Measured) {
     let t = m.table;
     start_line(rt, b'Z');
-    put_short(rt, m.refusal as u16);
-    put_long(rt, m.price);
+    put_number(rt, m.refusal as u16);
+    put_number(rt, m.price);
     put_table(rt, t);
     end_line(rt);
 }

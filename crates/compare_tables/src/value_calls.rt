@@ -1,7 +1,7 @@
 // The calls of a script that give values.
 use crate::reading::{four, two};
 use amounts::Amount;
-use compare_text::{end_line, put_short, put_wide, start_line};
+use compare_text::{end_line, put_number, start_line};
 use table::Table;
 
 // The letters of the operations.
@@ -16,43 +16,43 @@ const CASH: u8 = b'Q';
 fn last_trading_day(rt: HostRuntime, t: Table, key: u16) {
     let r = table_values::last_trading_day(t, key);
     start_line(rt, b'L');
-    put_short(rt, r.refusal as u16);
-    put_short(rt, r.day);
-    put_short(rt, r.back);
+    put_number(rt, r.refusal as u16);
+    put_number(rt, r.day);
+    put_number(rt, r.back);
     end_line(rt);
 }
 
 fn due(rt: HostRuntime, t: Table, day: u16) {
     let r = table_values::due(t, day);
     start_line(rt, b'U');
-    put_short(rt, r.refusal as u16);
-    put_short(rt, r.day);
+    put_number(rt, r.refusal as u16);
+    put_number(rt, r.day);
     end_line(rt);
 }
 
 fn tick(rt: HostRuntime, t: Table, price: u32) {
     let refusal = table_prices::tick(t, price);
     start_line(rt, b'T');
-    put_short(rt, refusal as u16);
+    put_number(rt, refusal as u16);
     end_line(rt);
 }
 
 // 1 where the sign is negative and 0 where it is positive, the amount and the rest.
 fn put_cash(rt: HostRuntime, cash: Amount) {
     if cash.negative {
-        put_short(rt, 1);
+        put_number(rt, 1);
     } else {
-        put_short(rt, 0);
+        put_number(rt, 0);
     }
-    put_wide(rt, cash.amount);
-    put_short(rt, cash.rest);
+    put_number(rt, cash.amount);
+    put_number(rt, cash.rest);
 }
 
 fn cash(rt: HostRuntime, t: Table, contracts: u32, agreed: u32, last: u32) {
     let r = table_prices::cash(t, contracts, agreed, last);
     let cash = r.cash;
     start_line(rt, b'Q');
-    put_short(rt, r.refusal as u16);
+    put_number(rt, r.refusal as u16);
     put_cash(rt, cash);
     end_line(rt);
 }

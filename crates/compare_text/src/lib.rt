@@ -4,6 +4,8 @@
 
 ghost use Rattle.io.specs.Counts.{IsPrefixLen};
 
+use listing::Maturity;
+use std::fmt::Display;
 use std::fs::File;
 use std::io::Read;
 
@@ -11,32 +13,23 @@ pub fn start_line(rt: HostRuntime, letter: u8) {
     let _ = rt.write_all(&[letter]);
 }
 
-pub fn put_wide(rt: HostRuntime, n: u64) {
+// A number after a space.
+pub fn put_number<N: Display + Drop>(rt: HostRuntime, n: N) {
     let _ = print!(rt; " {n}");
-}
-
-pub fn put_byte(rt: HostRuntime, n: u8) {
-    put_wide(rt, n as u64);
-}
-
-pub fn put_short(rt: HostRuntime, n: u16) {
-    put_wide(rt, n as u64);
-}
-
-pub fn put_long(rt: HostRuntime, n: u32) {
-    put_wide(rt, n as u64);
-}
-
-pub fn put_size(rt: HostRuntime, n: usize) {
-    put_wide(rt, n as u64);
 }
 
 // 1 for a yes, 0 for a no.
 pub fn put_answer(rt: HostRuntime, yes: bool) {
-    if yes {
-        put_wide(rt, 1);
-    } else {
-        put_wide(rt, 0);
+    put_number(rt, u8::from(yes));
+}
+
+// The key, the last trading day, the days stepped back and the number of each maturity.
+pub fn put_maturities(rt: HostRuntime, maturities: &[Maturity; 15]) {
+    for m in maturities {
+        put_number(rt, m.key);
+        put_number(rt, m.day);
+        put_number(rt, m.back);
+        put_number(rt, m.number);
     }
 }
 

@@ -3,18 +3,11 @@
 // all but the id in two bytes, big-endian.
 #![tactic(auto)]
 
-ghost use Rattle.std.specs.Prelude.{◌≤◌, ◌<◌, length};
+ghost use Rattle.std.specs.Prelude.{◌≤◌, length};
 
-use compare_text::{end_line, open_read, put_byte, put_short, read_file, read_full, start_line};
+use compare_text::{end_line, open_read, put_number, read_file, read_full, start_line};
 use std::fs::File;
 use table::Table;
-use table_vendor::Verdict;
-
-fn wide(byte: u8) -> u16
-    ensures { result < 256 }
-{
-    byte as u16
-}
 
 // The next number; 0 where the lists end.
 fn next_number(from: &mut File) -> u16 {
@@ -23,7 +16,7 @@ fn next_number(from: &mut File) -> u16 {
     if n < 2 {
         return 0;
     }
-    256 * wide(head[0]) + wide(head[1])
+    u16::from_be_bytes(head)
 }
 
 // The next id.
@@ -33,18 +26,13 @@ fn next_id(from: &mut File) -> [u8; 4] {
     id
 }
 
-fn put_number(list: &mut [u16], at: usize, n: u16) {
-    if at < list.len() {
-        list[at] = n;
-    }
-}
-
 // The next n numbers, at the start of a list.
 fn fill(from: &mut File, list: &mut [u16], n: usize) {
-    let mut i: usize = 0;
-    while i < n {
-        put_number(list, i, next_number(from));
-        i += 1;
+    for i in 0..n {
+        let number = next_number(from);
+        if i < list.len() {
+            list[i] = number;
+        }
     }
 }
 
@@ -52,10 +40,7 @@ fn fill(from: &mut File, list: &mut [u16], n: usize) {
 fn within(list: &[u16], count: usize) -> usize
     ensures { result ≤ length list.now }
 {
-    if list.len() < count {
-        return list.len();
-    }
-    count
+    count.min(list.len())
 }
 
 // The table, or one with a wrong count given.
@@ -63,24 +48,15 @@ fn damaged(t: Table, wrong: u16) -> Table {
     if wrong != 1 {
         return t;
     }
-    let product = t.product;
-    let calendar = t.calendar;
-    let maturities = t.maturities;
-    Table {
-        product,
-        calendar,
-        date: t.date,
-        maturities,
-        given: 60000,
-    }
+    Table { given: 60000, ..t }
 }
 
 // A line: the refusal, 1 for a yes, and the key.
 fn verdict_line(rt: HostRuntime, refusal: u8, same: u8, key: u16) {
     start_line(rt, b'V');
-    put_byte(rt, refusal);
-    put_byte(rt, same);
-    put_short(rt, key);
+    put_number(rt, refusal);
+    put_number(rt, same);
+    put_number(rt, key);
     end_line(rt);
 }
 
@@ -88,9 +64,9 @@ fn verdict_line(rt: HostRuntime, refusal: u8, same: u8, key: u16) {
 fn print_verdict(rt: HostRuntime, t: Table, list: &[u16], count: usize) {
     let n = within(list, count);
     match table_vendor::judge(t, &list[..n]) {
-        Verdict::Same => verdict_line(rt, 0, 1, 0),
-        Verdict::Differs(key) => verdict_line(rt, 0, 0, key),
-        Verdict::Unsound => verdict_line(rt, 10, 0, 0),
+        Ok(None) => verdict_line(rt, 0, 1, 0),
+        Ok(Some(key)) => verdict_line(rt, 0, 0, key),
+        Err(refusal) => verdict_line(rt, refusal.number(), 0, 0),
     }
 }
 
@@ -109,13 +85,11 @@ fn one(rt: HostRuntime, from: &mut File, file: &[u8], list: &mut [u16]) {
 
 // At most 10,000 lists.
 fn all(rt: HostRuntime, from: &mut File, file: &[u8], list: &mut [u16]) {
-    let mut turns: u16 = 0;
-    while turns < 10000 {
+    for _ in 0..10000 {
         if next_number(from) != 1 {
             return;
         }
         one(rt, from, file, list);
-        turns += 1;
     }
 }
 

@@ -8,10 +8,8 @@ fn map_at(head: &[u8], at: usize) -> [u8; 736]
     requires { at ≤ 65536 }
 {
     let mut map = [0u8; 736];
-    let mut i: usize = 0;
-    while i < 736 {
+    for i in 0..736 {
         map[i] = file_blocks::byte_at(head, at + i);
-        i += 1;
     }
     map
 }
@@ -45,11 +43,7 @@ fn put_record(records: &mut [u8], at: usize, bytes: [u8; 32]) -> usize {
     if records.len() - 32 < at {
         return at;
     }
-    let mut i: usize = 0;
-    while i < 32 {
-        records[at + i] = bytes[i];
-        i += 1;
-    }
+    records[at..at + 32].copy_from_slice(&bytes);
     at + 32
 }
 
@@ -66,10 +60,8 @@ fn put_place(file: &[u8], p: usize, records: &mut [u8], at: usize) -> usize {
 pub(crate) fn put_records(file: &[u8], records: &mut [u8]) -> usize {
     let places = 15 * (file.len() / 512);
     let mut at: usize = 0;
-    let mut p: usize = 0;
-    while p < places {
+    for p in 0..places {
         at = put_place(file, p, records, at);
-        p += 1;
     }
     at
 }

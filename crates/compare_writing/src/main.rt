@@ -8,16 +8,16 @@ mod buffers;
 mod inputs;
 
 use calendar::Calendar;
-use compare_text::{end_line, open_read, put_wide, read_full, start_line};
+use compare_text::{end_line, open_read, put_number, read_full, start_line};
 use std::fs::File;
 
 // The letter, the index, the refusal, the length, and the digest of the whole buffer.
 fn write_line(rt: HostRuntime, letter: u8, index: u16, refusal: u8, length: usize, digest: u64) {
     start_line(rt, letter);
-    put_wide(rt, index as u64);
-    put_wide(rt, refusal as u64);
-    put_wide(rt, length as u64);
-    put_wide(rt, digest);
+    put_number(rt, index as u64);
+    put_number(rt, refusal as u64);
+    put_number(rt, length as u64);
+    put_number(rt, digest);
     end_line(rt);
 }
 
@@ -35,16 +35,12 @@ fn write(
         return 0;
     }
     buffers::fill(out);
-    let written = file_write::write(calendar, records, &mut out[..room]);
-    write_line(
-        rt,
-        letter,
-        index,
-        written.refusal,
-        written.length,
-        buffers::digest(out),
-    );
-    written.length
+    let (refusal, length) = match file_write::write(calendar, records, &mut out[..room]) {
+        Ok(length) => (0, length),
+        Err(refusal) => (refusal.number(), 0),
+    };
+    write_line(rt, letter, index, refusal, length, buffers::digest(out));
+    length
 }
 
 // What load says of a file.
@@ -52,9 +48,9 @@ fn load_line(rt: HostRuntime, file: &[u8]) {
     let loaded = file_load::load(file);
     let counts = loaded.counts;
     start_line(rt, b'L');
-    put_wide(rt, loaded.refusal as u64);
-    put_wide(rt, counts.years as u64);
-    put_wide(rt, counts.records as u64);
+    put_number(rt, loaded.refusal as u64);
+    put_number(rt, counts.years as u64);
+    put_number(rt, counts.records as u64);
     end_line(rt);
 }
 
@@ -127,12 +123,10 @@ fn draft(rt: HostRuntime, from: &mut File, index: u16) -> bool {
 
 // At most 1,000 drafts.
 fn drafts(rt: HostRuntime, from: &mut File) {
-    let mut index: u16 = 0;
-    while index < 1000 {
+    for index in 0..1000 {
         if !draft(rt, from, index) {
             return;
         }
-        index += 1;
     }
 }
 
@@ -160,12 +154,10 @@ fn one(rt: HostRuntime, from: &mut File, index: u16) -> bool {
 
 // At most 1,000 files.
 fn files(rt: HostRuntime, from: &mut File) {
-    let mut index: u16 = 0;
-    while index < 1000 {
+    for index in 0..1000 {
         if !one(rt, from, index) {
             return;
         }
-        index += 1;
     }
 }
 

@@ -17,26 +17,27 @@ use Rattle.product.specs.Fields.{is_weekly}
 use Rattle.session_lines.specs.CommandLines.{move_form, move_command, command_at, command_of}
 use Rattle.table.specs.declared.Outcome.{Outcome}
 use Rattle.table.specs.Table.{open_call, roll_call, close_call}
-use Rattle.confirm_lines.specs.declared.EntryRead.{EntryRead}
+use Rattle.confirm_lines.specs.declared.ListingEntry.{ListingEntry}
+use Rattle.std.specs.Prelude.{Option, Some, None, is_some}
 use Rattle.confirm_lines.specs.declared.ListingSoFar.{ListingSoFar}
 use Rattle.confirm_lines.specs.ListingLines.{no_entry, month_entry, friday_entry, entry_in, after_call, after_entry, read_first, read_listing_line}
 use Rattle.confirm_inputs.specs.ConfirmInputs.{entry_numbers}
 use Rattle.confirm_inputs.specs.InputReading.{EntryPut}
 
 -- a line too short for an entry has none
-short-entry : (kind : Kind) (line : List ℕ) → length line < 18 → (entry_in kind line).there ≡ false
+short-entry : (kind : Kind) (line : List ℕ) → length line < 18 → entry_in kind line ≡ no_entry
 unfolding entry_in month_entry friday_entry
 short-entry kind line h = go (is_weekly kind)
   where
-    go : (b : Bool) → (cond b (friday_entry line) (month_entry line)).there ≡ false
+    go : (b : Bool) → cond b (friday_entry line) (month_entry line) ≡ no_entry
     go true = rw (ne_eqb (length line) 21 (λ e. omega arith)) refl
     go false = rw (ne_eqb (length line) 18 (λ e. omega arith)) refl
 
 -- the cases of a line: before an open another line or an open; then a roll, a close, or another line
-cases : ListingSoFar → Bool → Bool → Bool → Bool → Outcome → Outcome → Outcome → EntryRead → ListingSoFar
+cases : ListingSoFar → Bool → Bool → Bool → Bool → Outcome → Outcome → Outcome → Option ListingEntry → ListingSoFar
 cases s opened a b c x y z e = cond opened (cond a (after_call x) (cond b (after_call y) (after_entry s e))) (cond c (after_call z) (after_entry s no_entry))
 
-case-entry : (s : ListingSoFar) (opened a b c : Bool) (x y z : Outcome) (e : EntryRead) → e.there ≡ false → (cases s opened a b c x y z e).entry.there ≡ false
+case-entry : (s : ListingSoFar) (opened a b c : Bool) (x y z : Outcome) (e : Option ListingEntry) → e ≡ no_entry → (cases s opened a b c x y z e).entry ≡ no_entry
 unfolding cases after_call after_entry
 case-entry s true true b c x y z e h = refl
 case-entry s true false true c x y z e h = refl
@@ -44,8 +45,8 @@ case-entry s true false false c x y z e h = h
 case-entry s false a b true x y z e h = refl
 case-entry s false a b false x y z e h = refl
 
-case-bad : (s : ListingSoFar) (opened a b c : Bool) (x y z : Outcome) (e : EntryRead) → a ≡ false → b ≡ false → c ≡ false
-    → e.there ≡ false → (cases s opened a b c x y z e).bad ≡ true
+case-bad : (s : ListingSoFar) (opened a b c : Bool) (x y z : Outcome) (e : Option ListingEntry) → a ≡ false → b ≡ false → c ≡ false
+    → e ≡ no_entry → (cases s opened a b c x y z e).bad ≡ true
 unfolding cases after_call after_entry
 case-bad s true a b c x y z e p q r h = rw (p, q, h) refl
 case-bad s false a b c x y z e p q r h = rw r refl
@@ -60,14 +61,14 @@ module _ (file : List ℕ) (s : ListingSoFar) where
   as-cases line = refl
 
   -- an entry's line has 18 bytes or more
-  pub entry-long : (line : List ℕ) → (read_listing_line file s line).entry.there ≡ true → 18 ≤ length line
+  pub entry-long : (line : List ℕ) → is_some (read_listing_line file s line).entry ≡ true → 18 ≤ length line
   entry-long line t = go (lt-or-ge (length line) 18)
     where
-      none : length line < 18 → (read_listing_line file s line).entry.there ≡ false
+      none : length line < 18 → (read_listing_line file s line).entry ≡ no_entry
       none h = rw (as-cases line) (case-entry s _ _ _ _ _ _ _ _ (short-entry s.table.product.kind line h))
 
       go : (length line < 18) ⊎ (18 ≤ length line) → 18 ≤ length line
-      go (inl h) = clash t (none h)
+      go (inl h) = clash t (ap is_some (none h))
       go (inr h) = h
 
   no-letter : (command_of []).letter ≡ 0
@@ -87,20 +88,20 @@ module _ (file : List ℕ) (s : ListingSoFar) where
 
 -- ---- its numbers in a list
 
-module _ (entry : EntryRead) (at : ℕ) (before : List ℕ) where
+module _ (at : ℕ) (before : List ℕ) where
   -- a line without an entry puts no number in the list
-  pub put-none : entry.there ≡ false → EntryPut entry at before before at
+  pub put-none : (entry : Option ListingEntry) → entry ≡ None → EntryPut entry at before before at
   unfolding entry_numbers
-  put-none e = rw e record { is = append-nil-sym; to = omega arith; long = refl }
+  put-none entry e = rw e record { is = append-nil-sym; to = omega arith; long = refl }
     where
       append-nil-sym : take at before ≡ take at before ++ []
       append-nil-sym = rw (append-nil (take at before)) refl
 
   -- a line with an entry puts its key and its day in the list
-  pub put_both : entry.there ≡ true → at + 2 ≤ length before → (after : List ℕ) → after ≡ set (set before at entry.key) (at + 1) entry.day
-      → EntryPut entry at before after (at + 2)
+  pub put_both : (read : Option ListingEntry) (entry : ListingEntry) → read ≡ Some entry → at + 2 ≤ length before → (after : List ℕ)
+      → after ≡ set (set before at entry.key) (at + 1) entry.day → EntryPut read at before after (at + 2)
   unfolding entry_numbers
-  put_both e h after q =
+  put_both read entry e h after q =
       record { is = rw e is; to = rw e refl; long = rw (q, length-set (set before at entry.key) (at + 1) entry.day) (length-set before at entry.key) }
     where
       next : at + 2 ≡ suc (at + 1)
@@ -116,12 +117,9 @@ module _ (entry : EntryRead) (at : ℕ) (before : List ℕ) where
           ∙ append_assoc (take at before) (entry.key ∷ []) (entry.day ∷ [])
 
 -- an entry of a line of n bytes and its line feed has two numbers for each 19 bytes at most
-pub numbers-few : (entry : EntryRead) (n : ℕ) → (entry.there ≡ true → 18 ≤ n) → 19 * length (entry_numbers entry) ≤ 2 * (n + 1)
+pub numbers-few : (entry : Option ListingEntry) (n : ℕ) → (is_some entry ≡ true → 18 ≤ n) → 19 * length (entry_numbers entry) ≤ 2 * (n + 1)
 unfolding entry_numbers
-numbers-few entry n h = go entry.there refl
-  where
-    go : (b : Bool) → entry.there ≡ b → 19 * length (cond entry.there (entry.key ∷ entry.day ∷ []) []) ≤ 2 * (n + 1)
-    go true e =
-        let q : 18 ≤ n = h e in
-        rw e (omega arith)
-    go false e = rw e (omega arith)
+numbers-few None n h = omega arith
+numbers-few (Some entry) n h =
+    let q : 18 ≤ n = h refl in
+    omega arith

@@ -7,6 +7,7 @@ use Prim.Native.Nat.{ℕ, ◌+◌, ◌-◌, ◌*◌, ◌≤◌, ◌<◌}
 use native.Mathlib.Numerals.{add-one}
 use native.Mathlib.Omega.{arith}
 use lib.Dec.{leb}
+use Rattle.std.specs.Prelude.{is_some}
 use lib.ListN.{length, take, drop}
 use Rattle.session_lines.specs.CommandLines.{lines_from}
 use Rattle.session_lines.specs.BytePlaces.{ByteFrom}
@@ -89,10 +90,10 @@ module _ (long : Bool) (file text first list : List ℕ) (s : ListingSoFar) (fro
           some : 1 ≤ length (take (end - from) (drop from text))
           some = some_byte file s (take (end - from) (drop from text)) (ap (λ (x : ListingSoFar). x.bad) (sym q) ∙ not-bad r.bad good)
 
-          bytes : r.entry.there ≡ true → 18 ≤ end - from
+          bytes : is_some r.entry ≡ true → 18 ≤ end - from
           bytes t =
               omega (
                 arith,
-                entry-long file s (take (end - from) (drop from text)) (ap (λ (x : ListingSoFar). x.entry.there) (sym q) ∙ t),
+                entry-long file s (take (end - from) (drop from text)) (ap (λ (x : ListingSoFar). is_some x.entry) (sym q) ∙ t),
                 line-length text from end h e,
               )

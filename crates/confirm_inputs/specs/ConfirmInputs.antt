@@ -1,13 +1,13 @@
 -- The whole input of the program `confirm`, and the line that it prints
 -- (02, note 12; docs/OPERATIONS.md, `confirm`, and docs/DECISIONS.md, Listings from elsewhere, from which the quotations are).
 -- Assumes nothing.
-use Rattle.std.specs.Prelude.{ℕ, suc, Bool, not, ◌&&◌, ◌||◌, cond, List, [], ◌∷◌, ◌++◌, eqb, ltb, length, take, get_or}
+use Rattle.std.specs.Prelude.{ℕ, suc, Bool, not, ◌&&◌, ◌||◌, cond, List, [], ◌∷◌, ◌++◌, eqb, ltb, length, take, get_or, Option, Some, None}
 use Rattle.questions.specs.Questions.{Answer}
 use Rattle.product.specs.declared.Kind.{Kind}
 use Rattle.session_text.specs.TermsText.{decimal, name_text}
 use Rattle.session_lines.specs.CommandLines.{lines_from}
 use Rattle.table_vendor.specs.Vendor.{Judgement, vendor_call}
-use Rattle.confirm_lines.specs.declared.EntryRead.{EntryRead}
+use Rattle.confirm_lines.specs.declared.ListingEntry.{ListingEntry}
 use Rattle.confirm_lines.specs.declared.ListingSoFar.{ListingSoFar}
 use Rattle.confirm_lines.specs.ListingLines.{no_listing, read_listing_line}
 
@@ -38,8 +38,9 @@ unfoldable pub end_text : ListingSoFar → List ℕ → List ℕ
 end_text s list = cond s.opened (judged_text s.table.product.kind (vendor_call s.table list)) (bad_input_text 1)
 
 -- the key and the day of a line of the listing; another line has none
-unfoldable pub entry_numbers : EntryRead → List ℕ
-entry_numbers entry = cond entry.there (entry.key ∷ entry.day ∷ []) []
+unfoldable pub entry_numbers : Option ListingEntry → List ℕ
+entry_numbers None = []
+entry_numbers (Some entry) = entry.key ∷ entry.day ∷ []
 
 -- 'It stops at the first line that is refused or bad':
 -- after line n; else the rest is printed

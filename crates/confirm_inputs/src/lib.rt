@@ -9,7 +9,7 @@ ghost use Rattle.file_text_print.specs.Contents.{LineWith};
 ghost use Rattle.confirm_inputs.specs.ConfirmInputs.{yes_text, differs_text, refused_text, bad_input_text, judged_text, end_text, input_lines_text, is_yes};
 ghost use Rattle.confirm_inputs.specs.InputReading.{said_in, EntryPut};
 
-use confirm_lines::{EntryRead, ListingSoFar};
+use confirm_lines::{ListingEntry, ListingSoFar};
 use product::Kind;
 use session_lines::Line;
 use table_vendor::Verdict;
@@ -50,9 +50,9 @@ fn judged_line(kind: Kind, verdict: Verdict) -> Line
     ensures { LineWith empty_line (judged_text kind (verdict_answer verdict)) result }
 {
     match verdict {
-        Verdict::Same => yes_line(),
-        Verdict::Differs(key) => differs_line(kind, key),
-        Verdict::Unsound => refused_line(10),
+        Ok(None) => yes_line(),
+        Ok(Some(key)) => differs_line(kind, key),
+        Err(refusal) => refused_line(refusal.number()),
     }
 }
 
@@ -71,13 +71,13 @@ fn end_line(s: ListingSoFar, list: &[u16], count: usize) -> Line
 }
 
 // Puts the numbers of an entry, where a line had one, at a place of the list, and answers the place after them.
-fn put_entry(list: &mut [u16], at: usize, entry: EntryRead) -> usize
+fn put_entry(list: &mut [u16], at: usize, entry: Option<ListingEntry>) -> usize
     requires { at + 2 ≤ length list.old }
     ensures { EntryPut entry at list.old list.new result }
 {
-    if !entry.there {
+    let Some(entry) = entry else {
         return at;
-    }
+    };
     list[at] = entry.key;
     list[at + 1] = entry.day;
     at + 2

@@ -1,7 +1,7 @@
 -- The input of the program `confirm`, line by line: an open, any rolls and closes, then the lines of a vendor's listing,
 -- each the name of a maturity, a space and its last trading day (02, note 12; docs/DECISIONS.md, Listings from elsewhere).
 -- Assumes nothing.
-use Rattle.std.specs.Prelude.{ℕ, true, false, not, ◌||◌, ◌&&◌, cond, List, [], ◌∷◌, ◌++◌, eqb, length, get_or, take, drop}
+use Rattle.std.specs.Prelude.{ℕ, true, false, not, ◌||◌, ◌&&◌, cond, List, [], ◌∷◌, ◌++◌, eqb, length, get_or, take, drop, Option, Some, None, is_none}
 use Rattle.days.specs.Dates.{month_of}
 use Rattle.session_lines.specs.declared.Command.{Command}
 use Rattle.session_lines.specs.declared.Line.{Line}
@@ -10,7 +10,7 @@ use Rattle.product.specs.declared.Kind.{Kind}
 use Rattle.product.specs.Fields.{is_weekly}
 use Rattle.table.specs.declared.Outcome.{Outcome}
 use Rattle.table.specs.Table.{zero_table, open_call, roll_call, close_call}
-use Rattle.confirm_lines.specs.declared.EntryRead.{EntryRead}
+use Rattle.confirm_lines.specs.declared.ListingEntry.{ListingEntry}
 use Rattle.confirm_lines.specs.declared.ListingSoFar.{ListingSoFar}
 
 -- only the code needs it: a line of `R` and a space, 82 and 32
@@ -26,31 +26,31 @@ date_in bytes = command_of (82 ∷ 32 ∷ bytes)
 unfoldable pub month_in : List ℕ → Command
 month_in bytes = date_in (bytes ++ (45 ∷ 48 ∷ 49 ∷ []))
 
--- another line
-abbrev pub no_entry : EntryRead
-no_entry = record { there = false; key = 0; day = 0 }
+-- another line has no entry
+abbrev pub no_entry : Option ListingEntry
+no_entry = None
 
 -- the key of a name, by the letter of its date, and the last trading day after it; both dates must be there
-unfoldable pub entry_from : ℕ → ℕ → Command → EntryRead
+unfoldable pub entry_from : ℕ → ℕ → Command → Option ListingEntry
 entry_from name key last =
-    cond (eqb name 0 || eqb last.letter 0) no_entry (record { there = true; key = key; day = last.day })
+    cond (eqb name 0 || eqb last.letter 0) no_entry (Some (record { key = key; day = last.day }))
 
 -- '2008-03 2008-03-20':
 -- a month, a space and a day, 18 characters
-unfoldable pub month_entry : List ℕ → EntryRead
+unfoldable pub month_entry : List ℕ → Option ListingEntry
 month_entry line =
     cond (eqb (length line) 18 && eqb (get_or line 7 0) 32)
     (entry_from (month_in (take 7 line)).letter (month_of (month_in (take 7 line)).day) (date_in (take 10 (drop 8 line)))) no_entry
 
 -- '2008-03-07 2008-03-07':
 -- a weekly maturity's Friday by its date, a space and a day, 21 characters
-unfoldable pub friday_entry : List ℕ → EntryRead
+unfoldable pub friday_entry : List ℕ → Option ListingEntry
 friday_entry line =
     cond (eqb (length line) 21 && eqb (get_or line 10 0) 32)
     (entry_from (date_in (take 10 line)).letter (date_in (take 10 line)).day (date_in (take 10 (drop 11 line)))) no_entry
 
 -- the entry of a line, with a month; for kind 5 with a Friday
-unfoldable pub entry_in : Kind → List ℕ → EntryRead
+unfoldable pub entry_in : Kind → List ℕ → Option ListingEntry
 entry_in kind line = cond (is_weekly kind) (friday_entry line) (month_entry line)
 
 -- before the first line of an input
@@ -62,9 +62,9 @@ unfoldable pub after_call : Outcome → ListingSoFar
 after_call o = record { bad = false; refusal = o.refusal; opened = true; begun = false; table = o.table; entry = no_entry }
 
 -- after a line of the listing; another line is bad
-unfoldable pub after_entry : ListingSoFar → EntryRead → ListingSoFar
+unfoldable pub after_entry : ListingSoFar → Option ListingEntry → ListingSoFar
 after_entry s entry =
-    record { bad = not entry.there; refusal = s.refusal; opened = s.opened; begun = true; table = s.table; entry = entry }
+    record { bad = is_none entry; refusal = s.refusal; opened = s.opened; begun = true; table = s.table; entry = entry }
 
 -- the first line opens the table: O, 79; any other is bad
 unfoldable pub read_first : List ℕ → ListingSoFar → Command → ListingSoFar

@@ -4,16 +4,15 @@
 ghost use Rattle.std.specs.Prelude.{◌≡◌};
 ghost use Rattle.session_lines.specs.CommandLines.{command_of};
 ghost use Rattle.session_text.specs.TermsText.{last_digit, month_text, day_text};
-ghost use Rattle.confirm_lines.specs.ListingLines.{roll_begun, date_in, month_in, no_entry, entry_from, month_entry, friday_entry, entry_in, no_listing, after_call, after_entry, read_first, read_listing_line};
+ghost use Rattle.confirm_lines.specs.ListingLines.{roll_begun, date_in, month_in, entry_from, month_entry, friday_entry, entry_in, no_listing, after_call, after_entry, read_first, read_listing_line};
 
 use product::Kind;
 use session_lines::{Command, Line};
 use table::{Outcome, Table};
 
-// Whether a line is one of a listing, the key in it and the last trading day.
+// What a line of a listing says: a key and its last trading day.
 #[derive(Clone, Copy)]
-pub struct EntryRead {
-    pub there: bool,
+pub struct ListingEntry {
     pub key: u16,
     pub day: u16,
 }
@@ -56,55 +55,40 @@ pub fn month_in(bytes: &[u8]) -> Command
     session_lines::command_of(first)
 }
 
-// A line of no listing.
-fn no_entry() -> EntryRead
-    ensures { result ≡ no_entry }
-{
-    EntryRead {
-        there: false,
-        key: 0,
-        day: 0,
-    }
-}
-
-// The key of a name that is there, with the last trading day after it.
-fn entry_from(name: u8, key: u16, last: Command) -> EntryRead
+// The key of a name that is there, with the last trading day after it; none where a date is missing.
+fn entry_from(name: u8, key: u16, last: Command) -> Option<ListingEntry>
     ensures { result ≡ entry_from name key last }
 {
     if (name == 0) | (last.letter == 0) {
-        return no_entry();
+        return None;
     }
-    EntryRead {
-        there: true,
-        key,
-        day: last.day,
-    }
+    Some(ListingEntry { key, day: last.day })
 }
 
-// The entry of a line with a month.
-pub fn month_entry(line: &[u8]) -> EntryRead
+// The entry of a line with a month; another line has none.
+pub fn month_entry(line: &[u8]) -> Option<ListingEntry>
     ensures { result ≡ month_entry line.now }
 {
     if line.len() != 18 {
-        return no_entry();
+        return None;
     }
     if line[7] != b' ' {
-        return no_entry();
+        return None;
     }
     let name = month_in(&line[..7]);
     let last = date_in(&line[8..18]);
     entry_from(name.letter, days::month_of(name.day), last)
 }
 
-// The entry of a line with a weekly maturity's Friday.
-pub fn friday_entry(line: &[u8]) -> EntryRead
+// The entry of a line with a weekly maturity's Friday; another line has none.
+pub fn friday_entry(line: &[u8]) -> Option<ListingEntry>
     ensures { result ≡ friday_entry line.now }
 {
     if line.len() != 21 {
-        return no_entry();
+        return None;
     }
     if line[10] != b' ' {
-        return no_entry();
+        return None;
     }
     let name = date_in(&line[..10]);
     let last = date_in(&line[11..21]);
@@ -172,7 +156,7 @@ pub struct ListingSoFar {
     pub opened: bool,
     pub begun: bool,
     pub table: Table,
-    pub entry: EntryRead,
+    pub entry: Option<ListingEntry>,
 }
 
 // Before the first line.
@@ -186,7 +170,7 @@ pub fn no_listing() -> ListingSoFar
         opened: false,
         begun: false,
         table,
-        entry: no_entry(),
+        entry: None,
     }
 }
 
@@ -201,17 +185,17 @@ fn after_call(o: Outcome) -> ListingSoFar
         opened: true,
         begun: false,
         table,
-        entry: no_entry(),
+        entry: None,
     }
 }
 
 // After a line of the listing; another line is bad.
-fn after_entry(s: ListingSoFar, entry: EntryRead) -> ListingSoFar
+fn after_entry(s: ListingSoFar, entry: Option<ListingEntry>) -> ListingSoFar
     ensures { result ≡ after_entry s entry }
 {
     let table = s.table;
     ListingSoFar {
-        bad: !entry.there,
+        bad: entry.is_none(),
         refusal: s.refusal,
         opened: s.opened,
         begun: true,
@@ -221,7 +205,7 @@ fn after_entry(s: ListingSoFar, entry: EntryRead) -> ListingSoFar
 }
 
 // The entry of a line, of a month or of a Friday.
-fn entry_in(kind: Kind, line: &[u8]) -> EntryRead
+fn entry_in(kind: Kind, line: &[u8]) -> Option<ListingEntry>
     ensures { result ≡ entry_in kind line.now }
 {
     if product::is_weekly(kind) {
@@ -235,7 +219,7 @@ fn read_first(file: &[u8], s: ListingSoFar, c: Command) -> ListingSoFar
     ensures { result ≡ read_first file.now s c }
 {
     if c.letter != b'O' {
-        return after_entry(s, no_entry());
+        return after_entry(s, None);
     }
     let table = s.table;
     let id = c.id;

@@ -1,18 +1,10 @@
 // What the program `confirm` does: what its arguments ask for, a run or a text, and the status with which it ends.
 #![tactic(auto)]
 
-use program_arguments::Request;
+use program_help::Program;
 
 // `confirm`: a run of it, or what it says of itself.
 pub fn scullpouch_program_confirm(rt: HostRuntime) -> i32 {
-    let none = streams::nothing_sent();
-    let asked = program_arguments::asked_for(rt);
-    match asked {
-        Request::Nothing => confirm_run::run(rt).status as i32,
-        Request::Help => program_arguments::shown(program_help::confirm_help(rt, none)) as i32,
-        Request::Version => program_arguments::shown(program_help::confirm_version(
-            rt, none,
-        )) as i32,
-        Request::Other => program_arguments::refused(rt, b"confirm") as i32,
-    }
+    let run = |rt: HostRuntime| -> u8 { confirm_run::run(rt).status };
+    program_arguments::answered(rt, Program::Confirm, run) as i32
 }

@@ -1,14 +1,13 @@
 -- Laws of the month lengths, the first days and the month of a day.
 -- Assumes nothing.
 use mathlib.Core.Path.{◌≡◌, refl, ◌∙◌, sym, ap, subst}
-use mathlib.Core.Bool.{Bool, true, false, ◌&&◌, ◌||◌, cond}
-use mathlib.Core.List.{[], ◌∷◌}
+use mathlib.Core.Bool.{Bool, true, false, ◌&&◌, cond}
 use mathlib.Core.Logic.{◌⊎◌, inl, inr, ⊎_elim}
 use Prim.Native.Nat.{ℕ, zero, suc, ◌+◌, ◌-◌, ◌*◌, ◌/◌, ◌%◌, ◌≤◌, ◌<◌}
 use native.Mathlib.Nat.{add-zero, add-suc, le_refl}
 use native.Mathlib.Omega.{arith}
-use lib.Dec.{leb, ltb, eqb}
-use borrow.Author.Tests.{eqb-true, ne_eqb, leb-true, ltb-true, ltb-false, lt-ltb, le-ltb}
+use lib.Dec.{leb, ltb}
+use borrow.Author.Tests.{leb-true, ltb-true, ltb-false, lt-ltb, le-ltb}
 use Rattle.questions.specs.Search.{every, one_of}
 use Rattle.questions.proofs.Bools.{both, lt-or-ge}
 use Rattle.questions.proofs.Search.{every-at}
@@ -32,57 +31,6 @@ length-bounds k =
     let leap = leap_year (2000 + k / 12) in
     let (low, high) = both _ _ (every-at (bounded leap) 12 (k % 12) (all-bounded leap) (omega arith)) in
     (leb-true _ _ low, leb-true _ _ high)
-
--- what each month is that has not 28 or 29 days
-pub length_none : (leap : Bool) (m : ℕ) → m < 1 → 0 ≡ length_in leap m
-unfolding length_in one_of
-length_none leap m h =
-    let e : m ≡ 0 = omega arith in
-    rw e
-
--- a number above 12 is no month and has length 0
-pub length-past : (leap : Bool) (m : ℕ) → 12 < m → 0 ≡ length_in leap m
-unfolding length_in one_of
-length-past leap m h =
-    let other : (k : ℕ) → k ≤ 12 → eqb m k ≡ false = λ k l. ne_eqb m k (omega arith) in
-    simp (
-      other 1 (omega arith),
-      other 2 (omega arith),
-      other 3 (omega arith),
-      other 4 (omega arith),
-      other 5 (omega arith),
-      other 6 (omega arith),
-      other 7 (omega arith),
-      other 8 (omega arith),
-      other 9 (omega arith),
-      other 10 (omega arith),
-      other 11 (omega arith),
-      other 12 (omega arith),
-    )
-
--- April, June, September and November have 30 days
-pub length-thirty : (leap : Bool) (m : ℕ) → (m ≡ 4) ⊎ ((m ≡ 6) ⊎ ((m ≡ 9) ⊎ (m ≡ 11))) → 30 ≡ length_in leap m
-unfolding length_in one_of
-length-thirty leap m (inl e) = rw e
-length-thirty leap m (inr (inl e)) = rw e
-length-thirty leap m (inr (inr (inl e))) = rw e
-length-thirty leap m (inr (inr (inr e))) = rw e
-
--- the other seven months
-abbrev long : Bool → ℕ → Bool
-long leap j = one_of (2 ∷ 4 ∷ 6 ∷ 9 ∷ 11 ∷ []) (j + 1) || eqb 31 (length_in leap (j + 1))
-
-all-long : (leap : Bool) → every 12 (long leap) ≡ true
-unfolding every length_in one_of
-all-long true = refl
-all-long false = refl
-
--- a month other than February, April, June, September and November has 31 days
-pub length-long : (leap : Bool) (m : ℕ) → 1 ≤ m → m ≤ 12 → one_of (2 ∷ 4 ∷ 6 ∷ 9 ∷ 11 ∷ []) m ≡ false → 31 ≡ length_in leap m
-length-long leap m a b e =
-    let q : m - 1 + 1 ≡ m = omega arith in
-    let t : (one_of (2 ∷ 4 ∷ 6 ∷ 9 ∷ 11 ∷ []) m || eqb 31 (length_in leap m)) ≡ true = rw q at (every-at (long leap) 12 (m - 1) (all-long leap) (omega arith)) in
-    eqb-true _ _ (rw e at t)
 
 -- the first day of the next month is the first day of a month plus that month's length
 pub first-suc : (k : ℕ) → first_day (suc k) ≡ first_day k + length_of k

@@ -1,11 +1,9 @@
 -- Dates and day numbers, each from the other, and the years (01, Days and months; question 23).
 -- Assumes nothing.
-use Rattle.std.specs.Prelude.{ℕ, zero, suc, ◌+◌, ◌-◌, ◌*◌, ◌/◌, ◌%◌, ◌≡◌, Bool, ◌&&◌, cond, List, [], ◌∷◌, leb, ltb, eqb}
+use Rattle.std.specs.Prelude.{ℕ, zero, suc, ◌+◌, ◌-◌, ◌*◌, ◌/◌, ◌%◌, ◌≡◌, Bool, ◌&&◌, cond, List, [], ◌∷◌, Result, leb, ltb, eqb}
 use Rattle.questions.specs.Questions.{Ask, ask, Answer, answer}
-use Rattle.days.specs.declared.DayAnswer.{DayAnswer}
-use Rattle.days.specs.declared.DayAnswer.TheVariants.{Day, NotADate}
-use Rattle.days.specs.declared.DateAnswer.{DateAnswer}
-use Rattle.days.specs.declared.DateAnswer.TheVariants.{Is, NotADay}
+use Rattle.questions.specs.Refusals.{result_answer}
+use Rattle.questions.specs.declared.Refusal.{Refusal}
 use Rattle.days.specs.declared.Date.{Date}
 use Rattle.days.specs.Gregorian.{month_length, month_number, month_year, month_name, length_of, first_day}
 
@@ -50,15 +48,13 @@ day_call y m d = answer (day_asks y m d) 0 (day_of y m d)
 unfoldable pub date_call : ℕ → Answer Date
 date_call d = answer (date_asks d) zero_date (date_of d)
 
--- the number and the value that each case of the answer stands for
-abbrev pub day_answer : DayAnswer → Answer ℕ
-day_answer (Day d) = record { refusal = 0; value = d }
-day_answer NotADate = record { refusal = 23; value = 0 }
+-- the number and the value that the result for a day stands for
+abbrev pub day_answer : Result ℕ Refusal → Answer ℕ
+day_answer result = result_answer 0 result
 
--- the number and the values that each case of the answer stands for
-abbrev pub date_answer : DateAnswer → Answer Date
-date_answer (Is date) = record { refusal = 0; value = date }
-date_answer NotADay = record { refusal = 23; value = zero_date }
+-- the number and the values that the result for a date stands for
+abbrev pub date_answer : Result Date Refusal → Answer Date
+date_answer result = result_answer zero_date result
 
 -- the first day of a month of 2000 to 2099; 36,525 for any later month
 unfoldable pub first_of : ℕ → ℕ

@@ -5,25 +5,13 @@ ghost use Rattle.std.specs.Prelude.{◌≡◌, true, ◌+◌, ◌≤◌, ◌<◌
 ghost use Rattle.days.specs.Gregorian.{leap_year, month_length, weekday_of, follows_months};
 ghost use Rattle.days.specs.Dates.{valid_date, month_of, day_call, date_call, day_answer, date_answer, first_of, year_of, year_start, day_in_year, march_in, start_in};
 
+use questions::Refusal;
+
 #[derive(Clone, Copy)]
 pub struct Date {
     pub year: u16,
     pub month: u16,
     pub day: u16,
-}
-
-// The day number of a date, or the refusal 23.
-#[derive(Clone, Copy)]
-pub enum DayAnswer {
-    Day(u16),
-    NotADate,
-}
-
-// The date of a day number, or the refusal 23.
-#[derive(Clone, Copy)]
-pub enum DateAnswer {
-    Is(Date),
-    NotADay,
 }
 
 // The first day of each of the 1,200 months.
@@ -189,34 +177,18 @@ pub fn weekday(day: u16) -> u16
 pub fn is_leap_year(year: u16) -> bool
     ensures { result ≡ leap_year year }
 {
-    if year % 4 != 0 {
-        return false;
-    }
-    if year % 100 != 0 {
-        return true;
-    }
-    year % 400 == 0
+    (year % 4 == 0) & ((year % 100 != 0) | (year % 400 == 0))
 }
 
 // The length of a month, 1 to 12; 0 for any other number.
 pub fn month_length(year: u16, month: u16) -> u16
     ensures { result ≡ month_length year month }
 {
-    if month == 2 {
-        if is_leap_year(year) {
-            return 29;
-        }
-        return 28;
-    }
-    if month < 1 {
-        return 0;
-    }
-    if 12 < month {
-        return 0;
-    }
     match month {
+        2 => { if is_leap_year(year) { 29 } else { 28 } }
         4 | 6 | 9 | 11 => 30,
-        _ => 31,
+        1 | 3 | 5 | 7 | 8 | 10 | 12 => 31,
+        _ => 0,
     }
 }
 
@@ -224,31 +196,19 @@ pub fn month_length(year: u16, month: u16) -> u16
 pub fn is_date(year: u16, month: u16, day: u16) -> bool
     ensures { result ≡ valid_date year month day }
 {
-    if year < 2000 {
-        return false;
-    }
-    if 2099 < year {
-        return false;
-    }
-    if month < 1 {
-        return false;
-    }
-    if 12 < month {
-        return false;
-    }
-    if day < 1 {
-        return false;
-    }
-    day <= month_length(year, month)
+    (2000..=2099).contains(&year)
+        & (1..=12).contains(&month)
+        & (1..=month_length(year, month)).contains(&day)
 }
 
-pub fn day_of_date(year: u16, month: u16, day: u16) -> DayAnswer
+// The day number of a date, or the refusal 23.
+pub fn day_of_date(year: u16, month: u16, day: u16) -> Result<u16, Refusal>
     ensures { day_answer result ≡ day_call year month day }
 {
     if is_date(year, month, day) {
-        DayAnswer::Day(first_day(12 * (year - 2000) + month - 1) + day - 1)
+        Ok(first_day(12 * (year - 2000) + month - 1) + day - 1)
     } else {
-        DayAnswer::NotADate
+        Err(Refusal::NotADate)
     }
 }
 
@@ -294,17 +254,18 @@ pub fn month_of(day: u16) -> u16
     12 * i + month_in_year(march_in(i), day_in_year(day))
 }
 
-pub fn date_of_day(day: u16) -> DateAnswer
+// The date of a day number, or the refusal 23.
+pub fn date_of_day(day: u16) -> Result<Date, Refusal>
     ensures { date_answer result ≡ date_call day }
 {
     if 36525 <= day {
-        return DateAnswer::NotADay;
+        return Err(Refusal::NotADate);
     }
     let i = year_of(day) - 2000;
     let n = day_in_year(day);
     let march = march_in(i);
     let m = month_in_year(march, n);
-    DateAnswer::Is(Date {
+    Ok(Date {
         year: 2000 + i,
         month: m + 1,
         day: n - start_in_year(march, m) + 1,

@@ -3,11 +3,10 @@
 
 ghost use Rattle.std.specs.Prelude.{◌≡◌};
 ghost use Rattle.table.specs.Table.{sound};
-ghost use Rattle.history.specs.Book.{roll, close};
 ghost use Rattle.history.specs.History.{table_call};
 ghost use Rattle.history_replay.specs.Replay.{call_of};
 ghost use Rattle.session_apart.specs.Apart.{table_with};
-ghost use Rattle.delivery_calls.specs.CallsApart.{CallMade};
+ghost use Rattle.delivery_calls.specs.CallsApart.{CallMade, CommandMade};
 
 use file_calendar::FileCalendar;
 use session_apart::Rest;
@@ -20,45 +19,21 @@ pub struct MadeApart {
     pub rest: Rest,
 }
 
-// A roll to a date.
-fn roll_apart(
+// A roll to a date or a close of a day, by the letter of its command, R or C.
+fn command_apart(
     file: &[u8],
     judged: FileCalendar,
     rest: Rest,
     ten: bool,
     closed: &mut [u8; 736],
     exchange: &mut [u8; 736],
-    date: u16,
-) -> MadeApart
-    ensures { ten ≡ sound (table_with rest closed.old exchange.old) → CallMade (table_call (table_with rest closed.old exchange.old) (roll date)) result closed.new exchange.new }
-{
-    let c = Command {
-        letter: b'R',
-        id: [0, 0, 0, 0],
-        day: date,
-    };
-    let m = session_apart::move_apart(file, judged, rest, ten, closed, exchange, c);
-    let after = m.rest;
-    MadeApart {
-        refusal: m.refusal,
-        rest: after,
-    }
-}
-
-// A close of a day.
-fn close_apart(
-    file: &[u8],
-    judged: FileCalendar,
-    rest: Rest,
-    ten: bool,
-    closed: &mut [u8; 736],
-    exchange: &mut [u8; 736],
+    letter: u8,
     day: u16,
 ) -> MadeApart
-    ensures { ten ≡ sound (table_with rest closed.old exchange.old) → CallMade (table_call (table_with rest closed.old exchange.old) (close day)) result closed.new exchange.new }
+    ensures { ten ≡ sound (table_with rest closed.old exchange.old) → CommandMade (table_with rest closed.old exchange.old) letter day result closed.new exchange.new }
 {
     let c = Command {
-        letter: b'C',
+        letter,
         id: [0, 0, 0, 0],
         day,
     };
@@ -121,10 +96,10 @@ pub fn call_apart(
     }
     let day = first as u16;
     if kind == 0 {
-        return roll_apart(file, judged, rest, ten, closed, exchange, day);
+        return command_apart(file, judged, rest, ten, closed, exchange, b'R', day);
     }
     if kind == 1 {
-        return close_apart(file, judged, rest, ten, closed, exchange, day);
+        return command_apart(file, judged, rest, ten, closed, exchange, b'C', day);
     }
     call_whole(rest, closed, exchange, kind, first, second, third)
 }

@@ -20,8 +20,7 @@ use Rattle.listing.specs.declared.Maturity.{Maturity}
 use Rattle.listing.specs.Rules.{unused}
 use Rattle.table_vendor.specs.Vendor.{times}
 use Rattle.delivery_differences.specs.declared.DeliveredRow.{DeliveredRow}
-use Rattle.delivery_differences.specs.declared.Right.{Right}
-use Rattle.delivery_differences.specs.Differences.{no_row, row_entries, first_row, not_listed, right_of, why_from, why_of, differs_in, next_difference}
+use Rattle.delivery_differences.specs.Differences.{Right, no_row, row_entries, first_row, not_listed, right_of, why_from, why_of, differs_in, next_difference}
 use Rattle.delivery_differences.specs.DifferencePasses.{maturity_keys, unlisted, lesser_from, least_of}
 use Rattle.delivery_differences.proofs.KeyRows.{row_keys}
 

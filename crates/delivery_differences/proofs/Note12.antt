@@ -18,8 +18,7 @@ use Rattle.table_vendor.proofs.Judging.{judged, reordered-alike, alike-not}
 use Rattle.table_vendor.proofs.FreshEntries.{listed-entries, fresh-once, fresh-short}
 use Rattle.delivery_differences.specs.declared.Why.TheVariants.{Same, Missing, Extra, Twice, Day, Number, DaysBack}
 use Rattle.delivery_differences.specs.declared.DeliveredRow.{DeliveredRow}
-use Rattle.delivery_differences.specs.declared.Right.{Right}
-use Rattle.delivery_differences.specs.Differences.{row_entries, first_row, right_of, why_from, why_of, one_of_four, rows_at, OfNote12}
+use Rattle.delivery_differences.specs.Differences.{Right, row_entries, first_row, right_of, why_from, why_of, one_of_four, rows_at, OfNote12}
 
 -- the first of six tests that holds is one of the first four
 four : (a b c d e f : Bool) → one_of_four (cond a Missing (cond b Extra (cond c Twice (cond d Day (cond e Number (cond f DaysBack Same))))))

@@ -16,8 +16,7 @@ use Rattle.table_vendor.specs.Vendor.{vendor_entry_of, times}
 use Rattle.table_vendor.proofs.FreshEntries.{listed-once}
 use Rattle.delivery_differences.specs.declared.Why.TheVariants.{Same}
 use Rattle.delivery_differences.specs.declared.DeliveredRow.{DeliveredRow}
-use Rattle.delivery_differences.specs.declared.Right.{Right}
-use Rattle.delivery_differences.specs.Differences.{row_entries, first_row, right_of, why_from, why_of, AnyOrder, empty, kept, swapped, again, own_row}
+use Rattle.delivery_differences.specs.Differences.{Right, row_entries, first_row, right_of, why_from, why_of, AnyOrder, empty, kept, swapped, again, own_row}
 use Rattle.delivery_differences.specs.Differences.{NothingFound}
 use Rattle.delivery_differences.proofs.DifferencePasses.{right-not, no-row}
 use Rattle.delivery_differences.proofs.Note12.{right-times}

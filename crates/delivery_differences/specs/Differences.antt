@@ -12,7 +12,6 @@ use Rattle.table_vendor.specs.Vendor.{VendorEntry, fresh_entries, times, differs
 use Rattle.delivery_differences.specs.declared.Why.{Why}
 use Rattle.delivery_differences.specs.declared.Why.TheVariants.{Same, Missing, Extra, Twice, Day, Number, DaysBack}
 use Rattle.delivery_differences.specs.declared.DeliveredRow.{DeliveredRow}
-use Rattle.delivery_differences.specs.declared.Right.{Right}
 use Rattle.delivery_differences.specs.declared.Difference.{Difference}
 
 -- no row
@@ -31,6 +30,11 @@ row_entries rows = map row_entry rows
 unfoldable pub first_row : List DeliveredRow → ℕ → DeliveredRow
 first_row [] k = no_row
 first_row (r ∷ rs) k = cond (eqb r.key k) r (first_row rs k)
+
+-- whether a key is listed, and its maturity; zeros where it is not
+pub record Right : Type 0 where
+  pub listed : Bool
+  pub maturity : Maturity
 
 -- no maturity
 abbrev pub not_listed : Right

@@ -1,15 +1,15 @@
 // The differences between the rows that were delivered for one product and the maturities that its table lists.
 #![tactic(auto)]
 
-ghost use Rattle.std.specs.Prelude.{◌≡◌, ◌+◌, ◌≤◌, min, get_or, take, drop};
+ghost use Rattle.std.specs.Prelude.{◌≡◌, ◌<◌, ◌≤◌, min, length, get_or, take, IfSome};
 ghost use Rattle.table_vendor.specs.Vendor.{times};
-ghost use Rattle.delivery_differences.specs.Differences.{row_entries, first_row, not_listed, right_of, why_from, is_same, differs_in, difference_of, next_difference, row_at, rows_at};
-ghost use Rattle.delivery_differences.specs.DifferencePasses.{row_keys_at, maturity_keys, index_in, up_to_two, unlisted, lesser_from, least_of};
+ghost use Rattle.delivery_differences.specs.Differences.{row_entries, first_row, right_of, why_from, differs_in, difference_of, next_difference, row_at, rows_at};
+ghost use Rattle.delivery_differences.specs.DifferencePasses.{row_keys_at, maturity_keys, found_in, times_of, delivered_row, right_found, up_to_two, unlisted, lesser_from, least_of};
 
 use listing::Maturity;
 
 // Why a key differs.
-#[derive(Clone, Copy)]
+#[derive(Clone, Copy, PartialEq, Eq)]
 pub enum Why {
     Same,
     Missing,
@@ -31,18 +31,11 @@ pub struct DeliveredRow {
     pub back: u16,
 }
 
-// Whether a key is listed, and its maturity; zeros where it is not.
+// The first row with a key, and whether the key was delivered again after it.
 #[derive(Clone, Copy)]
-pub struct Right {
-    pub listed: bool,
-    pub maturity: Maturity,
-}
-
-// How often a key was delivered, up to 2, and its first row.
-#[derive(Clone, Copy)]
-pub struct KeyStanding {
-    pub count: u8,
-    pub row: DeliveredRow,
+struct DeliveredKey {
+    row: DeliveredRow,
+    again: bool,
 }
 
 // Why a key differs, its first row, and the maturity that is right.
@@ -53,28 +46,12 @@ pub struct Difference {
     pub right: Maturity,
 }
 
-// The key of row j of those at some places; 0 where there is none.
-fn key_at(places: &[u16], keys: &[u16], j: usize) -> u16
-    ensures { result ≡ get_or (row_keys_at keys.now places.now) j 0 }
+// Which of some places, counted from 0, is the first whose row has a key; none where no row has it.
+fn place_of(places: &[u16], keys: &[u16], key: u16) -> Option<usize>
+    ensures found { result ≡ found_in key (row_keys_at keys.now places.now) }
+    ensures within { IfSome result (λ i. i < length places.now) }
 {
-    if j < places.len() {
-        return table_vendor::list_number(keys, places[j] as usize);
-    }
-    0
-}
-
-// The first row with a key from one on, of those at some places; after the last where there is none.
-fn index_from(places: &[u16], keys: &[u16], key: u16, from: usize) -> usize
-    ensures { result ≡ from + index_in key (drop from (row_keys_at keys.now places.now)) }
-{
-    let mut j = from;
-    while j < places.len() {
-        if key_at(places, keys, j) == key {
-            return j;
-        }
-        j += 1;
-    }
-    j
+    places.iter().position(|place| table_vendor::list_number(keys, usize::from(*place)) == key)
 }
 
 // Row i of five lists.
@@ -97,8 +74,8 @@ fn row_at(
     }
 }
 
-// How often a key was delivered, up to 2, and its first row.
-fn standing_of(
+// The first row with a key of those at some places of five lists, and whether there are more.
+fn delivered_of(
     places: &[u16],
     keys: &[u16],
     days: &[u16],
@@ -106,71 +83,48 @@ fn standing_of(
     numbers: &[u16],
     backs: &[u16],
     key: u16,
-) -> KeyStanding
-    ensures { (result.count ≡ up_to_two (times (row_entries (rows_at keys.now days.now fulls.now numbers.now backs.now places.now)) key)) × (result.row ≡ first_row (rows_at keys.now days.now fulls.now numbers.now backs.now places.now) key) }
+) -> Option<DeliveredKey>
+    ensures { (times_of result ≡ up_to_two (times (row_entries (rows_at keys.now days.now fulls.now numbers.now backs.now places.now)) key)) × (delivered_row result ≡ first_row (rows_at keys.now days.now fulls.now numbers.now backs.now places.now) key) }
 {
-    let first = index_from(places, keys, key, 0);
-    if places.len() <= first {
-        return KeyStanding {
-            count: 0,
-            row: DeliveredRow {
-                key: 0,
-                day: 0,
-                full: false,
-                number: 0,
-                back: 0,
-            },
-        };
-    }
-    let row = row_at(keys, days, fulls, numbers, backs, places[first] as usize);
-    let second = index_from(places, keys, key, first + 1);
-    if places.len() <= second {
-        return KeyStanding { count: 1, row };
-    }
-    KeyStanding { count: 2, row }
+    let first = place_of(places, keys, key)?;
+    let row = row_at(
+        keys,
+        days,
+        fulls,
+        numbers,
+        backs,
+        usize::from(places[first]),
+    );
+    let again = place_of(&places[first + 1..], keys, key).is_some();
+    Some(DeliveredKey { row, again })
 }
 
 // The maturity with a key among the first n.
-fn right_of(maturities: [Maturity; 15], n: usize, key: u16) -> Right
+fn right_of(maturities: [Maturity; 15], n: usize, key: u16) -> Option<Maturity>
     requires { n ≤ 15 }
-    ensures { result ≡ right_of (take n maturities) key }
+    ensures { right_found result ≡ right_of (take n maturities) key }
 {
-    let mut i: usize = 0;
-    while i < n {
-        let m = maturities[i];
-        if m.key == key {
-            return Right {
-                listed: true,
-                maturity: m,
-            };
-        }
-        i += 1;
-    }
-    Right {
-        listed: false,
-        maturity: Maturity {
-            key: 0,
-            day: 0,
-            back: 0,
-            number: 0,
-        },
-    }
+    maturities[..n].iter().find(|m| m.key == key).copied()
 }
 
-// Why a key differs that is listed or not and was delivered so often, first in this row.
-fn why_from(right: Right, count: u8, row: DeliveredRow) -> Why
-    ensures { result ≡ why_from right count row }
+// Why a key differs that is listed or not and was delivered so.
+fn why_from(right: Option<Maturity>, delivered: Option<DeliveredKey>) -> Why
+    ensures { result ≡ why_from (right_found right) (times_of delivered) (delivered_row delivered) }
 {
-    let m = right.maturity;
-    if right.listed & (count == 0) {
-        return Why::Missing;
-    }
-    if !right.listed & (1 <= count) {
+    let Some(d) = delivered else {
+        return if right.is_some() {
+            Why::Missing
+        } else {
+            Why::Same
+        };
+    };
+    let Some(m) = right else {
         return Why::Extra;
-    }
-    if 2 <= count {
+    };
+    if d.again {
         return Why::Twice;
     }
+    let row = d.row;
     if m.day != row.day {
         return Why::Day;
     }
@@ -183,18 +137,34 @@ fn why_from(right: Right, count: u8, row: DeliveredRow) -> Why
     Why::Same
 }
 
-// Whether a key does not differ.
-fn is_same(why: Why) -> bool
-    ensures { result ≡ is_same why }
+// The first row with a key; zeros where there is none.
+fn first_or_zeros(delivered: Option<DeliveredKey>) -> DeliveredRow
+    ensures { result ≡ delivered_row delivered }
 {
-    match why {
-        Why::Same => true,
-        Why::Missing => false,
-        Why::Extra => false,
-        Why::Twice => false,
-        Why::Day => false,
-        Why::Number => false,
-        Why::DaysBack => false,
+    match delivered {
+        Some(d) => d.row,
+        None => DeliveredRow {
+            key: 0,
+            day: 0,
+            full: false,
+            number: 0,
+            back: 0,
+        },
+    }
+}
+
+// The maturity that is right; zeros where none is.
+fn right_or_zeros(right: Option<Maturity>) -> Maturity
+    ensures { result ≡ (right_found right).maturity }
+{
+    match right {
+        Some(m) => m,
+        None => Maturity {
+            key: 0,
+            day: 0,
+            back: 0,
+            number: 0,
+        },
     }
 }
 
@@ -213,15 +183,12 @@ fn told_of(
     requires { n ≤ 15 }
     ensures { result ≡ difference_of (take n maturities) (rows_at keys.now days.now fulls.now numbers.now backs.now places.now) key }
 {
-    let s = standing_of(places, keys, days, fulls, numbers, backs, key);
+    let delivered = delivered_of(places, keys, days, fulls, numbers, backs, key);
     let right = right_of(maturities, n, key);
-    let row = s.row;
-    let maturity = right.maturity;
-    let why = why_from(right, s.count, row);
     Difference {
-        why,
-        delivered: row,
-        right: maturity,
+        why: why_from(right, delivered),
+        delivered: first_or_zeros(delivered),
+        right: right_or_zeros(right),
     }
 }
 
@@ -237,8 +204,7 @@ fn lesser_unlisted(maturities: [Maturity; 15], n: usize, from: u32, key: u16, le
     if least <= found {
         return least;
     }
-    let right = right_of(maturities, n, key);
-    if right.listed {
+    if right_of(maturities, n, key).is_some() {
         return least;
     }
     found
@@ -256,10 +222,9 @@ fn least_unlisted(
     ensures { result ≡ least_of (unlisted (take n maturities)) from (row_keys_at keys.now places.now) 65536 }
 {
     let mut least: u32 = 65536;
-    let mut j: usize = 0;
-    while j < places.len() {
-        least = lesser_unlisted(maturities, n, from, key_at(places, keys, j), least);
-        j += 1;
+    for place in places {
+        let key = table_vendor::list_number(keys, usize::from(*place));
+        least = lesser_unlisted(maturities, n, from, key, least);
     }
     least
 }
@@ -291,8 +256,7 @@ fn lesser_listed(
     let told = told_of(
         maturities, n, places, keys, days, fulls, numbers, backs, key,
     );
-    let why = told.why;
-    if is_same(why) {
+    if told.why == Why::Same {
         return least;
     }
     found
@@ -315,13 +279,11 @@ fn least_listed(
     ensures { result ≡ least_of (differs_in (take n maturities) (rows_at keys.now days.now fulls.now numbers.now backs.now places.now)) from (maturity_keys (take n maturities)) found }
 {
     let mut least = found;
-    let mut i: usize = 0;
-    while i < n {
+    for i in 0..n {
         let m = maturities[i];
         least = lesser_listed(
             maturities, n, places, keys, days, fulls, numbers, backs, from, m.key, least,
         );
-        i += 1;
     }
     least
 }
@@ -330,10 +292,7 @@ fn least_listed(
 fn within(n: usize) -> usize
     ensures { (result ≤ 15) × (result ≡ min n 15) }
 {
-    if 15 < n {
-        return 15;
-    }
-    n
+    n.min(15)
 }
 
 // What is told of a key, by the first n of 15 maturities, none for a product without a table, and by the rows at some places of five lists.

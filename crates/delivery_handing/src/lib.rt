@@ -38,11 +38,9 @@ fn tell_place(
     }
     let id = part.id;
     let mut h = handed;
-    let mut i: u32 = 0;
-    while i < count + 1 {
+    for i in 0..count + 1 {
         let line = delivery_refusals::refusal_line(id, opened, part.refusal, calls, refusals, i);
         h = output::tell(rt, h, file, text, line);
-        i += 1;
     }
     h
 }
@@ -60,11 +58,9 @@ fn tell_unknown(
     ensures { (result.sent ≡ handed.sent) × (count ≤ 6553 → handed.told ≤ 1000000000 → NextOf (deliver_refusals file.now text.now) handed.told (unknown_lines file.now calls.now ids.now count) → result.told ≡ handed.told + length (unknown_lines file.now calls.now ids.now count)) }
 {
     let mut h = handed;
-    let mut i: u32 = 0;
-    while i < count {
+    for i in 0..count {
         let line = delivery_refusals::unknown_measure_line(file, calls, ids, i);
         h = output::tell(rt, h, file, text, line);
-        i += 1;
     }
     h
 }
@@ -114,8 +110,7 @@ fn print_places(
     let places = 15 * (file.len() / 512);
     let mut refusals = [0u8; 6554];
     let mut out = [0u8; 1024];
-    let mut p: usize = 0;
-    while p < places {
+    for p in 0..places {
         h = print_place(
             rt,
             h,
@@ -132,7 +127,6 @@ fn print_places(
         if !output::is_open(h) {
             return h;
         }
-        p += 1;
     }
     h
 }

@@ -1,13 +1,12 @@
 -- What a line says, test by test.
 -- Assumes nothing.
-use mathlib.Core.Path.{◌≡◌, refl, ◌∙◌, sym}
+use mathlib.Core.Path.{◌≡◌, refl, ◌∙◌}
 use mathlib.Core.Bool.{Bool, true, false, not, ◌&&◌, and-false}
 use mathlib.Core.List.{List}
 use Prim.Native.Nat.{ℕ, ◌-◌, ◌≤◌, ◌<◌}
 use lib.Dec.{eqb, leb}
 use lib.ListN.{length, get_or, take, drop}
 use borrow.Author.Tests.{eq-eqb, ne_eqb, le-leb, lt-leb}
-use Rattle.questions.specs.Search.{every}
 use Rattle.days.specs.Dates.{month_of}
 use Rattle.session_lines.specs.declared.Command.{Command}
 use Rattle.file_text_lines.specs.declared.NumberRead.{NumberRead}
@@ -17,8 +16,8 @@ use Rattle.delivery_lines.specs.NoticeLines.{trimmed, is_id}
 use Rattle.delivery_items.specs.declared.ItemRead.{ItemRead}
 use Rattle.delivery_items.specs.declared.LineRead.{LineRead}
 use Rattle.delivery_items.specs.declared.LongLine.{LongLine}
-use Rattle.delivery_items.specs.Items.{fields_of, unquoted, field_at, no_item, maturity_read, key_read, short_item, full_item, fields_item, item_of, product_word}
-use Rattle.delivery_items.specs.Items.{is_product_word, headed, line_read, held_read}
+use Rattle.delivery_items.specs.Items.{fields_of, unquoted, field_at, no_item, maturity_read, key_read, short_item, full_item, fields_item, item_of}
+use Rattle.delivery_items.specs.Items.{headed, line_read, held_read}
 
 -- ---- quotes
 
@@ -124,19 +123,6 @@ module _ (text : List ℕ) where
   pub not-too-long : length text ≤ 255 → fields_item text ≡ item_of text
   unfolding item_of
   not-too-long h = rw (le-leb (length text) 255 h) refl
-
--- ---- the heading
-
-module _ (field : List ℕ) where
-  -- a field of other than 7 bytes is not the word `product`
-  pub other_length : (length field ≡ 7 → ⊥) → false ≡ is_product_word field
-  unfolding is_product_word
-  other_length e = rw (ne_eqb (length field) 7 e) refl
-
-  -- a field of 7 bytes is the word `product` exactly where all their bytes are equal
-  pub same_word : length field ≡ 7 → (b : Bool) → every 7 (λ i. eqb (get_or field i 0) (get_or product_word i 0)) ≡ b → b ≡ is_product_word field
-  unfolding is_product_word
-  same_word e b q = sym (rw (eq-eqb (length field) 7 e) q)
 
 -- ---- a line
 

@@ -59,14 +59,12 @@ fn separator_from(line: &[u8], from: usize) -> usize
     requires { from ≤ length line.now }
     ensures { SeparatorFrom line.now from result }
 {
-    let mut i = from;
-    while i < line.len() {
+    for i in from..line.len() {
         if is_separator(line[i]) {
             return i;
         }
-        i += 1;
     }
-    i
+    line.len()
 }
 
 // How many fields a line has.
@@ -87,14 +85,12 @@ fn raw_field(line: &[u8], k: usize) -> &[u8]
     ensures { result.now ≡ raw_field line.now k }
 {
     let mut from: usize = 0;
-    let mut i: usize = 0;
-    while i < k {
+    for i in 0..k {
         let end = separator_from(line, from);
         if line.len() <= end {
             return &line[0..0];
         }
         from = end + 1;
-        i += 1;
     }
     let end = separator_from(line, from);
     &line[from..end]
@@ -236,18 +232,7 @@ fn item_of(text: &[u8]) -> ItemRead
 fn is_product_word(field: &[u8]) -> bool
     ensures { result ≡ is_product_word field.now }
 {
-    let word = *b"product";
-    if field.len() != 7 {
-        return false;
-    }
-    let mut i: usize = 0;
-    while i < 7 {
-        if field[i] != word[i] {
-            return false;
-        }
-        i += 1;
-    }
-    true
+    field == b"product".as_slice()
 }
 
 // Whether the first field of a line is `product`.
@@ -315,14 +300,12 @@ pub fn line_from(line: LongLine, part: &[u8], from: usize) -> LineEnd
     ensures { result ≡ line_end line (drop from part.now) from }
 {
     let mut l = line;
-    let mut i = from;
-    while i < part.len() {
+    for i in from..part.len() {
         let byte = part[i];
-        i += 1;
         if byte == b'\n' {
             return LineEnd {
                 line: l,
-                next: i,
+                next: i + 1,
                 ended: true,
             };
         }
@@ -330,7 +313,7 @@ pub fn line_from(line: LongLine, part: &[u8], from: usize) -> LineEnd
     }
     LineEnd {
         line: l,
-        next: i,
+        next: from.max(part.len()),
         ended: false,
     }
 }

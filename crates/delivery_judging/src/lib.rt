@@ -178,15 +178,13 @@ pub fn print_places(
         };
     }
     let count = 15 * (file.len() / 512);
-    let mut p: usize = 0;
-    while p < count {
+    for p in 0..count {
         let part = print_place(
             rt, so_far, file, judged, p, t, calls, of, rows, ids, keys, days, fulls, numbers,
             backs, places,
         );
         so_far = part.sent;
         lines += part.lines;
-        p += 1;
     }
     LinesPrinted {
         sent: so_far,

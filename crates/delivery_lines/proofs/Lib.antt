@@ -3,3 +3,4 @@ pub mod NoticeValues
 pub mod NoticeForms
 pub mod NoticeLengths
 pub mod Marks
+pub mod SameWords

@@ -1,14 +1,18 @@
 -- What a line says, form by form, as the code holds it.
 -- Assumes nothing.
-use mathlib.Core.Path.{◌≡◌, refl, ◌∙◌}
-use mathlib.Core.Bool.{Bool, true, false, ◌&&◌, ◌||◌, and-false}
+use mathlib.Core.Path.{◌≡◌, refl, ◌∙◌, sym, ap}
+use mathlib.Core.Bool.{Bool, true, false, ◌&&◌, ◌||◌}
 use mathlib.Core.List.{List}
-use Prim.Native.Nat.{ℕ, ◌≤◌}
-use lib.Dec.{eqb, leb}
-use lib.ListN.{length, get_or}
+use Prim.Native.Nat.{ℕ, zero, suc, ◌+◌, ◌≤◌}
+use native.Mathlib.Omega.{arith}
+use lib.Dec.{eqb}
+use lib.ListN.{length, get_or, take}
+use lib.Seq.{take_all}
 use borrow.Author.Tests.{le-leb, eq-eqb, ne_eqb, eqb-true}
 use Rattle.questions.proofs.Bools.{both, clash}
 use Rattle.questions.specs.Search.{every}
+use Rattle.std.specs.List.{list_all}
+use Rattle.std.proofs.lemmas.List.Folds.{list_all_more}
 use Rattle.product.specs.Fields.{id_character}
 use Rattle.session_lines.specs.declared.Command.{Command}
 use Rattle.file_text_lines.specs.declared.NumberRead.{NumberRead}
@@ -20,15 +24,20 @@ use Rattle.delivery_lines.proofs.NoticeValues.{number-there, number-value, price
 
 -- an id
 module _ (word : List ℕ) where
-  -- a word with a character that no id has is not an id
-  pub id-not : every (length word) (λ i. id_character (get_or word i 0)) ≡ false → false ≡ is_id word
-  unfolding is_id
-  id-not e = rw (e, and-false (leb (length word) 4), and-false (leb 1 (length word))) refl
+  every-list : (n : ℕ) → n ≤ length word → list_all id_character (take n word) ≡ every n (λ i. id_character (get_or word i 0))
+  unfolding every
+  every-list zero h = refl
+  every-list (suc n) h =
+      let e : n + 1 ≡ suc n = omega arith in
+      ap (λ (k : ℕ). list_all id_character (take k word)) (sym e) ∙ list_all_more id_character word n 0 (omega arith)
+      ∙ ap (λ (b : Bool). b && id_character (get_or word n 0)) (every-list n (omega arith))
 
-  -- a word of 1 to 4 characters that an id may have is an id
-  pub id-is : 1 ≤ length word → length word ≤ 4 → every (length word) (λ i. id_character (get_or word i 0)) ≡ true → true ≡ is_id word
+  -- a word of 1 to 4 bytes is an id where each byte is a character that an id may have
+  pub id-all : 1 ≤ length word → length word ≤ 4 → list_all id_character word ≡ is_id word
   unfolding is_id
-  id-is a b e = rw (le-leb 1 (length word) a, le-leb (length word) 4 b, e) refl
+  id-all a b =
+      rw (le-leb 1 (length word) a, le-leb (length word) 4 b)
+      (ap (list_all id_character) (sym (take_all (length word) word (omega arith))) ∙ every-list (length word) (omega arith))
 
 -- a line with a date
 module _ (letter : ℕ) (date : Command) where

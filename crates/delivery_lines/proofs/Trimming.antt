@@ -6,23 +6,12 @@ use mathlib.Core.Logic.{◌⊎◌, inl, inr}
 use mathlib.Core.List.{List, [], ◌∷◌, ◌++◌}
 use Prim.Native.Nat.{ℕ, suc, ◌+◌, ◌-◌, ◌≤◌, ◌<◌}
 use native.Mathlib.Omega.{arith}
-use lib.Dec.{eqb, ltb}
+use lib.Dec.{eqb}
 use lib.ListN.{length, get_or, take, length-append, get_or-eq_default}
 use lib.Seq.{take-suc}
-use borrow.Author.Tests.{lt-ltb, ne_eqb, ltb-true}
-use Rattle.questions.proofs.Bools.{both, lt-or-ge}
+use borrow.Author.Tests.{ne_eqb}
+use Rattle.questions.proofs.Bools.{lt-or-ge}
 use Rattle.delivery_lines.specs.NoticeLines.{blank, trimmed, mark_length}
-use Rattle.delivery_lines.specs.Ends.{ends_blank}
-
--- the first n bytes, one by one from the end
-pub ends-none : (line : List ℕ) (n : ℕ) → n ≡ 0 → false ≡ ends_blank line n
-unfolding ends_blank
-ends-none line n e = rw e refl
-
--- a part of a line that is not empty ends with a blank if its last byte is one
-pub ends_some : (line : List ℕ) (n : ℕ) → (n ≡ 0 → ⊥) → blank (get_or line (n - 1) 0) ≡ ends_blank line n
-unfolding ends_blank
-ends_some line n e = rw (lt-ltb 0 n (omega arith)) refl
 
 -- a blank more at the end plays no part
 pub trimmed-blank : (xs : List ℕ) (b : ℕ) → blank b ≡ true → trimmed (xs ++ (b ∷ [])) ≡ trimmed xs
@@ -43,36 +32,29 @@ last_byte line n h l =
     let e : n ≡ suc (n - 1) = omega arith in
     ap (λ (k : ℕ). take k line) e ∙ take-suc line (n - 1) 0 (omega arith)
 
--- a part that ends with a blank is not empty
-pub ends-positive : (line : List ℕ) (n : ℕ) → ends_blank line n ≡ true → 0 < n
-unfolding ends_blank
-ends-positive line n e = ltb-true 0 n (both (ltb 0 n) (blank (get_or line (n - 1) 0)) e).0
-
--- leaving out a blank at the end does not change the trimmed line
-pub trim-more : (line : List ℕ) (n : ℕ) → n ≤ length line → ends_blank line n ≡ true → trimmed (take n line) ≡ trimmed line
-    → trimmed (take (n - 1) line) ≡ trimmed line
-unfolding ends_blank
-trim-more line n l e t =
-    let (p, b) = both (ltb 0 n) (blank (get_or line (n - 1) 0)) e in
-    sym (trimmed-blank (take (n - 1) line) (get_or line (n - 1) 0) b) ∙ ap trimmed (sym (last_byte line n (ltb-true 0 n p) l)) ∙ t
-
 nothing-trimmed : (line : List ℕ) (n : ℕ) → n ≤ 0 → trimmed (take n line) ≡ take n line
 unfolding trimmed
 nothing-trimmed line n h = let z : n ≡ 0 = omega arith in rw z refl
 
-solid : (line : List ℕ) (n : ℕ) → 0 < n → ends_blank line n ≡ false → blank (get_or line (n - 1) 0) ≡ false
-solid line n h e = ends_some line n (λ z. omega arith) ∙ e
+-- leaving out a blank at the end does not change the trimmed line
+pub trim-more : (line : List ℕ) (n : ℕ) → n ≤ length line → 0 < n → blank (get_or line (n - 1) 0) ≡ true → trimmed (take n line) ≡ trimmed line
+    → trimmed (take (n - 1) line) ≡ trimmed line
+trim-more line n l h b t =
+    sym (trimmed-blank (take (n - 1) line) (get_or line (n - 1) 0) b) ∙ ap trimmed (sym (last_byte line n h l)) ∙ t
 
-trimmed-whole : (line : List ℕ) (n : ℕ) → n ≤ length line → ends_blank line n ≡ false → trimmed (take n line) ≡ take n line
-trimmed-whole line n l e = go (lt-or-ge 0 n)
+-- a part that does not end with a blank is the trimmed line: none of its bytes are left, or its last is another byte
+pub trim-done : (line : List ℕ) (n : ℕ) → n ≤ length line → (0 < n → blank (get_or line (n - 1) 0) ≡ false) → trimmed (take n line) ≡ trimmed line
+    → take n line ≡ trimmed line
+trim-done line n l e t = sym (go (lt-or-ge 0 n)) ∙ t
   where
     go : (0 < n) ⊎ (n ≤ 0) → trimmed (take n line) ≡ take n line
-    go (inl h) = rw (last_byte line n h l) (trimmed-solid (take (n - 1) line) (get_or line (n - 1) 0) (solid line n h e))
+    go (inl h) = rw (last_byte line n h l) (trimmed-solid (take (n - 1) line) (get_or line (n - 1) 0) (e h))
     go (inr h) = nothing-trimmed line n h
 
--- a part that does not end with a blank is the trimmed line
-pub trim-done : (line : List ℕ) (n : ℕ) → n ≤ length line → ends_blank line n ≡ false → trimmed (take n line) ≡ trimmed line → take n line ≡ trimmed line
-trim-done line n l e t = sym (trimmed-whole line n l e) ∙ t
+-- a line of blanks alone has nothing that is left
+pub trim-none : (line : List ℕ) (n : ℕ) → n ≤ 0 → trimmed (take n line) ≡ trimmed line → [] ≡ trimmed line
+unfolding trimmed
+trim-none line n h t = let z : n ≡ 0 = omega arith in rw z at t
 
 -- the byte order mark, byte by byte
 module _ (text : List ℕ) where

@@ -4,7 +4,6 @@
 ghost use Rattle.std.specs.Prelude.{◌≡◌, ◌+◌, ◌*◌, ◌≤◌, get_or, length, take};
 ghost use Rattle.file_text_lines.specs.Entries.{word_at, id_bytes};
 ghost use Rattle.delivery_lines.specs.NoticeLines.{blank, trimmed, mark_length, held, number_held, whole_word, price_held, is_id, date_letter, day_line_held, day_said, measure_said, words_said, trimmed_said, said_by, line_held};
-ghost use Rattle.delivery_lines.specs.Ends.{ends_blank};
 
 use file_text_lines::NumberRead;
 use session_lines::Command;
@@ -28,26 +27,16 @@ pub fn is_blank(byte: u8) -> bool
     (byte == b' ') | ((byte == b'\t') | (byte == b'\r'))
 }
 
-// Whether the first n bytes of a line end with a blank.
-fn ends_blank(line: &[u8], n: usize) -> bool
-    requires { n ≤ length line.now }
-    ensures { result ≡ ends_blank line.now n }
-{
-    if n == 0 {
-        return false;
-    }
-    is_blank(line[n - 1])
-}
-
 // How many bytes a line has without the blanks at its end.
 pub fn trimmed_length(line: &[u8]) -> usize
     ensures { (take result line.now ≡ trimmed line.now) × (result ≤ length line.now) }
 {
-    let mut n = line.len();
-    while ends_blank(line, n) {
-        n -= 1;
+    for n in (0..line.len()).rev() {
+        if !is_blank(line[n]) {
+            return n + 1;
+        }
     }
-    n
+    0
 }
 
 // How many bytes at the start of a text are a byte order mark, 3 or 0.
@@ -149,14 +138,7 @@ pub fn is_id(word: &[u8]) -> bool
     if 4 < word.len() {
         return false;
     }
-    let mut i: usize = 0;
-    while i < word.len() {
-        if !product::is_id_character(word[i]) {
-            return false;
-        }
-        i += 1;
-    }
-    true
+    word.iter().all(|byte| product::is_id_character(*byte))
 }
 
 // The number that word k of a line is.

@@ -4,17 +4,16 @@ use mathlib.Core.Path.{◌≡◌, refl, ◌∙◌, sym, ap}
 use mathlib.Core.Bool.{Bool, true, false, ◌&&◌}
 use mathlib.Core.List.{List, [], ◌∷◌, ◌++◌}
 use Prim.Native.Nat.{ℕ, ◌+◌, ◌≤◌, ◌<◌}
-use native.Mathlib.Numerals.{add-one}
 use native.Mathlib.Omega.{arith}
 use lib.Dec.{eqb}
-use lib.ListN.{length, get_or, take, set, length-append}
-use lib.Seq.{take-suc, take-take, length-take-le, get_or-take}
+use lib.ListN.{length, get_or, take, drop, length-append}
+use lib.Seq.{take-take, take_all, length-take-le, get_or-take, paste, length-paste, sets-eq}
 use borrow.Author.Tests.{eq-eqb, ne_eqb}
 use Rattle.session_lines.specs.declared.Line.{Line}
 use Rattle.session_lines.specs.CommandLines.{empty_line}
 use Rattle.session_lines.proofs.LineFeeding.{fed-is}
 use Rattle.session_text.specs.Buffer.{Written, roomy, Printed}
-use Rattle.session_text.proofs.TextsInBuffer.{one_byte, then, printed, room-long}
+use Rattle.session_text.proofs.TextsInBuffer.{then, printed, room-long}
 use Rattle.file_text_print.specs.Contents.{LineWith}
 use Rattle.delivery_lines.specs.NoticeLines.{trimmed}
 use Rattle.delivery_items.specs.declared.LongLine.{LongLine}
@@ -250,14 +249,13 @@ module _ (s : Standing) (q : QuestionLine) where
 
 -- ---- byte by byte
 
--- writing no bytes leaves a buffer as it is
-pub put-none : (out : List ℕ) (at : ℕ) (bytes : List ℕ) → Written out out at (at + 0) (take 0 bytes)
-put-none out at bytes = record { is = refl; to = refl; long = refl }
-
--- after the first i bytes the byte at i is written next, and the first i + 1 bytes stand in the buffer
-pub put-more : (out after bytes : List ℕ) (at i : ℕ) → i < length bytes → Written out after at (at + i) (take i bytes)
-    → Written out (set after (at + i) (get_or bytes i 0)) at (at + (i + 1)) (take (i + 1) bytes)
-put-more out after bytes at i h w =
-    let e : take (i + 1) bytes ≡ take i bytes ++ (get_or bytes i 0 ∷ []) = ap (λ (n : ℕ). take n bytes) (add-one i) ∙ take-suc bytes i 0 h in
-    let n : at + i + 1 ≡ at + (i + 1) = omega arith in
-    rw (e, ← n) (then w (one_byte after (at + i) (get_or bytes i 0)))
+-- bytes pasted into a buffer stand there byte by byte
+pub put-whole : (out after bytes : List ℕ) (at : ℕ) → at + length bytes ≤ length out → after ≡ paste out at bytes (length bytes)
+    → Written out after at (at + length bytes) bytes
+put-whole out after bytes at h e =
+    let w : take (length bytes) bytes ≡ bytes = take_all (length bytes) bytes (omega arith) in
+    record {
+      is = e ∙ ap (λ (b : List ℕ). take at out ++ b ++ drop (at + length bytes) out) w ∙ sym (sets-eq bytes out at h);
+      to = refl;
+      long = ap length e ∙ length-paste out at bytes (length bytes) h (omega arith);
+    }

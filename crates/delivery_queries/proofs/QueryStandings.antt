@@ -7,6 +7,8 @@ use Prim.Native.Nat.{ℕ, ◌≤◌}
 use lib.Dec.{leb}
 use lib.ListN.{length}
 use borrow.Author.Tests.{le-leb}
+use Rattle.std.specs.Option.{is_some, unwrap_or}
+use Rattle.std.proofs.Common.{Option, Some, None}
 use Rattle.product.specs.declared.Product.{Product}
 use Rattle.product.specs.Fields.{is_weekly}
 use Rattle.file_calendar.specs.declared.FileCalendar.{FileCalendar}
@@ -32,17 +34,25 @@ use Rattle.delivery_queries.specs.Queries.{standing_of, standing_by, standing_in
 -- ---- the file
 
 module _ (f id : List ℕ) where
-  -- an id that the file has at a place is found, and is weekly exactly where its product is
+  -- an id that the file has at a place is that of a product, which is weekly exactly where its kind is
   pub known-here : (block place : ℕ) → find_answer (At block place) ≡ find_call f id → (p : Product) → p ≡ product_at f block place → (weekly : Bool)
-      → weekly ≡ is_weekly p.kind
-      → (true ≡ found f id) × (weekly ≡ (found f id && is_weekly (product_of f id).kind))
+      → weekly ≡ is_weekly p.kind → Some weekly ≡ cond (found f id) (Some (is_weekly (product_of f id).kind)) None
   known-here block place e p q weekly w =
       let t = find-there f id block place e in
-      (sym t, rw (t, ← find-product f id block place e, ← q) w)
+      rw (t, ← find-product f id block place e, ← q) (ap Some w)
 
-  -- an id that the file has at no place is not found, and is not weekly
-  pub known-not : find_answer Nothing ≡ find_call f id → (false ≡ found f id) × (false ≡ (found f id && is_weekly (product_of f id).kind))
-  known-not e = let n = find_none f id e in (sym n, rw n refl)
+  -- an id that the file has at no place is that of none
+  pub known-not : find_answer Nothing ≡ find_call f id → None ≡ cond (found f id) (Some (is_weekly (product_of f id).kind)) None
+  known-not e = let n = find_none f id e in rw n refl
+
+-- a product is there where it is known whether it is weekly, and only one that is there is weekly
+known_is : (there weekly : Bool) → is_some (cond there (Some weekly) None) ≡ there
+known_is true weekly = refl
+known_is false weekly = refl
+
+weekly-is : (there weekly : Bool) → unwrap_or (cond there (Some weekly) None) false ≡ (there && weekly)
+weekly-is true weekly = refl
+weekly-is false weekly = refl
 
 -- ---- the table
 
@@ -69,11 +79,18 @@ module _ (judged : FileCalendar) (f : List ℕ) (t : NoticesTaken) (calls ids : 
       go false e = rw (sym fits ∙ e) ((m.idle e).0 ∙ no-calls (open_in (calendar_answer judged) f id t.date).table id)
 
   -- what is found of an id in the file and delivered of its table is what is known of the product
-  pub stands : (known weekly : Bool) (d : Delivered) → known ≡ found f id → weekly ≡ (found f id && is_weekly (product_of f id).kind)
+  pub stands : (w : Option Bool) (d : Delivered) → w ≡ cond (found f id) (Some (is_weekly (product_of f id).kind)) None
+      → (known weekly : Bool) → known ≡ is_some w → weekly ≡ unwrap_or w false
       → Delivers (open_in (calendar_answer judged) f) id t.date (notices_to calls ids t.count) before after d
       → record { known = known; weekly = weekly; refusal = d.refusal; table = d.table } ≡ standing_in judged f t calls ids (length before) id
   unfolding standing_in standing_by
-  stands known weekly d k w m = rw (k, w, m.refusal, table_is d m) refl
+  stands w d e known weekly k v m =
+      rw (
+        rw e at k ∙ known_is (found f id) (is_weekly (product_of f id).kind),
+        rw e at v ∙ weekly-is (found f id) (is_weekly (product_of f id).kind),
+        m.refusal,
+        table_is d m,
+      ) refl
 
 -- ---- by the file's own verdict, and by the notices of a text
 

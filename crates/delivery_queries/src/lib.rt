@@ -1,7 +1,7 @@
 // What `query` answers to one line, in a lent buffer.
 #![tactic(auto)]
 
-ghost use Rattle.std.specs.Prelude.{◌≡◌, true, ◌&&◌, ◌+◌, ◌≤◌, length, take};
+ghost use Rattle.std.specs.Prelude.{◌≡◌, true, cond, ◌&&◌, ◌+◌, ◌≤◌, length, take, Some, None};
 ghost use Rattle.product.specs.Fields.{is_weekly};
 ghost use Rattle.file_load.specs.Load.{found, product_of};
 ghost use Rattle.session_text.specs.Buffer.{Written, Printed, roomy};
@@ -18,13 +18,6 @@ use file_calendar::FileCalendar;
 use file_load::Found;
 use session_lines::Line;
 
-// Whether the file has a product with an id, and whether that is a weekly one.
-#[derive(Clone, Copy)]
-struct KnownId {
-    known: bool,
-    weekly: bool,
-}
-
 // The place after an answer in a buffer, and whether the answer is `NO n` or `BAD K`.
 #[derive(Clone, Copy)]
 pub struct LineAnswer {
@@ -32,24 +25,17 @@ pub struct LineAnswer {
     pub refused: bool,
 }
 
-// Looks for the product with an id.
-fn known_id(file: &[u8], id: [u8; 4]) -> KnownId
-    ensures { (result.known ≡ found file.now id) × (result.weekly ≡ (found file.now id && is_weekly (product_of file.now id).kind)) }
+// Whether the product with an id is a weekly one; none where the file has no product with the id.
+fn weekly_in(file: &[u8], id: [u8; 4]) -> Option<bool>
+    ensures { result ≡ cond (found file.now id) (Some (is_weekly (product_of file.now id).kind)) None }
 {
     match file_load::find(file, id) {
         Found::At(block, record) => {
             let p = file_load::product_at(file, block, record);
             let kind = p.kind;
-            let weekly = product::is_weekly(kind);
-            KnownId {
-                known: true,
-                weekly,
-            }
+            Some(product::is_weekly(kind))
         }
-        Found::Nothing => KnownId {
-            known: false,
-            weekly: false,
-        },
+        Found::Nothing => None,
     }
 }
 
@@ -66,12 +52,12 @@ pub fn standing(
 ) -> Standing
     ensures { result ≡ standing_in judged file.now t calls.now ids.now (length refusals.old) id }
 {
-    let k = known_id(file, id);
+    let weekly = weekly_in(file, id);
     let d = delivery_tables::deliver(file, judged, id, t.date, calls, ids, t.count, refusals);
     let table = d.table;
     Standing {
-        known: k.known,
-        weekly: k.weekly,
+        known: weekly.is_some(),
+        weekly: weekly.unwrap_or(false),
         refusal: d.refusal,
         table,
     }
@@ -97,12 +83,9 @@ fn put_bytes(out: &mut [u8], at: usize, bytes: &[u8]) -> usize
     requires { at + length bytes.now ≤ length out.old }
     ensures { Written out.old out.new at result bytes.now }
 {
-    let mut i: usize = 0;
-    while i < bytes.len() {
-        out[at + i] = bytes[i];
-        i += 1;
-    }
-    at + i
+    let end = at + bytes.len();
+    out[at..end].copy_from_slice(bytes);
+    end
 }
 
 // The bytes of a line.

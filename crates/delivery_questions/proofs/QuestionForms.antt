@@ -8,7 +8,6 @@ use lib.Dec.{eqb}
 use lib.ListN.{length, get_or}
 use borrow.Author.Tests.{le-leb, lt-leb, eq-eqb, ne_eqb}
 use Rattle.questions.proofs.Bools.{both}
-use Rattle.questions.specs.Search.{every}
 use Rattle.days.specs.Dates.{month_of}
 use Rattle.session_lines.specs.declared.Command.{Command}
 use Rattle.file_text_lines.specs.declared.NumberRead.{NumberRead}
@@ -19,18 +18,6 @@ use Rattle.delivery_lines.proofs.NoticeValues.{number-there, number-value, price
 use Rattle.delivery_questions.specs.QuestionLines.{last_word, due_word, tick_word, cash_word, size_word, is_word, last_asked, due_asked, tick_asked, three_asked}
 use Rattle.delivery_questions.specs.QuestionLines.{cash_asked, size_asked, words_asked, trimmed_asked, bare_held, one_held, day_question_held, asked_held, bad}
 use Rattle.delivery_questions.specs.QuestionLines.{asks, last, due}
-
--- a word by its name
-module _ (name word : List ℕ) where
-  -- a word of another length than a name is not that name
-  pub other_length : (length word ≡ length name → ⊥) → false ≡ is_word name word
-  unfolding is_word
-  other_length e = rw (ne_eqb (length word) (length name) e) refl
-
-  -- a word of a name's length is that name exactly where all their bytes are equal
-  pub same_word : length word ≡ length name → (b : Bool) → every (length name) (λ i. eqb (get_or word i 0) (get_or name i 0)) ≡ b → b ≡ is_word name word
-  unfolding is_word
-  same_word e b h = rw (eq-eqb (length word) (length name) e, h) refl
 
 -- a date
 module _ (letter : ℕ) (id : List ℕ) (friday : Bool) (date : Command) where

@@ -55,17 +55,7 @@ fn one_held(letter: u8, id: [u8; 4], friday: bool, day: u16, number: u32) -> Que
 fn is_word(name: &[u8], word: &[u8]) -> bool
     ensures { result ≡ is_word name.now word.now }
 {
-    if word.len() != name.len() {
-        return false;
-    }
-    let mut i: usize = 0;
-    while i < name.len() {
-        if word[i] != name[i] {
-            return false;
-        }
-        i += 1;
-    }
-    true
+    word == name
 }
 
 // A question with a day that was read, or a bad line.

@@ -198,11 +198,9 @@ pub fn places_of(id: [u8; 4], ids: &[u8], n: u32, places: &mut [u16]) -> usize
         return 0;
     }
     let mut size: usize = 0;
-    let mut i: u32 = 0;
-    while i < n {
+    for i in 0..n {
         let own = file_load::same_id(delivery_products::id_in(ids, i), id);
         size = put_place(places, size, i, own);
-        i += 1;
     }
     size
 }
@@ -212,12 +210,10 @@ fn stands_first(ids: &[u8], i: u32) -> bool
     ensures { result ≡ every i (λ j. not (same_id (id_in ids.now j) (id_in ids.now i))) }
 {
     let id = delivery_products::id_in(ids, i);
-    let mut j: u32 = 0;
-    while j < i {
+    for j in 0..i {
         if file_load::same_id(delivery_products::id_in(ids, j), id) {
             return false;
         }
-        j += 1;
     }
     true
 }

@@ -2,7 +2,6 @@
 #![tactic(auto)]
 
 ghost use Rattle.std.specs.Prelude.{◌≡◌, cond, ◌+◌, ◌≤◌, eqb, length};
-ghost use Rattle.std.proofs.Math.Seq.{paste};
 ghost use Rattle.session_lines.specs.CommandLines.{empty_line};
 ghost use Rattle.file_text_print.specs.Contents.{LineWith};
 ghost use Rattle.file_calendar.specs.Calendars.{calendar_answer};
@@ -135,21 +134,6 @@ fn line_count(line: Line) -> u32
     1
 }
 
-// The bytes of a line from a place of a buffer on, and the place after them.
-fn append(out: &mut [u8], at: usize, line: Line) -> usize
-    requires { (line.length ≤ 64) × (at + 64 ≤ length out.old) }
-    ensures { (result ≡ at + line.length) × (out.new ≡ paste out.old at line.bytes line.length) }
-{
-    let bytes = line.bytes;
-    let n = line.length;
-    let mut i: usize = 0;
-    while i < n {
-        out[at + i] = bytes[i];
-        i += 1;
-    }
-    at + n
-}
-
 // Whether there is another row, and room for its line.
 fn goes_on(next: u32, n: u32, out: &[u8], length: usize) -> bool
     ensures { result ≡ another_stranger next n out.now length }
@@ -173,7 +157,7 @@ pub fn print_strangers(file: &[u8], ids: &[u8], n: u32, from: u32, out: &mut [u8
     let mut lines: u32 = 0;
     while goes_on(next, n, out, length) {
         let line = id_row_line(file, ids, next);
-        length = append(out, length, line);
+        length = file_text_print::append(out, length, line);
         lines += line_count(line);
         next += 1;
     }

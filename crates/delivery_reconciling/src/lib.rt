@@ -60,12 +60,10 @@ pub fn tell_openings(
     let places = 15 * (file.len() / 512);
     let mut so_far = told;
     let mut refused = false;
-    let mut p: usize = 0;
-    while p < places {
+    for p in 0..places {
         let line = delivery_reconciled::opening_line(file, judged, p, t.date, t.opened);
         so_far = tell_opening(rt, so_far, file, judged, t, p, line);
         refused = refused | (0 < line.length);
-        p += 1;
     }
     OpeningsTold {
         told: so_far,

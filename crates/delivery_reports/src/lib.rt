@@ -2,7 +2,6 @@
 #![tactic(auto)]
 
 ghost use Rattle.std.specs.Prelude.{◌≡◌, ◌+◌, ◌≤◌, length, take};
-ghost use Rattle.std.proofs.Math.Seq.{paste};
 ghost use Rattle.session_lines.specs.CommandLines.{empty_line};
 ghost use Rattle.file_text_print.specs.Contents.{LineWith};
 ghost use Rattle.delivery_differences.specs.Differences.{difference_of, rows_at};
@@ -123,21 +122,6 @@ fn key_line(
     difference_line(kind, id, key, d)
 }
 
-// The bytes of a line from a place of a buffer on, and the place after them.
-fn append(out: &mut [u8], at: usize, line: Line) -> usize
-    requires { (line.length ≤ 64) × (at + 64 ≤ length out.old) }
-    ensures { (result ≡ at + line.length) × (out.new ≡ paste out.old at line.bytes line.length) }
-{
-    let bytes = line.bytes;
-    let n = line.length;
-    let mut i: usize = 0;
-    while i < n {
-        out[at + i] = bytes[i];
-        i += 1;
-    }
-    at + n
-}
-
 // Whether there is another key, and room for its line.
 fn goes_on(next: u32, out: &[u8], length: usize) -> bool
     ensures { result ≡ another_key next out.now length }
@@ -186,7 +170,7 @@ pub fn print_differences(
             backs,
             next as u16,
         );
-        length = append(out, length, line);
+        length = file_text_print::append(out, length, line);
         lines += 1;
         next = next_difference(
             listed,

@@ -2,7 +2,6 @@
 #![tactic(auto)]
 
 ghost use Rattle.std.specs.Prelude.{◌≡◌, ◌+◌, ◌≤◌, length};
-ghost use Rattle.std.proofs.Math.Seq.{paste};
 ghost use Rattle.session_lines.specs.CommandLines.{empty_line};
 ghost use Rattle.file_text_print.specs.Contents.{LineWith};
 ghost use Rattle.delivery_rows.specs.Delivery.{delivery_row, row_text, delivery_heading};
@@ -35,21 +34,6 @@ fn row_line(id: [u8; 4], kind: Kind, m: Maturity) -> Line
     session_lines::extend(back, b'\n')
 }
 
-// The bytes of a line from a place of a buffer on, and the place after them.
-fn append(out: &mut [u8], at: usize, line: Line) -> usize
-    requires { (line.length ≤ 64) × (at + 64 ≤ length out.old) }
-    ensures { (result ≡ at + line.length) × (out.new ≡ paste out.old at line.bytes line.length) }
-{
-    let bytes = line.bytes;
-    let n = line.length;
-    let mut i: usize = 0;
-    while i < n {
-        out[at + i] = bytes[i];
-        i += 1;
-    }
-    at + n
-}
-
 // The rows of the first n maturities.
 fn put_rows(
     out: &mut [u8],
@@ -63,11 +47,9 @@ fn put_rows(
     ensures { RowsIn out.old out.new at result (rows_first id kind maturities n) }
 {
     let mut next = at;
-    let mut i: usize = 0;
-    while i < n {
+    for i in 0..n {
         let m = maturities[i];
-        next = append(out, next, row_line(id, kind, m));
-        i += 1;
+        next = file_text_print::append(out, next, row_line(id, kind, m));
     }
     next
 }

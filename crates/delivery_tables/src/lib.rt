@@ -114,12 +114,10 @@ fn run_notices(
     ensures { NoticesMade (table_with start closed.old exchange.old) id (notices_to calls.now ids.now count) refusals.old refusals.new (table_with result closed.new exchange.new) }
 {
     let mut rest = start;
-    let mut i: u32 = 0;
-    while i < count {
+    for i in 0..count {
         let o = notice_at(file, judged, rest, ten, id, closed, exchange, calls, ids, i);
         refusals[i as usize] = o.refusal;
         rest = o.rest;
-        i += 1;
     }
     rest
 }

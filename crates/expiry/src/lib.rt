@@ -67,16 +67,14 @@ pub fn anchor(kind: Kind, group: [u8; 4], key: u16) -> u16
 fn trading_day_before_in(cover: Cover, closed: &[u8], anchor: u16) -> LastDay
     ensures { result ≡ stepped_to anchor (latest (trading_day (calendar_with cover closed.now)) (anchor - 1)) }
 {
-    let mut day = anchor;
     let mut back: u16 = 0;
-    while 0 < day {
-        day -= 1;
+    for day in (0..anchor).rev() {
         back += 1;
         if calendar::is_trading_day_in(cover, closed, day) {
             return LastDay { day, back };
         }
     }
-    LastDay { day, back }
+    LastDay { day: 0, back }
 }
 
 // The anchor if it is a trading day, else the latest trading day before it, and the steps made back to it. By the cover and the lent maps.

@@ -1,6 +1,7 @@
 -- The blocks of a master file: their numbers, checks and headers (01, Master file; questions 1 to 3).
 -- Assumes nothing.
-use Rattle.std.specs.Prelude.{ℕ, zero, suc, ◌+◌, ◌*◌, ◌/◌, ◌%◌, Bool, ◌&&◌, ◌||◌, cond, List, [], length, take, drop, get_or, eqb, leb, ltb}
+use Rattle.std.specs.Prelude.{ℕ, zero, suc, ◌+◌, ◌*◌, ◌/◌, ◌%◌, Bool, ◌&&◌, ◌||◌, cond, List, [], length, map, take, drop, get_or, eqb, leb, ltb}
+use Rattle.std.specs.List.{range_with_len}
 use Rattle.questions.specs.Search.{every}
 
 -- 'Blocks of 512 bytes':
@@ -11,6 +12,10 @@ block_count f = length f / 512
 -- block k, from 0; no bytes where the file has no whole block k
 unfoldable pub block_of : List ℕ → ℕ → List ℕ
 block_of f k = cond (ltb k (block_count f)) (take 512 (drop (512 * k) f)) []
+
+-- the whole blocks of a file, from block 0 on
+unfoldable pub blocks_of : List ℕ → List (List ℕ)
+blocks_of f = map (block_of f) (range_with_len 0 (block_count f))
 
 -- 'integers big-endian':
 -- the number in byte `at` and the next; a byte past the end counts as 0

@@ -2,84 +2,64 @@
 #![tactic(auto)]
 
 ghost use Rattle.std.specs.Prelude.{◌≡◌, ◌&&◌, ◌+◌, ◌*◌, ◌%◌, ◌≤◌, ◌<◌, eqb, length, get_or};
-ghost use Rattle.file_blocks.specs.Blocks.{block_count, block_of, number_at, zeros, weighted_sum, check_right, block_kind_right, header_right, length_right, checks_right, headers_right};
+ghost use Rattle.file_blocks.specs.Blocks.{block_count, block_of, blocks_of, number_at, zeros, weighted_sum, check_right, block_kind_right, header_right, length_right, checks_right, headers_right};
 
 // A byte; one past the end counts as 0.
 pub fn byte_at(bytes: &[u8], at: usize) -> u8
     ensures { result ≡ get_or bytes.now at 0 }
 {
-    if at < bytes.len() {
-        return bytes[at];
-    }
-    0
-}
-
-fn wide(byte: u8) -> usize
-    ensures { (result ≡ byte) × (result < 256) }
-{
-    byte as usize
+    bytes.get(at).copied().unwrap_or(0)
 }
 
 // The big-endian number in two bytes.
 pub fn number_at(bytes: &[u8], at: u16) -> usize
     ensures { (result ≡ number_at bytes.now at) × (result < 65536) }
 {
-    let first = at as usize;
-    256 * wide(byte_at(bytes, first)) + wide(byte_at(bytes, first + 1))
-}
-
-// Whether bytes are zero, each by itself; one past the end counts as 0.
-fn each_zero(bytes: &[u8], at: u16, n: u16) -> bool
-    ensures { result ≡ zeros bytes.now at n }
-{
-    let first = at as usize;
-    let count = n as usize;
-    let mut i: usize = 0;
-    while i < count {
-        if byte_at(bytes, first + i) != 0 {
-            return false;
-        }
-        i += 1;
-    }
-    true
+    let first = usize::from(at);
+    usize::from(u16::from_be_bytes([byte_at(bytes, first), byte_at(bytes, first + 1)]))
 }
 
 // The bits that some bytes have together; the compiler reads many bytes at once.
-fn bits_of(bytes: &[u8], first: usize, count: usize) -> u8
-    requires { first + count ≤ length bytes.now }
-    ensures { eqb result 0 ≡ zeros bytes.now first count }
+fn bits_of(bytes: &[u8]) -> u8
+    ensures { eqb result 0 ≡ zeros bytes.now 0 (length bytes.now) }
 {
     let mut bits: u8 = 0;
-    let mut i: usize = 0;
-    while i < count {
-        bits = bits | bytes[first + i];
-        i += 1;
+    for byte in bytes {
+        bits |= *byte;
     }
     bits
 }
 
-// Whether n bytes from a byte on are zero.
+// Whether n bytes from a byte on are zero; one past the end counts as 0.
 pub fn are_zero(bytes: &[u8], at: u16, n: u16) -> bool
     ensures { result ≡ zeros bytes.now at n }
 {
-    let first = at as usize;
-    let count = n as usize;
-    if bytes.len() < first + count {
-        return each_zero(bytes, at, n);
+    let first = usize::from(at);
+    let end = first + usize::from(n);
+    if end <= bytes.len() {
+        return bits_of(&bytes[first..end]) == 0;
     }
-    bits_of(bytes, first, count) == 0
+    bits_of(&bytes[first.min(bytes.len())..bytes.len()]) == 0
+}
+
+// A block.
+pub type Block = [u8; 512];
+
+// The whole blocks of a file.
+pub fn blocks(file: &[u8]) -> &[Block]
+    ensures { (result.now ≡ blocks_of file.now) × (length result.now ≡ block_count file.now) }
+{
+    file.as_chunks().0
 }
 
 // A block of the file; no bytes where the file has no such block.
 pub fn block_at(file: &[u8], k: usize) -> &[u8]
     ensures { (result.now ≡ block_of file.now k) × (k < block_count file.now → length result.now ≡ 512) }
 {
-    if file.len() / 512 <= k {
-        return &file[0..0];
+    match blocks(file).get(k) {
+        Some(block) => block,
+        None => &[],
     }
-    let start = 512 * k;
-    let end = start + 512;
-    &file[start..end]
 }
 
 // Question 1.
@@ -88,12 +68,6 @@ pub fn length_right(file: &[u8]) -> bool
 {
     let n = file.len();
     (n % 512 == 0) & (1024 <= n) & (n <= 65536)
-}
-
-fn weight(byte: u8) -> u16
-    ensures { (result ≡ byte) × (result < 256) }
-{
-    byte as u16
 }
 
 // Bytes i and 255 + i, each times its place from 1. Each product fits 16 bits, so the compiler multiplies many at once.
@@ -105,17 +79,14 @@ fn two_terms(i: u16, first: u16, second: u16) -> u32
 }
 
 // The sum of each of the first 510 bytes of a block times its place from 1.
-fn weighted_sum(bytes: &[u8]) -> u32
-    requires { length bytes.now ≡ 512 }
-    ensures { result ≡ weighted_sum bytes.now 510 }
+fn weighted_sum(block: &Block) -> u32
+    ensures { result ≡ weighted_sum block.now 510 }
 {
     let mut sum: u32 = 0;
-    let mut i: u16 = 0;
-    while i < 255 {
-        let first = weight(bytes[i as usize]);
-        let second = weight(bytes[255 + i as usize]);
+    for i in 0..255 {
+        let first = u16::from(block[usize::from(i)]);
+        let second = u16::from(block[255 + usize::from(i)]);
         sum += two_terms(i, first, second);
-        i += 1;
     }
     sum
 }
@@ -127,37 +98,28 @@ pub fn check_of(block: [u8; 512]) -> u16
     (weighted_sum(&block) % 65521) as u16
 }
 
+// Whether a block's check is right.
+fn check_right(block: &Block) -> bool
+    ensures { result ≡ check_right block.now }
+{
+    (weighted_sum(block) % 65521) as usize == number_at(block, 510)
+}
+
 // Question 2, of a lent block: whether it is one, of 512 bytes, and its check is right.
 pub fn block_check_right(b: &[u8]) -> bool
     ensures { result ≡ (eqb (length b.now) 512 && check_right b.now) }
 {
-    if b.len() != 512 {
-        return false;
+    match <&Block>::try_from(b) {
+        Ok(block) => check_right(block),
+        Err(_) => false,
     }
-    (weighted_sum(b) % 65521) as usize == number_at(b, 510)
-}
-
-// The same of a block of the file.
-fn check_right(file: &[u8], k: usize) -> bool
-    requires { k < block_count file.now }
-    ensures { result ≡ check_right (block_of file.now k) }
-{
-    block_check_right(block_at(file, k))
 }
 
 // Question 2.
 pub fn checks_right(file: &[u8]) -> bool
     ensures { result ≡ checks_right file.now }
 {
-    let blocks = file.len() / 512;
-    let mut k: usize = 0;
-    while k < blocks {
-        if !check_right(file, k) {
-            return false;
-        }
-        k += 1;
-    }
-    true
+    blocks(file).iter().all(check_right)
 }
 
 // Whether a block is of a kind, with a year or a count in its range.
@@ -176,24 +138,12 @@ pub fn block_header_right(b: &[u8], k: usize) -> bool
     block_kind_right(b) & (byte_at(b, 1) == 1) & (number_at(b, 4) == k) & are_zero(b, 6, 10)
 }
 
-// The same of a block of the file.
-fn header_right(file: &[u8], k: usize) -> bool
-    ensures { result ≡ header_right (block_of file.now k) k }
-{
-    block_header_right(block_at(file, k), k)
-}
-
 // Question 3.
 pub fn headers_right(file: &[u8]) -> bool
     ensures { result ≡ headers_right file.now }
 {
-    let blocks = file.len() / 512;
-    let mut k: usize = 0;
-    while k < blocks {
-        if !header_right(file, k) {
-            return false;
-        }
-        k += 1;
-    }
-    true
+    blocks(file)
+        .iter()
+        .enumerate()
+        .all(|(k, block)| block_header_right(block, k))
 }

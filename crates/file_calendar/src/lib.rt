@@ -1,15 +1,18 @@
 // The calendar blocks of a master file: question 4, and the calendar that they make.
 #![tactic(auto)]
 
-ghost use Rattle.std.specs.Prelude.{◌≡◌, ◌≤◌, ◌<◌};
+ghost use Rattle.std.specs.Prelude.{◌≡◌, ◌&&◌, cond, ◌+◌, ◌≤◌, ◌<◌, eqb, ltb};
 ghost use Rattle.questions.specs.Search.{every};
-ghost use Rattle.calendar.specs.Trading.{may_close, bits_clean};
-ghost use Rattle.file_blocks.specs.Blocks.{block_count, block_of, number_at, zeros};
+ghost use Rattle.questions.specs.Refusals.{result_answer};
+ghost use Rattle.calendar.specs.Trading.{may_close, bits_clean, zero_calendar};
+ghost use Rattle.file_blocks.specs.Blocks.{block_count, block_of, number_at, zeros, is_calendar, is_products};
 ghost use Rattle.file_calendar.specs.Calendars.{year_count, in_order, order_right, map_bit, day_clean, block_clean, maps_from, calendar_blocks, calendar_of, calendar_answer, refused_file, order_call};
 
 use calendar::{Calendar, Cover};
+use file_blocks::Block;
+use questions::Refusal;
 
-// A refusal, or 0 and the file's calendar.
+// A refusal, or 0 and the file's calendar. A program in C keeps it and can hand it in with any number, so the refusal is a number here.
 #[repr(C)]
 #[derive(Clone, Copy)]
 pub struct FileCalendar {
@@ -21,29 +24,21 @@ pub struct FileCalendar {
 fn year_count(file: &[u8]) -> usize
     ensures { (result ≡ year_count file.now) × (result ≤ block_count file.now) }
 {
-    let blocks = file.len() / 512;
-    let mut years: usize = 0;
-    let mut k: usize = 0;
-    while k < blocks {
-        if file_blocks::byte_at(file_blocks::block_at(file, k), 0) == 1 {
-            years += 1;
-        }
-        k += 1;
-    }
-    years
+    file_blocks::blocks(file)
+        .iter()
+        .filter(|block| block[0] == 1)
+        .count()
 }
 
-// Whether a block is of the kind, and of the year, that its place asks for.
-fn in_order(file: &[u8], k: usize, years: usize, first: usize) -> bool
-    requires { (years ≡ year_count file.now) × (years ≤ 16) × (first ≡ number_at (block_of file.now 0) 2) × (first < 65536) }
-    ensures { result ≡ in_order file.now k }
+// Whether block k is of the kind, and of the year, that its place asks for, in a file of so many years from the first on.
+fn in_order(block: &Block, k: usize, years: usize, first: usize) -> bool
+    requires { (years ≤ 16) × (first < 65536) }
+    ensures { result ≡ cond (ltb k years) (is_calendar block.now && eqb (number_at block.now 2) (first + k)) (is_products block.now) }
 {
-    let b = file_blocks::block_at(file, k);
-    let kind = file_blocks::byte_at(b, 0);
     if k < years {
-        return (kind == 1) & (file_blocks::number_at(b, 2) == first + k);
+        return (block[0] == 1) & (file_blocks::number_at(block, 2) == first + k);
     }
-    kind == 2
+    block[0] == 2
 }
 
 // The same of every block.
@@ -51,16 +46,11 @@ fn all_in_order(file: &[u8], years: usize) -> bool
     requires { (years ≡ year_count file.now) × (years ≤ 16) }
     ensures { result ≡ every (block_count file.now) (in_order file.now) }
 {
-    let blocks = file.len() / 512;
     let first = file_blocks::number_at(file_blocks::block_at(file, 0), 2);
-    let mut k: usize = 0;
-    while k < blocks {
-        if !in_order(file, k, years, first) {
-            return false;
-        }
-        k += 1;
-    }
-    true
+    file_blocks::blocks(file)
+        .iter()
+        .enumerate()
+        .all(|(k, block)| in_order(block, k, years, first))
 }
 
 // Question 4, of a file with its years counted.
@@ -84,7 +74,7 @@ fn order_right(file: &[u8], years: usize) -> bool
 pub fn map_bit(b: &[u8], at: u16, n: u16) -> bool
     ensures { result ≡ map_bit at b.now n }
 {
-    let byte = file_blocks::byte_at(b, (at as usize) + (n / 8) as usize);
+    let byte = file_blocks::byte_at(b, usize::from(at) + usize::from(n / 8));
     (byte >> (7 - n % 8)) % 2 == 1
 }
 
@@ -103,14 +93,7 @@ fn days_clean(b: &[u8]) -> bool
     ensures { result ≡ every 368 (day_clean b.now) }
 {
     let year = file_blocks::number_at(b, 2) as u16;
-    let mut n: u16 = 0;
-    while n < 368 {
-        if !day_clean(b, year, n) {
-            return false;
-        }
-        n += 1;
-    }
-    true
+    (0..368).all(|n| day_clean(b, year, n))
 }
 
 // Question 5, of a lent calendar block. Of a whole file it is asked of the calendar, eight weeks at a time.
@@ -126,11 +109,8 @@ fn maps_from(file: &[u8], years: usize, at: usize) -> [u8; 736]
     ensures { result ≡ maps_from at file.now years }
 {
     let mut maps = [0u8; 736];
-    let n = 46 * years;
-    let mut i: usize = 0;
-    while i < n {
+    for i in 0..46 * years {
         maps[i] = file[512 * (i / 46) + (at + i % 46)];
-        i += 1;
     }
     maps
 }
@@ -175,31 +155,35 @@ pub fn refused_file(number: u8) -> FileCalendar
     }
 }
 
+// A file's calendar or its refusal, as the struct for C.
+impl From<Result<Calendar, Refusal>> for FileCalendar {
+    ghost from_gives = { λ x y. calendar_answer y ≡ result_answer zero_calendar x };
+
+    fn from(judged: Result<Calendar, Refusal>) -> FileCalendar {
+        match judged {
+            Ok(calendar) => FileCalendar {
+                refusal: 0,
+                calendar,
+            },
+            Err(refusal) => refused_file(refusal.number()),
+        }
+    }
+}
+
 // Question 4 and, where it is answered yes, the file's calendar: its years are counted once for both.
-pub fn ordered_calendar(file: &[u8]) -> FileCalendar
-    ensures { calendar_answer result ≡ order_call file.now }
+pub fn ordered_calendar(file: &[u8]) -> Result<Calendar, Refusal>
+    ensures { result_answer zero_calendar result ≡ order_call file.now }
 {
     let years = year_count(file);
     if !order_right(file, years) {
-        return refused_file(4);
+        return Err(Refusal::WrongBlocks);
     }
-    let calendar = calendar_blocks(file, years);
-    FileCalendar {
-        refusal: 0,
-        calendar,
-    }
+    Ok(calendar_blocks(file, years))
 }
 
 // Whether bytes 108 to 509 of the first blocks are zero.
 pub fn tails_zero(file: &[u8], years: usize) -> bool
     ensures { result ≡ every years (λ k. zeros (block_of file.now k) 108 402) }
 {
-    let mut k: usize = 0;
-    while k < years {
-        if !file_blocks::are_zero(file_blocks::block_at(file, k), 108, 402) {
-            return false;
-        }
-        k += 1;
-    }
-    true
+    (0..years).all(|k| file_blocks::are_zero(file_blocks::block_at(file, k), 108, 402))
 }

@@ -1,19 +1,21 @@
 -- Question 3 by the first year and the count of years; the maps of the cover's years.
 -- Assumes nothing.
 use Prim.Native.Nat.{ℕ, ◌+◌, ◌-◌, ◌*◌, ◌≤◌, ◌<◌}
-use mathlib.Core.Path.{◌≡◌, ◌∙◌, ap}
+use mathlib.Core.Path.{◌≡◌, ◌∙◌, sym, ap, ap₂}
 use mathlib.Core.Bool.{Bool, true, false, ◌&&◌, and-false}
-use mathlib.Core.List.{List}
+use mathlib.Core.List.{List, ◌++◌}
+use mathlib.Core.Logic.{◌⊎◌, inl, inr}
 use native.Mathlib.Omega.{arith}
 use lib.Dec.{leb}
-use lib.ListN.{get_or}
+use lib.ListN.{length, get_or, take, drop, replicate, length-append, length-drop, length-replicate, get_or-append, get_or-replicate}
+use lib.Seq.{length-take-le, get_or-append_right, get_or-drop, get_or-take}
 use borrow.Author.Tests.{le-leb, lt-leb, leb-true}
 use Rattle.questions.specs.Search.{every}
-use Rattle.questions.proofs.Bools.{both, and_both, same_test}
+use Rattle.questions.proofs.Bools.{both, and_both, same_test, lt-or-ge}
 use Rattle.questions.proofs.Search.{every-at, every-all, every-not}
 use Rattle.calendar.specs.declared.Cover.{Cover}
 use Rattle.file_calendar.specs.Calendars.{listed, up_to}
-use Rattle.file_calendar.proofs.Filling.{Filled, filled-all}
+use Rattle.file_calendar.proofs.Filling.{filled-all, up_in, up-out}
 use Rattle.file_draft.specs.Drafts.{years_right, years_of_map}
 
 module _ (c : Cover) where
@@ -56,8 +58,29 @@ module _ (c : Cover) where
       and_both (le-leb 2000 (first + k) (omega arith))
       (le-leb (first + k) 2099 (omega (arith, leb-true years (2100 - first) e)))))
 
--- a list of zeros that was filled with a map up to the cover's last year
-pub years-kept : (map kept : List ℕ) (years i : ℕ) → i ≡ 46 * years → Filled (λ j. get_or map j 0) 736 i kept → kept ≡ years_of_map years map
+-- the bytes of the cover's years, and after them the zeros that stood there
+pub years-kept : (map front zeros : List ℕ) (years n : ℕ) → n ≡ 46 * years → n ≤ 736 → zeros ≡ replicate 736 0 → length front ≡ length (take n zeros) → front ≡ take n map
+    → front ++ drop n zeros ≡ years_of_map years map
 unfolding years_of_map
-years-kept map kept years i e r =
-    filled-all _ 736 i kept r ∙ ap (λ (n : ℕ). listed 0 736 (up_to n (λ j. get_or map j 0))) e
+years-kept map front zeros years n e most z as-long same =
+    filled-all value 736 n (front ++ drop n zeros) (record { long = whole; each = λ k h. each k h (lt-or-ge k n) }) ∙ ap (λ (m : ℕ). listed 0 736 (up_to m value)) e
+  where
+    value : ℕ → ℕ
+    value j = get_or map j 0
+
+    long : length front ≡ n
+    long = as-long ∙ length-take-le n zeros (omega (arith, ap length z, length-replicate {A = ℕ} 736 0))
+
+    whole : length (front ++ drop n zeros) ≡ 736
+    whole = length-append front (drop n zeros) ∙ ap₂ ◌+◌ long (length-drop n zeros ∙ ap (λ (l : List ℕ). length l - n) z) ∙ omega (arith, length-replicate {A = ℕ} 736 0)
+
+    each : (k : ℕ) → k < 736 → (k < n) ⊎ (n ≤ k) → get_or (front ++ drop n zeros) k 0 ≡ up_to n value k
+    each k h (inl l) =
+        get_or-append front (drop n zeros) 0 k (omega (arith, long)) ∙ ap (λ (m : List ℕ). get_or m k 0) same ∙ get_or-take n map k 0 l ∙ sym (up_in value n k l)
+    each k h (inr g) =
+        get_or-append_right front (drop n zeros) k 0 (omega (arith, long))
+        ∙ ap (λ (m : ℕ). get_or (drop n zeros) (k - m) 0) long
+        ∙ get_or-drop n zeros (k - n) 0
+        ∙ ap (λ (l : List ℕ). get_or l (n + (k - n)) 0) z
+        ∙ get_or-replicate 736 (n + (k - n)) 0 0 (omega arith)
+        ∙ sym (up-out value n k g)

@@ -3,9 +3,11 @@
 
 ghost use Rattle.std.specs.Prelude.{◌≡◌, ◌&&◌, ◌+◌, ◌*◌, ◌/◌, ◌%◌, ◌≤◌, ◌<◌, leb, length};
 ghost use Rattle.questions.specs.Questions.{first_no};
+ghost use Rattle.questions.specs.Refusals.{result_answer};
 ghost use Rattle.file_draft.specs.Drafts.{list_record, list_id, blocks_in, write_asks, years_right, counts_right, years_of_map, within_cover, list_right, list_rises};
 
 use calendar::{Calendar, Cover};
+use questions::Refusal;
 
 // Question 3, by the years of the cover.
 fn years_right(cover: Cover) -> bool
@@ -40,11 +42,7 @@ fn years_of_map(map: [u8; 736], years: u16) -> [u8; 736]
 {
     let mut kept = [0u8; 736];
     let n = 46 * (years as usize);
-    let mut i: usize = 0;
-    while i < n {
-        kept[i] = map[i];
-        i += 1;
-    }
+    kept[..n].copy_from_slice(&map[..n]);
     kept
 }
 
@@ -80,13 +78,10 @@ fn list_record(records: &[u8], i: usize) -> &[u8]
 fn list_right(records: &[u8]) -> bool
     ensures { result ≡ list_right records.now }
 {
-    let n = records.len() / 32;
-    let mut i: usize = 0;
-    while i < n {
+    for i in 0..records.len() / 32 {
         if !file_records::record_right(list_record(records, i)) {
             return false;
         }
-        i += 1;
     }
     true
 }
@@ -103,13 +98,10 @@ fn list_id(records: &[u8], i: usize) -> file_records::FourBytes
 fn list_rises(records: &[u8]) -> bool
     ensures { result ≡ list_rises records.now }
 {
-    let n = records.len() / 32;
-    let mut i: usize = 0;
-    while i + 1 < n {
-        if !file_ids::id_rises(list_id(records, i), list_id(records, i + 1)) {
+    for i in 1..records.len() / 32 {
+        if !file_ids::id_rises(list_id(records, i - 1), list_id(records, i)) {
             return false;
         }
-        i += 1;
     }
     true
 }
@@ -134,35 +126,35 @@ fn has_room(blocks: usize, room: usize) -> bool
     512 * blocks <= room
 }
 
-// The number of the first question answered no, 0 where there is none: 3 to 8 of the file, then 25.
-pub fn judge(calendar: Calendar, records: &[u8], room: usize) -> u8
-    ensures { result ≡ first_no (write_asks calendar records.now room) }
+// The first question answered no, where there is one: 3 to 8 of the file, then 25.
+pub fn judge(calendar: Calendar, records: &[u8], room: usize) -> Result<(), Refusal>
+    ensures { (result_answer tt result).refusal ≡ first_no (write_asks calendar records.now room) }
 {
     let cover = calendar.cover;
     if !years_right(cover) {
-        return 3;
+        return Err(Refusal::WrongHeader);
     }
     if !counts_right(cover, records) {
-        return 4;
+        return Err(Refusal::WrongBlocks);
     }
     let held = within_cover(calendar);
     if !calendar_checks::is_clean(held) {
-        return 5;
+        return Err(Refusal::UncleanCalendar);
     }
     if !calendar_checks::every_week_trades(held) {
-        return 6;
+        return Err(Refusal::IdleWeek);
     }
     if records.len() % 32 != 0 {
-        return 7;
+        return Err(Refusal::WrongRecord);
     }
     if !list_right(records) {
-        return 7;
+        return Err(Refusal::WrongRecord);
     }
     if !list_rises(records) {
-        return 8;
+        return Err(Refusal::IdsNotRising);
     }
     if !has_room(blocks_in(calendar, records), room) {
-        return 25;
+        return Err(Refusal::NoRoomForFile);
     }
-    0
+    Ok(())
 }

@@ -146,10 +146,8 @@ fn idle_after(b: &[u8], idle: u16) -> u16
     }
     let days = days_in(file_records::field_at(b, 2));
     let mut run = idle;
-    let mut n: u16 = 0;
-    while n < days {
+    for n in 0..days {
         run = idle_next(day_trades(b, n), run);
-        n += 1;
     }
     run
 }
@@ -164,13 +162,11 @@ fn weeks_go_on(b: &[u8], idle: u16) -> bool
     }
     let days = days_in(file_records::field_at(b, 2));
     let mut run = idle;
-    let mut n: u16 = 0;
-    while n < days {
+    for n in 0..days {
         run = idle_next(day_trades(b, n), run);
         if 7 <= run {
             return false;
         }
-        n += 1;
     }
     true
 }
@@ -402,10 +398,8 @@ fn hand_over_all(file: &[u8]) -> Intake
     let n = file.len() / 512;
     let first = announce(n as u16);
     let mut state = first.state;
-    let mut k: usize = 0;
-    while k < n {
+    for k in 0..n {
         state = hand_over(state, file, k);
-        k += 1;
     }
     state
 }

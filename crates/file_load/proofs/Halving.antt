@@ -5,14 +5,15 @@
 use mathlib.Core.Path.{◌≡◌, refl, ◌∙◌, sym, ap}
 use mathlib.Core.Bool.{Bool, true, false, not, ◌&&◌, ◌||◌, cond}
 use mathlib.Core.Logic.{◌⊎◌, inl, inr}
-use mathlib.Core.List.{List}
+use mathlib.Core.List.{List, [], ◌∷◌}
 use Prim.Native.Nat.{ℕ, zero, suc, ◌+◌, ◌-◌, ◌*◌, ◌/◌, ◌%◌, ◌≤◌, ◌<◌}
 use native.Mathlib.Numerals.{add-one}
 use native.Mathlib.Omega.{arith}
-use lib.Dec.{ltb}
+use lib.Dec.{ltb, eqb, leb}
 use lib.ListN.{get_or}
-use borrow.Author.Tests.{ltb-true, lt-ltb, eqb-true, not-true}
+use borrow.Author.Tests.{ltb-true, lt-ltb, leb-true, eqb-true, not-true}
 use Rattle.questions.specs.Questions.{first_no}
+use Rattle.questions.specs.Search.{every}
 use Rattle.questions.proofs.Bools.{clash, both, and-fst, and-snd, and_both, is_false, lt-or-ge}
 use Rattle.questions.proofs.Search.{every-at}
 use Rattle.file_blocks.specs.Blocks.{block_count, block_of, is_products, records_of_block, header_right, headers_right}
@@ -42,6 +43,20 @@ module _ (test : ℕ → Bool) where
   halved-next (suc n) w k h =
       let e : suc n - 1 ≡ n = omega arith in
       ap (λ (m : ℕ). halved test m (w / 2) (stepped test w k)) (sym e)
+
+-- the widths of the seven steps
+abbrev pub widths : List ℕ
+widths = 64 ∷ 32 ∷ 16 ∷ 8 ∷ 4 ∷ 2 ∷ 1 ∷ []
+
+-- each step is half as wide as the one before it
+pub half-next : (i : ℕ) → i < 7 → get_or widths i 0 / 2 ≡ get_or widths (i + 1) 0
+unfolding every
+half-next i h = eqb-true _ _ (every-at (λ k. eqb (get_or widths k 0 / 2) (get_or widths (k + 1) 0)) 7 i refl h)
+
+-- no step is wider than 64 blocks
+pub width-most : (i : ℕ) → i < 7 → get_or widths i 0 ≤ 64
+unfolding every
+width-most i h = leb-true _ _ (every-at (λ k. leb (get_or widths k 0) 64) 7 i refl h)
 
 -- a block that begins by an id is in the file
 pub begins-inside : (f id : List ℕ) (k : ℕ) → begins_by f id k ≡ true → k < block_count f

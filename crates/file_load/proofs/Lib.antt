@@ -3,3 +3,4 @@ pub mod RisingIds
 pub mod LoadAnswers
 pub mod Accepting
 pub mod Halving
+mod SameIds

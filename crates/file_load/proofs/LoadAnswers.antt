@@ -7,7 +7,7 @@ use mathlib.Core.List.{List, [], ◌∷◌}
 use Prim.Native.Nat.{ℕ, zero, suc, ◌/◌, ◌%◌, ◌≤◌, ◌<◌}
 use native.Mathlib.Omega.{arith}
 use lib.Dec.{eqb, leb, ltb}
-use lib.ListN.{length}
+use lib.ListN.{length, drop}
 use borrow.Author.Tests.{leb-true, lt-ltb, le-ltb}
 use Rattle.questions.specs.Questions.{Ask, ask, first_no, Answer, answer}
 use Rattle.questions.proofs.Asks.{no-asks, first-yes, first-no, none-no, accepted, refused}
@@ -16,7 +16,7 @@ use Rattle.questions.specs.Search.{every}
 use Rattle.file_blocks.specs.Blocks.{block_count, block_of, zeros, length_right, checks_right, headers_right}
 use Rattle.calendar.specs.Trading.{zero_calendar}
 use Rattle.calendar.specs.declared.Calendar.{Calendar}
-use Rattle.file_calendar.specs.Calendars.{year_count, order_right, calendars_clean, calendar_of, calendar_answer, refused_file, order_call, weeks_right}
+use Rattle.file_calendar.specs.Calendars.{year_count, order_right, calendars_clean, calendar_of, calendar_answer, order_call, weeks_right}
 use Rattle.file_calendar.specs.declared.FileCalendar.{FileCalendar}
 use Rattle.file_calendar.proofs.CalendarBlocks.{ordered, calendar-is}
 use Rattle.file_records.specs.Records.{products_right}
@@ -69,7 +69,7 @@ pub tails-are : (f : List ℕ) (r : Bool) (n : ℕ) → r ≡ every n (λ k. zer
 tails-are f r n e y = e ∙ ap (λ (m : ℕ). every m (λ k. zeros (block_of f k) 108 402)) y
 
 -- what question 4 says of the calendar given with its answer
-module _ (f : List ℕ) (r : FileCalendar) (e : calendar_answer r ≡ order_call f) where
+module _ (f : List ℕ) (r : Answer Calendar) (e : r ≡ order_call f) where
   order-refusal : r.refusal ≡ first_no (ask 4 (order_right f) ∷ [])
   unfolding order_call answer
   order-refusal = ap (λ (a : Answer Calendar). a.refusal) e
@@ -83,7 +83,7 @@ module _ (f : List ℕ) (r : FileCalendar) (e : calendar_answer r ≡ order_call
   order-no h = is_false _ (λ t. h (order-refusal ∙ first-yes 4 [] t ∙ no-asks))
 
   -- an answer to question 4 without a refusal has the file's calendar
-  pub order-calendar : r.refusal ≡ 0 → r.calendar ≡ calendar_of f
+  pub order-calendar : r.refusal ≡ 0 → r.value ≡ calendar_of f
   unfolding order_call
   order-calendar z =
       ap (λ (a : Answer Calendar). a.value)
@@ -91,9 +91,16 @@ module _ (f : List ℕ) (r : FileCalendar) (e : calendar_answer r ≡ order_call
 
 -- where the first of the questions left is answered no, the file is answered with its number and no calendar
 pub judge-refused : (f : List ℕ) (n : ℕ) {b : Bool} (rest : List Ask) → first_no (load_asks f) ≡ first_no (ask (suc n) b ∷ rest) → b ≡ false
-    → calendar_answer (refused_file (suc n)) ≡ judge_call f
+    → judge_call f ≡ record { refusal = suc n; value = zero_calendar }
 unfolding judge_call
-judge-refused f n rest e h = sym (refused (load_asks f) zero_calendar (calendar_of f) n (e ∙ first-no (suc n) rest h))
+judge-refused f n rest e h = refused (load_asks f) zero_calendar (calendar_of f) n (e ∙ first-no (suc n) rest h)
+
+-- a refusal by question 4, where the three before it are answered yes, is the file's
+pub order-stops : (f : List ℕ) (r : Answer Calendar) → r ≡ order_call f → (r.refusal ≡ 0 → ⊥) → first_no (load_asks f) ≡ first_no (drop 3 (load_asks f)) → r ≡ judge_call f
+unfolding order_call load_asks
+order-stops f r e h p =
+    let no = order-no f r e h in
+    e ∙ refused (ask 4 (order_right f) ∷ []) zero_calendar (calendar_of f) 3 (first-no 4 [] no) ∙ sym (judge-refused f 3 _ p no)
 
 -- a file that load accepts is answered with refusal 0 and the file's calendar
 pub judge-accepted : (f : List ℕ) → first_no (load_asks f) ≡ 0 → judge_call f ≡ record { refusal = 0; value = calendar_of f }

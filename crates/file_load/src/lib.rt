@@ -2,6 +2,8 @@
 #![tactic(auto)]
 
 ghost use Rattle.std.specs.Prelude.{◌≡◌, true, ◌+◌, ◌*◌, ◌≤◌, ◌<◌};
+ghost use Rattle.questions.specs.Refusals.{result_answer};
+ghost use Rattle.calendar.specs.Trading.{zero_calendar};
 ghost use Rattle.file_blocks.specs.Blocks.{block_count};
 ghost use Rattle.file_calendar.specs.Calendars.{order_right, calendar_of, calendar_answer, calendars_clean};
 ghost use Rattle.file_load.specs.Products.{same_id, product_from, product_at};
@@ -10,7 +12,8 @@ ghost use Rattle.file_load.specs.Halves.{begins_by, stepped, block_by_halves, fi
 
 use calendar::Calendar;
 use file_calendar::FileCalendar;
-use product::Product;
+use product::{Kind, Product};
+use questions::Refusal;
 
 // The counts of years and of records.
 #[repr(C)]
@@ -59,36 +62,39 @@ fn calendars_clean(file: &[u8], cal: Calendar) -> bool
 }
 
 // Questions 1 to 8, and the file's calendar, which is made once, for 5 and 6 and for what follows.
+fn judged(file: &[u8]) -> Result<Calendar, Refusal>
+    ensures { result_answer zero_calendar result ≡ judge_call file.now }
+{
+    if !file_blocks::length_right(file) {
+        return Err(Refusal::WrongLength);
+    }
+    if !file_blocks::checks_right(file) {
+        return Err(Refusal::WrongCheck);
+    }
+    if !file_blocks::headers_right(file) {
+        return Err(Refusal::WrongHeader);
+    }
+    let cal = file_calendar::ordered_calendar(file)?;
+    if !calendars_clean(file, cal) {
+        return Err(Refusal::UncleanCalendar);
+    }
+    if !calendar_checks::every_week_trades(cal) {
+        return Err(Refusal::IdleWeek);
+    }
+    if !file_records::products_right(file) {
+        return Err(Refusal::WrongRecord);
+    }
+    if !file_ids::ids_rise(file) {
+        return Err(Refusal::IdsNotRising);
+    }
+    Ok(cal)
+}
+
+// The same, as the struct for C.
 pub fn judge(file: &[u8]) -> FileCalendar
     ensures { calendar_answer result ≡ judge_call file.now }
 {
-    if !file_blocks::length_right(file) {
-        return file_calendar::refused_file(1);
-    }
-    if !file_blocks::checks_right(file) {
-        return file_calendar::refused_file(2);
-    }
-    if !file_blocks::headers_right(file) {
-        return file_calendar::refused_file(3);
-    }
-    let ordered = file_calendar::ordered_calendar(file);
-    if ordered.refusal != 0 {
-        return file_calendar::refused_file(4);
-    }
-    let cal = ordered.calendar;
-    if !calendars_clean(file, cal) {
-        return file_calendar::refused_file(5);
-    }
-    if !calendar_checks::every_week_trades(cal) {
-        return file_calendar::refused_file(6);
-    }
-    if !file_records::products_right(file) {
-        return file_calendar::refused_file(7);
-    }
-    if !file_ids::ids_rise(file) {
-        return file_calendar::refused_file(8);
-    }
-    ordered
+    judged(file).into()
 }
 
 // Questions 1 to 8, and the counts of years and of records.
@@ -122,7 +128,7 @@ fn product_from(r: &[u8]) -> Product
     let id = file_records::four_at(r, 0);
     let group = file_records::four_at(r, 4);
     let market = file_records::four_at(r, 8);
-    let kind = product::kind_or_future(product::kind_of(file_blocks::byte_at(r, 12)));
+    let kind = product::kind_or_future(Kind::try_from(file_blocks::byte_at(r, 12)));
     let size = file_records::size_at(r);
     let tick = file_records::field_at(r, 15);
     let currency = file_records::three_at(r, 17);
@@ -148,7 +154,7 @@ pub fn product_at(file: &[u8], n: usize, k: usize) -> Product
 pub fn same_id(a: [u8; 4], b: [u8; 4]) -> bool
     ensures { result ≡ same_id a b }
 {
-    (a[0] == b[0]) & (a[1] == b[1]) & (a[2] == b[2]) & (a[3] == b[3])
+    a == b
 }
 
 // Whether a place holds the record with an id.
@@ -164,15 +170,14 @@ fn seek_at(file: &[u8], block: usize, record: usize, id: [u8; 4]) -> Place
     ensures { result ≡ place_of (place_from file.now id (15 * block + «record»)) }
 {
     let places = 15 * (file.len() / 512);
-    let mut p = 15 * block + record;
-    while p < places {
+    let first = 15 * block + record;
+    for p in first..places {
         if has_id(file, p, id) {
             return Place {
                 block: p / 15,
                 record: p % 15,
             };
         }
-        p += 1;
     }
     Place {
         block: file.len() / 512,
@@ -266,12 +271,8 @@ fn block_by_halves(file: &[u8], id: [u8; 4]) -> usize
     ensures { (result ≡ block_by_halves file.now id) × (result ≤ block_count file.now) }
 {
     let mut block: usize = 0;
-    let mut width: usize = 64;
-    let mut steps: usize = 7;
-    while 0 < steps {
+    for width in [64usize, 32, 16, 8, 4, 2, 1] {
         block = step(file, block, width, id);
-        width = width / 2;
-        steps -= 1;
     }
     block
 }

@@ -1,6 +1,7 @@
 -- The product blocks of a master file and their records (01, Master file; question 7; 02, note 11).
 -- Assumes nothing.
-use Rattle.std.specs.Prelude.{ℕ, ◌+◌, ◌*◌, Bool, not, ◌&&◌, ◌||◌, cond, List, [], ◌∷◌, take, drop, get_or, ltb}
+use Rattle.std.specs.Prelude.{ℕ, ◌+◌, ◌*◌, Bool, not, ◌&&◌, ◌||◌, cond, List, [], ◌∷◌, map, take, drop, get_or, ltb}
+use Rattle.std.specs.List.{range_with_len}
 use Rattle.questions.specs.Search.{every}
 use Rattle.product.specs.Fields.{fields_right, file_size_right}
 use Rattle.file_blocks.specs.Blocks.{block_count, block_of, number_at, zeros, is_products, records_of_block}
@@ -9,6 +10,10 @@ use Rattle.file_blocks.specs.Blocks.{block_count, block_of, number_at, zeros, is
 -- a block has places for 15
 unfoldable pub record_of : List ℕ → ℕ → List ℕ
 record_of b k = cond (ltb k 15) (take 32 (drop (16 + 32 * k) b)) []
+
+-- n bytes from byte `at` on; a byte past the end counts as 0
+unfoldable pub bytes_at : List ℕ → ℕ → ℕ → List ℕ
+bytes_at r at n = map (λ i. get_or r (at + i) 0) (range_with_len 0 n)
 
 -- three bytes from byte `at` on; a byte past the end counts as 0
 unfoldable pub three_bytes : List ℕ → ℕ → List ℕ

@@ -1,32 +1,32 @@
 // The records of a master file's product blocks: question 7.
 #![tactic(auto)]
 
-ghost use Rattle.std.specs.Prelude.{◌≡◌, not, ◌&&◌, ◌||◌, ◌<◌, eqb, length};
-ghost use Rattle.questions.specs.Search.{every};
-ghost use Rattle.file_blocks.specs.Blocks.{block_count, block_of, is_products, number_at};
-ghost use Rattle.file_records.specs.Records.{record_of, three_bytes, four_bytes, size_at, record_right, record_place_right, records_right, products_right};
+ghost use Rattle.std.specs.Prelude.{◌≡◌, not, ◌&&◌, ◌||◌, eqb, length};
+ghost use Rattle.file_blocks.specs.Blocks.{block_of, is_products, number_at};
+ghost use Rattle.file_records.specs.Records.{record_of, bytes_at, three_bytes, four_bytes, size_at, record_right, record_place_right, records_right, products_right};
 
-// Record k of a lent block; no bytes where it has no such place.
-fn block_record(b: &[u8], k: usize) -> &[u8]
-    requires { length b.now ≡ 512 }
-    ensures { result.now ≡ record_of b.now k }
+use file_blocks::Block;
+use std::array;
+
+// Record k of a block; no bytes where it has no such place.
+fn block_record(block: &Block, k: usize) -> &[u8]
+    ensures { result.now ≡ record_of block.now k }
 {
     if 15 <= k {
-        return &b[0..0];
+        return &[];
     }
     let start = 16 + 32 * k;
-    let end = start + 32;
-    &b[start..end]
+    &block[start..start + 32]
 }
 
 // A record of a block of the file; no bytes where the file has no such place.
 pub fn record_at(file: &[u8], n: usize, k: usize) -> &[u8]
     ensures { result.now ≡ record_of (block_of file.now n) k }
 {
-    if file.len() / 512 <= n {
-        return &file[0..0];
+    match file_blocks::blocks(file).get(n) {
+        Some(block) => block_record(block, k),
+        None => &[],
     }
-    block_record(file_blocks::block_at(file, n), k)
 }
 
 // A currency's bytes.
@@ -35,27 +35,26 @@ pub type ThreeBytes = [u8; 3];
 // The bytes of an id, a group or a market.
 pub type FourBytes = [u8; 4];
 
+// N bytes from a byte on; one past the end counts as 0.
+pub fn bytes_at<const N: usize>(bytes: &[u8], at: u16) -> [u8; N]
+    ensures { result ≡ bytes_at bytes.now at N }
+{
+    let first = usize::from(at);
+    array::from_fn(|i| file_blocks::byte_at(bytes, first + i))
+}
+
+// A currency's bytes, from a byte on.
 pub fn three_at(bytes: &[u8], at: u16) -> ThreeBytes
     ensures { result ≡ three_bytes bytes.now at }
 {
-    let i = at as usize;
-    [
-        file_blocks::byte_at(bytes, i),
-        file_blocks::byte_at(bytes, i + 1),
-        file_blocks::byte_at(bytes, i + 2),
-    ]
+    bytes_at(bytes, at)
 }
 
+// The bytes of an id, a group or a market, from a byte on.
 pub fn four_at(bytes: &[u8], at: u16) -> FourBytes
     ensures { result ≡ four_bytes bytes.now at }
 {
-    let i = at as usize;
-    [
-        file_blocks::byte_at(bytes, i),
-        file_blocks::byte_at(bytes, i + 1),
-        file_blocks::byte_at(bytes, i + 2),
-        file_blocks::byte_at(bytes, i + 3),
-    ]
+    bytes_at(bytes, at)
 }
 
 // The number in two bytes, as a field of a product.
@@ -71,7 +70,7 @@ pub fn size_at(r: &[u8]) -> u32
 {
     let shares = field_at(r, 13);
     let part = field_at(r, 20);
-    10000 * (shares as u32) + (part as u32)
+    10000 * u32::from(shares) + u32::from(part)
 }
 
 // Whether a record is as stated.
@@ -90,66 +89,41 @@ pub fn record_right(r: &[u8]) -> bool
         & file_blocks::are_zero(r, 22, 10)
 }
 
-// Whether a place of a lent block holds a record as stated, or is unused and zero.
-fn record_place_right(b: &[u8], k: usize) -> bool
-    requires { length b.now ≡ 512 }
-    ensures { result ≡ record_place_right b.now k }
+// Whether a place of a block holds a record as stated, or is unused and zero.
+fn record_place_right(block: &Block, k: usize) -> bool
+    ensures { result ≡ record_place_right block.now k }
 {
-    let count = file_blocks::number_at(b, 2);
-    let r = block_record(b, k);
+    let count = file_blocks::number_at(block, 2);
+    let r = block_record(block, k);
     if k < count {
         return record_right(r);
     }
     file_blocks::are_zero(r, 0, 32)
 }
 
-// The same of all places of a lent block.
-fn record_places_right(b: &[u8]) -> bool
-    requires { length b.now ≡ 512 }
-    ensures { result ≡ every 15 (record_place_right b.now) }
+// Whether a block is no product block, or its records are right.
+fn records_right(block: &Block) -> bool
+    ensures { result ≡ (not (is_products block.now) || records_right block.now) }
 {
-    let mut k: usize = 0;
-    while k < 15 {
-        if !record_place_right(b, k) {
-            return false;
-        }
-        k += 1;
+    if block[0] != 2 {
+        return true;
     }
-    true
+    (0..15).all(|k| record_place_right(block, k)) & file_blocks::are_zero(block, 496, 14)
 }
 
 // Question 7, of a lent block: whether it is one, of 512 bytes, and its records are right; other blocks than product blocks have none.
 pub fn block_records_right(b: &[u8]) -> bool
     ensures { result ≡ (eqb (length b.now) 512 && (not (is_products b.now) || records_right b.now)) }
 {
-    if b.len() != 512 {
-        return false;
+    match <&Block>::try_from(b) {
+        Ok(block) => records_right(block),
+        Err(_) => false,
     }
-    if file_blocks::byte_at(b, 0) != 2 {
-        return true;
-    }
-    record_places_right(b) & file_blocks::are_zero(b, 496, 14)
-}
-
-// The same of a block of the file.
-fn block_right(file: &[u8], n: usize) -> bool
-    requires { n < block_count file.now }
-    ensures { result ≡ (not (is_products (block_of file.now n)) || records_right (block_of file.now n)) }
-{
-    block_records_right(file_blocks::block_at(file, n))
 }
 
 // Question 7.
 pub fn products_right(file: &[u8]) -> bool
     ensures { result ≡ products_right file.now }
 {
-    let blocks = file.len() / 512;
-    let mut k: usize = 0;
-    while k < blocks {
-        if !block_right(file, k) {
-            return false;
-        }
-        k += 1;
-    }
-    true
+    file_blocks::blocks(file).iter().all(records_right)
 }

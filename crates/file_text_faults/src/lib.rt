@@ -165,12 +165,10 @@ fn some_trades(cover: Cover, closed: &[u8], day: u16) -> bool
     requires { day ≤ 36525 }
     ensures { result ≡ some_trades (calendar_with cover closed.now) day 7 }
 {
-    let mut i: u16 = 0;
-    while i < 7 {
+    for i in 0..7 {
         if calendar::is_trading_day_in(cover, closed, day + i) {
             return true;
         }
-        i += 1;
     }
     false
 }
@@ -183,13 +181,10 @@ fn first_idle_in(cover: Cover, closed: &[u8]) -> u16
     if end < 6 {
         return 36525;
     }
-    let last = end - 6;
-    let mut day = calendar::cover_start(cover);
-    while day < last {
+    for day in calendar::cover_start(cover)..end - 6 {
         if !some_trades(cover, closed, day) {
             return day;
         }
-        day += 1;
     }
     36525
 }

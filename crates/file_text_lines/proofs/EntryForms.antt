@@ -16,11 +16,21 @@ use Rattle.session_lines.specs.CommandLines.{date_at, empty_line, fed}
 use Rattle.session_lines.proofs.LineFeeding.{Fed, fed-holds, held}
 use Rattle.file_text_lines.specs.declared.Entry.{Entry}
 use Rattle.file_text_lines.specs.declared.NumberRead.{NumberRead}
-use Rattle.file_text_lines.specs.declared.CoverRead.{CoverRead}
+use Rattle.std.specs.Prelude.{None}
+use Rattle.std.proofs.lemmas.Option.{none-some}
+use Rattle.file_text_lines.specs.Entries.{CoverRead, cover_kept}
 use Rattle.file_records.specs.Records.{three_bytes, four_bytes}
 use Rattle.file_write.specs.Writing.{field_bytes}
 use Rattle.file_text_lines.specs.Entries.{word_at, word_number, shares_read, part_read, other_entry, id_bytes, letter_form, cover_at, cover_entry, seed_entry}
 use Rattle.file_text_lines.specs.Entries.{day_form, day_entry, product_form, line_record, product_entry, entry_at, entry_of, line_entry}
+
+-- no cover is kept where a word is no number
+pub kept-none : (r : CoverRead) → None ≡ cover_kept r → r.there ≡ false
+kept-none r e = go r.there refl
+  where
+    go : (b : Bool) → r.there ≡ b → b ≡ false
+    go true t = absurd (none-some r.cover (e ∙ rw t refl))
+    go false t = refl
 
 -- a cover
 module _ (line : List ℕ) where

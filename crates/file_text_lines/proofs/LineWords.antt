@@ -2,15 +2,17 @@
 -- Assumes nothing.
 use mathlib.Core.Path.{◌≡◌, refl, sym, ap, ◌∙◌}
 use mathlib.Core.List.{List, [], ◌∷◌, ◌++◌, append-nil}
-use mathlib.Core.Bool.{cond}
+use mathlib.Core.Bool.{Bool, true, false, cond}
+use Rattle.std.specs.Prelude.{◌==◌, count_by}
 use mathlib.Core.Logic.{◌⊎◌, inl, inr}
 use Prim.Native.Nat.{ℕ, zero, suc, ◌+◌, ◌-◌, ◌≤◌, ◌<◌}
 use native.Mathlib.Numerals.{add-one}
 use native.Mathlib.Omega.{arith}
-use lib.Dec.{ltb}
+use lib.Dec.{eqb}
 use lib.ListN.{length, get_or, take, drop}
 use lib.Seq.{drop-cons, drop-drop, drop-length, append_snoc, get_or-drop}
-use borrow.Author.Tests.{lt-ltb, le-ltb, ne_eqb}
+use borrow.Author.Tests.{ne_eqb}
+use Rattle.std.proofs.lemmas.List.Sums.{sum_by-cons}
 use Rattle.questions.proofs.Bools.{lt-or-ge}
 use Rattle.session_lines.specs.BytePlaces.{ByteFrom}
 use Rattle.file_text_lines.specs.Entries.{words_from, words_of, word_at}
@@ -45,28 +47,23 @@ module _ (line : List ℕ) (from r : ℕ) (s : ByteFrom 32 line from r) where
       let e : r ≡ length line = omega (arith, s.within) in
       passed ∙ ap (words_from (take (r - from) (drop from line))) (ap (λ (n : ℕ). drop n line) e ∙ drop-length line)
 
--- how many words follow a place that is a space or the line's end
-unfoldable pub words_left : List ℕ → ℕ → ℕ
-words_left line r = cond (ltb r (length line)) (length (words_of (drop (r + 1) line))) 0
-
--- the count of words from a word's start on is 1 and the count of those left after its end
-pub words-counted : (line : List ℕ) (from r : ℕ) → ByteFrom 32 line from r → length (words_of (drop from line)) ≡ 1 + words_left line r
-unfolding words_left
-words-counted line from r s = go (lt-or-ge r (length line))
+-- a line has one word more than spaces, whatever its first word has begun with
+pub words-of-spaces : (begun line : List ℕ) → length (words_from begun line) ≡ 1 + count_by (λ b. b == 32) line
+unfolding words_from
+words-of-spaces begun [] = refl
+words-of-spaces begun (byte ∷ rest) = go (eqb byte 32) refl (words-of-spaces [] rest) (words-of-spaces (begun ++ (byte ∷ [])) rest)
   where
-    go : (r < length line) ⊎ (length line ≤ r) → length (words_of (drop from line)) ≡ 1 + cond (ltb r (length line)) (length (words_of (drop (r + 1) line))) 0
-    go (inl h) = rw (lt-ltb r (length line) h) (ap length (word_more line from r s h) ∙ omega arith)
-    go (inr h) = rw (le-ltb r (length line) h) (ap length (word-last line from r s h) ∙ omega arith)
-
--- where a word ends with the line, no words are left
-pub none_left : (line : List ℕ) (r : ℕ) → length line ≤ r → words_left line r ≡ 0
-unfolding words_left
-none_left line r h = rw (le-ltb r (length line) h) refl
-
--- where a word ends before the line does, the words left are as many as those after the space
-pub some_left : (line : List ℕ) (r : ℕ) → r < length line → words_left line r ≡ length (words_of (drop (r + 1) line))
-unfolding words_left
-some_left line r h = rw (lt-ltb r (length line) h) refl
+    go : (b : Bool) → eqb byte 32 ≡ b → length (words_from [] rest) ≡ 1 + count_by (λ b. b == 32) rest
+        → length (words_from (begun ++ (byte ∷ [])) rest) ≡ 1 + count_by (λ b. b == 32) rest
+        → length (words_from begun (byte ∷ rest)) ≡ 1 + count_by (λ b. b == 32) (byte ∷ rest)
+    go true e ended longer =
+        let one : length (words_from begun (byte ∷ rest)) ≡ 1 + length (words_from [] rest) = rw e (omega arith) in
+        let more : count_by (λ b. b == 32) (byte ∷ rest) ≡ 1 + count_by (λ b. b == 32) rest = sum_by-cons (λ x. cond (x == 32) 1 0) byte rest ∙ rw e refl in
+        one ∙ ap (λ n. 1 + n) (ended ∙ sym more)
+    go false e ended longer =
+        let same : length (words_from begun (byte ∷ rest)) ≡ length (words_from (begun ++ (byte ∷ [])) rest) = rw e refl in
+        let more : count_by (λ b. b == 32) (byte ∷ rest) ≡ count_by (λ b. b == 32) rest = sum_by-cons (λ x. cond (x == 32) 1 0) byte rest ∙ rw e (omega arith) in
+        same ∙ longer ∙ ap (λ n. 1 + n) (sym more)
 
 -- the words from word i on are those of the line from a place on
 module _ (line : List ℕ) (i from r : ℕ) (e : drop i (words_of line) ≡ words_of (drop from line)) (s : ByteFrom 32 line from r) where

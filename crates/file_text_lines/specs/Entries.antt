@@ -1,13 +1,13 @@
 -- A line of a list, from which `compose` makes a master file, as an entry
 -- (docs/OPERATIONS.md, The text of a master file, from which the quotations are; 02, notes 7, 11 and 14).
 -- Assumes nothing.
-use Rattle.std.specs.Prelude.{ℕ, ◌+◌, ◌-◌, ◌*◌, Bool, true, false, ◌&&◌, ◌||◌, cond, List, [], ◌∷◌, ◌++◌, leb, ltb, eqb, get_or, length, take, drop, replicate}
+use Rattle.std.specs.Prelude.{ℕ, ◌+◌, ◌-◌, ◌*◌, Bool, true, false, ◌&&◌, ◌||◌, cond, List, [], ◌∷◌, ◌++◌, leb, ltb, eqb, get_or, length, take, drop, replicate, Option, Some, None}
 use Rattle.product.specs.Fields.{digit}
 use Rattle.file_write.specs.Writing.{field_bytes}
 use Rattle.session_lines.specs.declared.Line.{Line}
 use Rattle.session_lines.specs.CommandLines.{digit_value, date_at}
 use Rattle.file_text_lines.specs.declared.NumberRead.{NumberRead}
-use Rattle.file_text_lines.specs.declared.CoverRead.{CoverRead}
+use Rattle.calendar.specs.declared.Cover.{Cover}
 use Rattle.file_text_lines.specs.declared.Entry.{Entry}
 
 -- 'Single spaces part the words of a line' (a space is 32):
@@ -60,6 +60,11 @@ other_entry = record { letter = 0; cover = record { first_year = 0; years = 0 };
 unfoldable pub letter_form : List ℕ → ℕ → Bool
 letter_form line words = eqb (length (words_of line)) words && eqb (length (word_at line 0)) 1
 
+-- whether two words are a cover's numbers, and its cover
+pub record CoverRead : Type 0 where
+  pub there : Bool
+  pub cover : Cover
+
 -- 'a year, a number of years .. are at most 65,535':
 -- the cover whose first year is word k and whose number of years is word m, where both are numbers. Whether it is right is question 4
 unfoldable pub cover_at : List ℕ → ℕ → ℕ → CoverRead
@@ -67,6 +72,10 @@ cover_at line k m =
     let first = word_number (word_at line k) 65535 in
     let years = word_number (word_at line m) 65535 in
     record { there = first.there && years.there; cover = record { first_year = first.value; years = years.value } }
+
+-- the cover, where both are numbers
+abbrev pub cover_kept : CoverRead → Option Cover
+cover_kept r = cond r.there (Some r.cover) None
 
 -- '`Y first years`':
 -- the entry of a line whose letter is Y, 89

@@ -2,7 +2,7 @@
 #![tactic(auto)]
 
 ghost use Rattle.std.specs.Prelude.{◌≡◌, ◌≤◌, length, get_or};
-ghost use Rattle.file_text_lines.specs.Entries.{words_of, word_at, word_number, pointed, shares_read, part_read, other_entry, letter_form, cover_at, cover_entry, seed_entry, day_entry, product_form, id_bytes, line_record, product_entry, line_entry};
+ghost use Rattle.file_text_lines.specs.Entries.{words_of, word_at, word_number, pointed, shares_read, part_read, other_entry, letter_form, cover_at, cover_kept, cover_entry, seed_entry, day_entry, product_form, id_bytes, line_record, product_entry, line_entry};
 
 use calendar::Cover;
 use session_lines::Line;
@@ -12,13 +12,6 @@ use session_lines::Line;
 pub struct NumberRead {
     pub there: bool,
     pub value: u32,
-}
-
-// Whether there is a cover, and which.
-#[derive(Clone, Copy)]
-pub struct CoverRead {
-    pub there: bool,
-    pub cover: Cover,
 }
 
 // An entry: the letter Y, S, C, X or P, the cover of a Y or S, the seed of an S, the day of a C or X, the record of a P. Another line has no letter, 0.
@@ -35,13 +28,7 @@ pub struct Entry {
 pub fn word_count(line: &[u8]) -> usize
     ensures { result ≡ length (words_of line.now) }
 {
-    let mut count: usize = 1;
-    let mut from = session_lines::byte_from(line, 0, b' ');
-    while from < line.len() {
-        count += 1;
-        from = session_lines::byte_from(line, from + 1, b' ');
-    }
-    count
+    1 + line.iter().filter(|b| **b == b' ').count()
 }
 
 // Word k of a line, from 0; no bytes where there is none.
@@ -49,14 +36,12 @@ pub fn word_at(line: &[u8], k: usize) -> &[u8]
     ensures { result.now ≡ word_at line.now k }
 {
     let mut from: usize = 0;
-    let mut i: usize = 0;
-    while i < k {
+    for i in 0..k {
         let end = session_lines::byte_from(line, from, b' ');
         if line.len() <= end {
-            return &line[0..0];
+            return &line[..0];
         }
         from = end + 1;
-        i += 1;
     }
     let end = session_lines::byte_from(line, from, b' ');
     &line[from..end]
@@ -82,17 +67,15 @@ pub fn word_number(word: &[u8], most: u32) -> NumberRead
         return none;
     }
     let mut value: u64 = 0;
-    let mut i: usize = 0;
-    while i < word.len() {
-        if !product::is_digit(word[i]) {
+    for byte in word {
+        if !product::is_digit(*byte) {
             return none;
         }
-        let next = 10 * value + (session_lines::digit_value(word[i]) as u64);
+        let next = 10 * value + (session_lines::digit_value(*byte) as u64);
         if (most as u64) < next {
             return none;
         }
         value = next;
-        i += 1;
     }
     NumberRead {
         there: true,
@@ -181,18 +164,18 @@ pub fn is_letter_form(line: &[u8], words: usize) -> bool
 }
 
 // The cover that words k and m of a line are, where both are numbers.
-fn cover_at(line: &[u8], k: usize, m: usize) -> CoverRead
-    ensures { result ≡ cover_at line.now k m }
+fn cover_at(line: &[u8], k: usize, m: usize) -> Option<Cover>
+    ensures { result ≡ cover_kept (cover_at line.now k m) }
 {
     let first = number_in(line, k, 65535);
     let years = number_in(line, m, 65535);
-    CoverRead {
-        there: first.there & years.there,
-        cover: Cover {
-            first_year: first.value as u16,
-            years: years.value as u16,
-        },
+    if !(first.there & years.there) {
+        return None;
     }
+    Some(Cover {
+        first_year: first.value as u16,
+        years: years.value as u16,
+    })
 }
 
 // A cover or another line.
@@ -202,11 +185,9 @@ fn cover_entry(line: &[u8]) -> Entry
     if !is_letter_form(line, 3) {
         return other_entry();
     }
-    let read = cover_at(line, 1, 2);
-    if !read.there {
+    let Some(cover) = cover_at(line, 1, 2) else {
         return other_entry();
-    }
-    let cover = read.cover;
+    };
     Entry {
         letter: b'Y',
         cover,
@@ -227,11 +208,9 @@ fn seed_entry(line: &[u8]) -> Entry
     if !seed.there {
         return other_entry();
     }
-    let read = cover_at(line, 2, 3);
-    if !read.there {
+    let Some(cover) = cover_at(line, 2, 3) else {
         return other_entry();
-    }
-    let cover = read.cover;
+    };
     Entry {
         letter: b'S',
         cover,

@@ -5,8 +5,8 @@ use mathlib.Core.Bool.{true, false}
 use mathlib.Core.List.{List, [], ◌∷◌, ◌++◌}
 use Prim.Native.Nat.{ℕ, ◌+◌, ◌-◌, ◌/◌, ◌%◌, ◌≤◌, ◌<◌}
 use native.Mathlib.Numerals.{add-one}
-use lib.ListN.{length, get_or, drop, set}
-use lib.Seq.{drop-cons, drop-length, paste, paste-suc}
+use lib.ListN.{length, get_or, drop}
+use lib.Seq.{drop-cons, drop-length}
 use borrow.Author.Tests.{eq-eqb, ne_eqb, le-leb, lt-leb}
 use Rattle.calendar.specs.declared.Calendar.{Calendar}
 use Rattle.calendar.specs.Trading.{cover_start, closed_on, in_second_map}
@@ -118,10 +118,3 @@ module _ (cal : Calendar) (f : List ℕ) (n : ℕ) (r : Line) where
     pub line-place : days < n → LineWith empty_line (place_line f (n - 1 - days)) r → LineWith empty_line (line_text cal f n) r
     unfolding line_text
     line-place h g = rw (ne_eqb n 0 z, ← q, lt-leb n days h) g
-
--- ---- bytes copied into a buffer
-
--- setting the next byte of a text in a buffer pastes one byte more of it
-pub byte-pasted : (b : List ℕ) (at : ℕ) (s : List ℕ) (i : ℕ) → at + i < length b → i < length s
-    → set (paste b at s i) (at + i) (get_or s i 0) ≡ paste b at s (i + 1)
-byte-pasted b at s i h l = rw (add-one i) (paste-suc b at s i 0 h l)

@@ -1,7 +1,7 @@
 // The text of what a master file holds, line by line: the form that lists have.
 #![tactic(auto)]
 
-ghost use Rattle.std.specs.Prelude.{◌≡◌, [], ◌∷◌, ◌+◌, ◌≤◌, length};
+ghost use Rattle.std.specs.Prelude.{◌≡◌, [], ◌∷◌, ◌+◌, ◌≤◌, ◌<◌, ◌⊎◌, length};
 ghost use Rattle.std.proofs.Math.Seq.{paste};
 ghost use Rattle.calendar.specs.Trading.{cover_start};
 ghost use Rattle.file_records.specs.Records.{three_bytes, four_bytes};
@@ -126,31 +126,13 @@ pub fn with_id(line: Line, id: [u8; 4]) -> Line
     ensures { LineWith line (id_text id) result }
 {
     let mut whole = line;
-    let mut i: usize = 0;
-    while i < 4 {
-        if id[i] == b' ' {
+    for byte in id {
+        if byte == b' ' {
             return whole;
         }
-        whole = session_lines::extend(whole, id[i]);
-        i += 1;
+        whole = session_lines::extend(whole, byte);
     }
     whole
-}
-
-// A line with four bytes more.
-fn with_four_bytes(line: Line, four: [u8; 4]) -> Line
-    ensures { LineWith line (four_bytes four 0) result }
-{
-    let two = session_lines::extend(session_lines::extend(line, four[0]), four[1]);
-    session_lines::extend(session_lines::extend(two, four[2]), four[3])
-}
-
-// A line with three bytes more.
-fn with_three_bytes(line: Line, three: [u8; 3]) -> Line
-    ensures { LineWith line (three_bytes three 0) result }
-{
-    let two = session_lines::extend(session_lines::extend(line, three[0]), three[1]);
-    session_lines::extend(two, three[2])
 }
 
 // A line with the ten-thousandths of a size more, where it is not whole.
@@ -172,18 +154,21 @@ fn product_line(r: &[u8]) -> Line
         session_lines::extend(letter, b' '),
         file_records::four_at(r, 0),
     );
-    let group = with_four_bytes(session_lines::extend(id, b' '), file_records::four_at(r, 4));
-    let market = with_four_bytes(
+    let group = with_bytes(
+        session_lines::extend(id, b' '),
+        &file_records::four_at(r, 4),
+    );
+    let market = with_bytes(
         session_lines::extend(group, b' '),
-        file_records::four_at(r, 8),
+        &file_records::four_at(r, 8),
     );
     let kind = with_spaced(market, file_blocks::byte_at(r, 12) as u16);
     let size = with_spaced(kind, file_records::field_at(r, 13));
     let part = with_part(size, file_records::field_at(r, 20));
     let tick = with_spaced(part, file_records::field_at(r, 15));
-    let currency = with_three_bytes(
+    let currency = with_bytes(
         session_lines::extend(tick, b' '),
-        file_records::three_at(r, 17),
+        &file_records::three_at(r, 17),
     );
     session_lines::extend(currency, b'\n')
 }
@@ -246,19 +231,18 @@ pub fn line_count(cal: Calendar, file: &[u8]) -> usize
     1 + (cover_days(cover) + 15 * (file.len() / 512))
 }
 
-// The bytes of a line from a place of a buffer on, and the place after them.
-fn append(out: &mut [u8], at: usize, line: Line) -> usize
-    requires { (line.length ≤ 64) × (at + 64 ≤ length out.old) }
-    ensures { (result ≡ at + line.length) × (out.new ≡ paste out.old at line.bytes line.length) }
+// Puts the bytes of a line into a buffer from a place on, and gives the place after them. A line is put where it has at most 64 bytes, and the buffer 64 from the place on.
+pub fn append(out: &mut [u8], at: usize, line: Line) -> usize
+    ensures put { (line.length ≤ 64) × (at + 64 ≤ length out.old) → (result ≡ at + line.length) × (out.new ≡ paste out.old at line.bytes line.length) }
+    ensures not_put { (64 < line.length) ⊎ (length out.old < at + 64) → (result ≡ at) × (out.new ≡ out.old) }
 {
-    let bytes = line.bytes;
-    let n = line.length;
-    let mut i: usize = 0;
-    while i < n {
-        out[at + i] = bytes[i];
-        i += 1;
+    if (64 < line.length) | (out.len() < 64) | (out.len().saturating_sub(64) < at) {
+        return at;
     }
-    at + n
+    let bytes = line.bytes;
+    let end = at + line.length;
+    out[at..end].copy_from_slice(&bytes[..line.length]);
+    end
 }
 
 // Whether there is another line, and room for it.

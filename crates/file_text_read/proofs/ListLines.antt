@@ -10,12 +10,13 @@ use lib.Dec.{eqb, ltb}
 use lib.ListN.{length, get_or, take, drop}
 use lib.Seq.{drop-cons, drop-length}
 use borrow.Author.Tests.{eq-eqb, ne_eqb, eqb-true, eqb-false, ltb-false}
+use Rattle.std.specs.Prelude.{Result}
 use Rattle.questions.specs.Questions.{first_no, answer}
+use Rattle.questions.specs.declared.Refusal.{Refusal}
 use Rattle.calendar.specs.declared.Calendar.{Calendar}
 use Rattle.file_draft.specs.Drafts.{file_of, write_asks}
 use Rattle.file_draft.proofs.DraftBlocks.{file-length}
 use Rattle.file_draft.proofs.DraftQuestions.{writable, counted}
-use Rattle.file_write.specs.declared.WrittenFile.{WrittenFile}
 use Rattle.file_write.specs.Writing.{write_call, write_answer, buffer_after}
 use Rattle.session_lines.specs.CommandLines.{lines_from}
 use Rattle.session_lines.specs.InputRest.{rest_over}
@@ -267,6 +268,11 @@ pub no-idle : (refusal : ℕ) (cal : Calendar) → (refusal ≡ 6 → ⊥) → 0
 unfolding idle_day
 no-idle refusal cal n = rw (ne_eqb refusal 6 n) refl
 
+-- without a refusal no line is at fault
+pub fault-none : (faults : Faults) → no_fault ≡ fault_kept faults 0
+unfolding fault_kept
+fault-none faults = refl
+
 module _ (t : ListTaken) (buffer file : List ℕ) where
   -- a list with a bad line is answered with the number of that line, and the buffer for the file stays as it is
   pub composed-bad : (t.bad ≡ 0 → ⊥) → (r : Composed) → r ≡ record { bad = t.bad; refusal = 0; fault = no_fault; day = 0; length = 0 }
@@ -275,10 +281,10 @@ module _ (t : ListTaken) (buffer file : List ℕ) where
   composed-bad n r e = (rw (ne_eqb t.bad 0 n) e, rw (ne_eqb t.bad 0 n) refl)
 
   -- a list without a bad line is answered as the writing of its calendar and records, with the fault or the day
-  pub composed-is : t.bad ≡ 0 → (n : ℕ) → take n buffer ≡ take t.size buffer → (w : WrittenFile) (after : List ℕ)
+  pub composed-is : t.bad ≡ 0 → (n : ℕ) → take n buffer ≡ take t.size buffer → (w : Result ℕ Refusal) (after : List ℕ)
       → write_answer w ≡ write_call t.calendar (take n buffer) (length file) → after ≡ buffer_after t.calendar (take n buffer) file
-      → (fault : Fault) → fault ≡ fault_kept t.faults w.refusal → (day : ℕ) → day ≡ idle_day w.refusal t.calendar
-      → (record { bad = 0; refusal = w.refusal; fault = fault; day = day; length = w.length } ≡ composed (content_in t buffer) (length file))
+      → (fault : Fault) → fault ≡ fault_kept t.faults (write_answer w).refusal → (day : ℕ) → day ≡ idle_day (write_answer w).refusal t.calendar
+      → (record { bad = 0; refusal = (write_answer w).refusal; fault = fault; day = day; length = (write_answer w).value } ≡ composed (content_in t buffer) (length file))
       × (after ≡ composed_file (content_in t buffer) file)
   unfolding composed composed_file
   composed-is z n e w after p q fault k day d = (rw (eq-eqb t.bad 0 z, ← e, ← p, k, d) refl, rw (eq-eqb t.bad 0 z, ← e) q)

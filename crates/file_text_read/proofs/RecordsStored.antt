@@ -4,10 +4,9 @@ use mathlib.Core.Path.{◌≡◌, refl, sym, ap, ◌∙◌}
 use mathlib.Core.List.{List, ◌++◌}
 use mathlib.Core.Logic.{◌⊎◌, inl, inr}
 use Prim.Native.Nat.{ℕ, ◌+◌, ◌-◌, ◌≤◌, ◌<◌}
-use native.Mathlib.Numerals.{add-one}
 use native.Mathlib.Omega.{arith}
-use lib.ListN.{length, get_or, take, drop, set}
-use lib.Seq.{length-take-le, take_all, drop-drop, paste, paste-suc, length-paste, take-paste, drop-paste}
+use lib.ListN.{length, take, drop}
+use lib.Seq.{length-take-le, take_all, drop-drop, paste, length-paste, take-paste, drop-paste}
 use borrow.Author.Tests.{le-leb, lt-leb, eq-eqb, ne_eqb}
 use Rattle.questions.proofs.Bools.{lt-or-ge}
 use Rattle.file_text_lines.specs.declared.Entry.{Entry}
@@ -76,10 +75,6 @@ module _ (b : List ℕ) (size : ℕ) (one : List ℕ) where
               unchanged = drop-paste b size one 32 (omega arith) (omega (arith, l));
             };
       }
-
-  -- setting the next byte of a record after the records stores one byte more of it
-  pub byte-stored : (i : ℕ) → size + 32 ≤ length b → length one ≡ 32 → i < 32 → set (paste b size one i) (size + i) (get_or one i 0) ≡ paste b size one (i + 1)
-  byte-stored i h l s = rw (add-one i) (paste-suc b size one i 0 (omega arith) (omega (arith, l)))
 
 -- by the entry's letter
 module _ (b : List ℕ) (size : ℕ) (e : Entry) where

@@ -2,7 +2,7 @@
 #![tactic(auto)]
 
 ghost use Rattle.std.specs.Prelude.{◌≡◌, ◌≤◌, length, take};
-ghost use Rattle.file_text_faults.specs.Faults.{no_fault};
+ghost use Rattle.file_text_faults.specs.Faults.{no_fault, fault_kept};
 ghost use Rattle.file_text_read.specs.Lists.{nothing_taken, close_exchange_day, entry_fits, calendar_after_entry, with_record, records_after, next_line, line_told, EntryIn, idle_day, content_in, RecordsIn, ListLineIn, PartIn, EndIn, composed, composed_file};
 
 use calendar::{Calendar, Cover};
@@ -117,9 +117,7 @@ fn calendar_after(cal: Calendar, e: Entry) -> Calendar
     }
     if letter == b'S' {
         let cover = e.cover;
-        let made = calendar_synthetic::make(e.seed, cover);
-        let calendar = made.calendar;
-        return calendar;
+        return calendar_synthetic::make(e.seed, cover).unwrap_or(calendar::zero_calendar());
     }
     if letter == b'C' {
         return calendar::close_day(cal, e.day);
@@ -140,11 +138,7 @@ fn store(records: &mut [u8], size: usize, one: file_write::Record) -> usize
     if records.len() - 32 < size {
         return size;
     }
-    let mut i: usize = 0;
-    while i < 32 {
-        records[size + i] = one[i];
-        i += 1;
-    }
+    records[size..size + 32].copy_from_slice(&one);
     size + 32
 }
 
@@ -232,12 +226,9 @@ pub fn take_part(taken: ListTaken, line: LongLine, part: &[u8], records: &mut [u
 {
     let mut t = taken;
     let mut l = line;
-    let mut i: usize = 0;
-    while i < part.len() {
-        let byte = part[i];
-        i += 1;
-        if byte != b'\n' {
-            l = delivery_items::extend_long(l, byte);
+    for byte in part {
+        if *byte != b'\n' {
+            l = delivery_items::extend_long(l, *byte);
             continue;
         }
         t = take_line(t, l, records);
@@ -293,6 +284,37 @@ fn bad_list(bad: u32) -> Composed
     }
 }
 
+// A list whose file is written.
+fn written_list(length: usize) -> Composed
+    ensures { result ≡ record { bad = 0; refusal = 0; fault = no_fault; day = 0; length = length } }
+{
+    Composed {
+        bad: 0,
+        refusal: 0,
+        fault: Fault {
+            line: 0,
+            id: [0, 0, 0, 0],
+        },
+        day: 0,
+        length,
+    }
+}
+
+// A list whose file is refused, with the first line at fault or the first day without trading.
+fn refused_list(faults: Faults, calendar: Calendar, refusal: u8) -> Composed
+    ensures { result ≡ record { bad = 0; refusal = refusal; fault = fault_kept faults refusal; day = idle_day refusal calendar; length = 0 } }
+{
+    let fault = file_text_faults::fault_for(faults, refusal);
+    let day = idle_day(refusal, calendar);
+    Composed {
+        bad: 0,
+        refusal,
+        fault,
+        day,
+        length: 0,
+    }
+}
+
 // The file of what a list says, in a lent buffer.
 pub fn compose(taken: ListTaken, records: &[u8], file: &mut [u8]) -> Composed
     ensures { (result ≡ composed (content_in taken records.now) (length file.old)) × (file.new ≡ composed_file (content_in taken records.now) file.old) }
@@ -302,15 +324,8 @@ pub fn compose(taken: ListTaken, records: &[u8], file: &mut [u8]) -> Composed
     }
     let n = records_size(taken, records);
     let calendar = taken.calendar;
-    let w = file_write::write(calendar, &records[..n], file);
-    let faults = taken.faults;
-    let fault = file_text_faults::fault_for(faults, w.refusal);
-    let day = idle_day(w.refusal, calendar);
-    Composed {
-        bad: 0,
-        refusal: w.refusal,
-        fault,
-        day,
-        length: w.length,
+    match file_write::write(calendar, &records[..n], file) {
+        Ok(length) => written_list(length),
+        Err(refusal) => refused_list(taken.faults, calendar, refusal.number()),
     }
 }

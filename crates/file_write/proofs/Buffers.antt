@@ -6,7 +6,7 @@ use mathlib.Core.List.{List, [], ◌∷◌, ◌++◌, append-nil}
 use native.Mathlib.Numerals.{add-one}
 use native.Mathlib.Omega.{arith}
 use lib.ListN.{length, take, drop, get_or, set, length-append, length-drop, drop_of_length-le}
-use lib.Seq.{ext_get_or, sets-eq, paste, paste-zero, paste-suc, length-paste, take_at, take_all, drop-append-add, drop-drop, length-take-le, get_or-take}
+use lib.Seq.{ext_get_or, sets-eq, paste, take_at, take_all, drop-append-add, drop-drop, length-take-le, get_or-take}
 use Rattle.calendar.specs.declared.Calendar.{Calendar}
 use Rattle.file_blocks.specs.Blocks.{weighted_sum}
 use Rattle.file_calendar.specs.Calendars.{listed}
@@ -34,28 +34,6 @@ block_made value body n e r =
 
     sum : weighted_sum body 510 ≡ weighted_sum (listed 0 510 value) 510
     sum = sum_same body (listed 0 510 value) 510 byte_at
-
--- the first j bytes of a block were copied into a buffer
-pub record Copied (before : List ℕ) (at : ℕ) (block : List ℕ) (j : ℕ) (buffer : List ℕ) : Type 0 where
-  -- the buffer is as before but for the first j bytes of the block, which stand at their place in it
-  pub is : buffer ≡ paste before at block j
-
-module _ (before : List ℕ) (at : ℕ) (block : List ℕ) where
-  -- a buffer that is as before has no byte of the block copied
-  pub copied_none : Copied before at block 0 before
-  copied_none = record { is = paste-zero before at block }
-
-  -- setting the next byte of the block in the buffer copies one byte more
-  pub copied_more : (j : ℕ) (buffer : List ℕ) → at + j < length before → j < length block → Copied before at block j buffer
-      → Copied before at block (j + 1) (set buffer (at + j) (get_or block j 0))
-  copied_more j buffer h l e =
-      record {
-        is = ap (λ (b : List ℕ). set b (at + j) (get_or block j 0)) e.is ∙ paste-suc before at block j 0 h l ∙ ap (paste before at block) (sym (add-one j));
-      }
-
-  -- a buffer with bytes of the block copied is as long as before
-  pub copied-long : (j : ℕ) (buffer : List ℕ) → at + j ≤ length before → j ≤ length block → Copied before at block j buffer → length buffer ≡ length before
-  copied-long j buffer h l e = ap length e.is ∙ length-paste before at block j h l
 
 module _ (cal : Calendar) (records before : List ℕ) where
   -- the first k blocks of the file stand in the buffer, and the rest of it is as it was

@@ -1,22 +1,23 @@
 -- Writing a master file into a lent buffer, and the bytes of a product's record (02, notes 7 and 11).
 -- Assumes nothing.
-use Rattle.std.specs.Prelude.{ℕ, ◌/◌, ◌%◌, cond, List, [], ◌∷◌, ◌++◌, eqb, leb, length, drop, replicate}
+use Rattle.std.specs.Prelude.{ℕ, ◌/◌, ◌%◌, cond, List, [], ◌∷◌, ◌++◌, eqb, leb, length, drop, replicate, Result}
 use Rattle.questions.specs.Questions.{first_no, Answer, answer}
+use Rattle.questions.specs.Refusals.{result_answer}
+use Rattle.questions.specs.declared.Refusal.{Refusal}
 use Rattle.calendar.specs.declared.Calendar.{Calendar}
 use Rattle.product.specs.Fields.{kind_number}
 use Rattle.product.specs.declared.Product.{Product}
 use Rattle.file_records.specs.Records.{three_bytes, four_bytes}
 use Rattle.file_draft.specs.Drafts.{high_byte, low_byte, file_of, write_asks}
-use Rattle.file_write.specs.declared.WrittenFile.{WrittenFile}
 
 -- 'Write a file into a lent buffer from a calendar and a list of records .. and return its length';
 -- with a refusal 'other calls return zero values' (01, Questions)
 unfoldable pub write_call : Calendar → List ℕ → ℕ → Answer ℕ
 write_call cal records room = answer (write_asks cal records room) 0 (length (file_of cal records))
 
--- the number and the value that an answer of write stands for
-abbrev pub write_answer : WrittenFile → Answer ℕ
-write_answer w = record { refusal = w.refusal; value = w.length }
+-- the number and the value that a result of write stands for
+abbrev pub write_answer : Result ℕ Refusal → Answer ℕ
+write_answer = result_answer 0
 
 -- 'Bytes after the file's end in the buffer remain'; 'No refusal writes anything':
 -- the buffer afterwards: the file, and those bytes

@@ -10,14 +10,7 @@ ghost use Rattle.file_write.specs.Writing.{write_call, write_answer, buffer_afte
 
 use calendar::{Calendar, Cover};
 use product::Product;
-
-// The refusal, 0 where a file was written, and its length, 0 with a refusal.
-#[repr(C)]
-#[derive(Clone, Copy)]
-pub struct WrittenFile {
-    pub refusal: u8,
-    pub length: usize,
-}
+use questions::Refusal;
 
 // A byte of a header: kind, version, year or count of records, the block's index.
 fn header_byte(kind: u8, number: u16, index: u16, j: usize) -> u8
@@ -123,10 +116,8 @@ fn block_for<'a>(
     ensures { result ≡ block_for (calendar_of_maps cover closed.now exchange.now) records.now k }
 {
     let mut body = [0u8; 512];
-    let mut j: usize = 0;
-    while j < 510 {
+    for j in 0..510 {
         body[j] = block_byte(cover, closed, exchange, records, k, j);
-        j += 1;
     }
     checked(body)
 }
@@ -136,11 +127,7 @@ fn put_block(block: [u8; 512], buffer: &mut [u8], at: usize)
     requires { at + 512 ≤ length buffer.old }
     ensures { buffer.new ≡ paste buffer.old at block 512 }
 {
-    let mut j: usize = 0;
-    while j < 512 {
-        buffer[at + j] = block[j];
-        j += 1;
-    }
+    buffer[at..at + 512].copy_from_slice(&block);
 }
 
 // Puts the blocks of the file into the buffer.
@@ -149,28 +136,20 @@ fn put_blocks(cal: Calendar, records: &[u8], buffer: &mut [u8], blocks: usize)
     ensures { buffer.new ≡ blocks_for cal records.now blocks ++ drop (512 * blocks) buffer.old }
 {
     let cover = cal.cover;
-    let mut k: usize = 0;
-    while k < blocks {
+    for k in 0..blocks {
         let block = block_for(cover, &cal.closed, &cal.exchange, records, k);
         put_block(block, buffer, 512 * k);
-        k += 1;
     }
 }
 
-// Writes the file of a calendar and a list of records, 32 bytes each, where questions 3 to 8 and 25 are answered yes.
-pub fn write(calendar: Calendar, records: &[u8], buffer: &mut [u8]) -> WrittenFile
+// Writes the file of a calendar and a list of records, 32 bytes each, where questions 3 to 8 and 25 are answered yes, and gives the file's length.
+pub fn write(calendar: Calendar, records: &[u8], buffer: &mut [u8]) -> Result<usize, Refusal>
     ensures { (write_answer result ≡ write_call calendar records.now (length buffer.old)) × (buffer.new ≡ buffer_after calendar records.now buffer.old) }
 {
-    let refusal = file_draft::judge(calendar, records, buffer.len());
-    if refusal != 0 {
-        return WrittenFile { refusal, length: 0 };
-    }
+    file_draft::judge(calendar, records, buffer.len())?;
     let blocks = file_draft::blocks_in(calendar, records);
     put_blocks(calendar, records, buffer, blocks);
-    WrittenFile {
-        refusal: 0,
-        length: 512 * blocks,
-    }
+    Ok(512 * blocks)
 }
 
 // The bytes of a record.

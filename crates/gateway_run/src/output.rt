@@ -6,12 +6,10 @@ ghost use Rattle.file_text_print.specs.WholeText.{NextOf};
 ghost use Rattle.file_intake_text.specs.GatewayTexts.{GatewaySays, ended_text};
 
 use file_intake_text::Ended;
-use streams::{Input, STDOUT_FILENO};
+use streams::{EBADF, Input, STDOUT_FILENO};
 
 // The numbers of errors, as Linux has them.
 const EIO: i32 = 5;
-
-const EBADF: i32 = 9;
 
 const EISDIR: i32 = 21;
 
@@ -43,16 +41,12 @@ pub(crate) fn is_open(sent: LineHanded) -> bool
 
 // Tells the system's name of a reason.
 fn tell_reason(rt: HostRuntime, error: i32) {
-    if error == EIO {
-        streams::tell(rt, b"EIO\n");
-    } else if error == EISDIR {
-        streams::tell(rt, b"EISDIR\n");
-    } else if error == ENOSPC {
-        streams::tell(rt, b"ENOSPC\n");
-    } else if error == EBADF {
-        streams::tell(rt, b"EBADF\n");
-    } else {
-        streams::tell(rt, b"unknown\n");
+    match error {
+        EIO => streams::tell(rt, b"EIO\n"),
+        EISDIR => streams::tell(rt, b"EISDIR\n"),
+        ENOSPC => streams::tell(rt, b"ENOSPC\n"),
+        EBADF => streams::tell(rt, b"EBADF\n"),
+        _ => streams::tell(rt, b"unknown\n"),
     }
 }
 

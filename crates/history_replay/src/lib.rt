@@ -111,14 +111,11 @@ fn run_calls(table: Table, calls: &[u32], buffer: &mut [u32]) -> Table
     requires { (length calls.now % 4 ≡ 0) × (length calls.now ≤ length buffer.old) }
     ensures { CallsMade table calls.now buffer.old buffer.new result }
 {
-    let n = calls.len();
     let mut t = table;
-    let mut i: usize = 0;
-    while i < n / 4 {
+    for i in 0..calls.len() / 4 {
         let o = call_at(t, calls, i);
         write_reply(buffer, i, o.refusal, o.entered, o.left, o.price);
         t = o.table;
-        i += 1;
     }
     t
 }
@@ -134,13 +131,10 @@ fn lengths_fit(calls: usize, buffer: usize) -> bool
 fn kinds_fit(calls: &[u32]) -> bool
     ensures { result ≡ kinds_fit calls.now }
 {
-    let n = calls.len() / 4;
-    let mut k: usize = 0;
-    while k < n {
+    for k in 0..calls.len() / 4 {
         if 3 < calls[4 * k] {
             return false;
         }
-        k += 1;
     }
     true
 }

@@ -1,12 +1,12 @@
 -- The code's search for the front.
 -- Assumes nothing.
-use mathlib.Core.Path.{◌≡◌, refl, ◌∙◌, sym}
-use mathlib.Core.Bool.{Bool, true, ◌&&◌}
+use mathlib.Core.Path.{◌≡◌, refl}
+use mathlib.Core.Bool.{Bool, ◌&&◌}
 use mathlib.Core.List.{List}
-use Prim.Native.Nat.{ℕ, ◌-◌, ◌≤◌, ◌<◌}
+use Prim.Native.Nat.{ℕ, ◌-◌}
 use lib.Dec.{leb}
 use Rattle.questions.specs.Search.{first_from}
-use Rattle.questions.proofs.Search.{first-same, search-none, search-here}
+use Rattle.questions.proofs.Search.{first-same}
 use Rattle.calendar.specs.declared.Calendar.{Calendar}
 use Rattle.calendar.specs.Trading.{cover_end}
 use Rattle.product.specs.declared.Kind.{Kind}
@@ -29,7 +29,8 @@ first-set (Option Months60) = refl
 first-set (Option Weeks5) = refl
 
 module _ (cal : Calendar) (kind : Kind) (group : List ℕ) (date : ℕ) where
-  abbrev may_be_front : ℕ → Bool
+  -- the key is in the first step's set, and its last trading day is not before the date
+  abbrev pub may_be_front : ℕ → Bool
   may_be_front k = set_at (kind_number kind) 0 k && leb date (last_trading_day cal kind group k)
 
   -- the search from a key on
@@ -42,18 +43,3 @@ module _ (cal : Calendar) (kind : Kind) (group : List ℕ) (date : ℕ) where
   front-is =
       first-same (λ k. widest (places_of (row_of kind) (sets_of kind)) k && leb date (last_trading_day cal kind group k)) may_be_front _ _ _
       (λ k. rw (first-set kind))
-
-  -- the search has come to a key, as the code's loop has
-  module _ (end start key : ℕ) (same : searched end key ≡ searched end start) (e : end ≡ key_of kind (cover_end cal.cover)) (d : start ≡ key_of kind date) where
-    comes : (r : ℕ) → searched end key ≡ r → r ≡ front (rule_of cal kind group) cal date
-    comes r s =
-        let a : searched (key_of kind (cover_end cal.cover)) (key_of kind date) ≡ r = rw (← e, ← d) (sym same ∙ s) in
-        sym (front-is ∙ a)
-
-    -- where the search comes to a key before the end that may be the front, that key is the front
-    pub front-here : key < end → may_be_front key ≡ true → key ≡ front (rule_of cal kind group) cal date
-    front-here l t = comes key (search-here _ _ _ _ l t)
-
-    -- where the search comes to the end, the front is the first key beyond the cover
-    pub front-none : end ≤ key → end ≡ front (rule_of cal kind group) cal date
-    front-none l = comes end (search-none _ _ _ _ l)

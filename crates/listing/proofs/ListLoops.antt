@@ -18,11 +18,11 @@ use Rattle.product.specs.declared.Kind.TheVariants.{Future, Option}
 use Rattle.product.specs.declared.ListingText.TheVariants.{Of2008, Of2005}
 use Rattle.product.specs.declared.Term.TheVariants.{Months12, Months24, Months60, Weeks5}
 use Rattle.product.specs.Fields.{kind_number}
-use Rattle.expiry.specs.LastDays.{weekly_friday}
 use Rattle.listing.specs.declared.Maturity.{Maturity}
 use Rattle.listing.specs.declared.Listing.{Listing}
 use Rattle.listing.specs.Rules.{next_of, taken, unused, places15}
-use Rattle.listing.specs.Months.{quarters, month_sets, names2005, counts, step_sets, set_at, in_set, places_of}
+use Rattle.std.proofs.Common.{sum}
+use Rattle.listing.specs.Months.{places_of_kind, quarters, month_sets, names2005, counts, step_sets, set_at, in_set, places_of}
 
 -- the places of the steps from s on, of row k
 unfoldable pub rest : ℕ → ℕ → List (ℕ → Bool)
@@ -85,9 +85,15 @@ rest-none k s hk hs =
 pub rest-count : (k s : ℕ) → k < 6 → s < 4 → length (rest k s) ≡ get_or (get_or counts k []) s 0 + length (rest k (s + 1))
 rest-count k s hk hs = ap length (rest-step k s hk hs) ∙ simp (length-append, length-replicate)
 
--- after the four steps of a row no places are left
-pub rest-zero : (k s : ℕ) → k < 6 → 4 ≤ s → length (rest k s) ≡ 0
-rest-zero k s hk hs = ap length (rest-none k s hk hs)
+-- the sum of a kind's row of counts is how many maturities its complete listing has
+pub sum-places : (kind : Kind) → sum (get_or counts (kind_number kind) []) ≡ places_of_kind kind
+unfolding places_of
+sum-places (Future Of2008) = refl
+sum-places (Future Of2005) = refl
+sum-places (Option Months12) = refl
+sum-places (Option Months24) = refl
+sum-places (Option Months60) = refl
+sum-places (Option Weeks5) = refl
 
 -- the listing once the places ps are filled from the key f on, after n places of a; it is complete if they make t
 module _ (mat : ℕ → Maturity) (e t : ℕ) where
@@ -266,26 +272,3 @@ set-decembers = set-by (12 ∷ []) (λ name. eqb name 12) refl
 pub set-2005 : (m : ℕ) → (eqb ((m % 12 + 1) % 3) 0 || (eqb (m % 12 + 1) 4 || (eqb (m % 12 + 1) 5 || eqb (m % 12 + 1) 7))) ≡ in_set names2005 m
 unfolding every one_of same
 set-2005 = set-by names2005 (λ name. eqb (name % 3) 0 || (eqb name 4 || (eqb name 5 || eqb name 7))) refl
-
--- the set of a row's step is that of the table's head, that of the seven names, or that of the weekly Fridays
-pub row-months : (k s : ℕ) → k < 4 → set_at k s ≡ get_or month_sets s (λ m. false)
-row-months zero s h = refl
-row-months (suc zero) s h = refl
-row-months (suc (suc zero)) s h = refl
-row-months (suc (suc (suc zero))) s h = refl
-row-months (suc (suc (suc (suc k)))) s h = absurd (omega arith)
-
-same-four : (p : ℕ → Bool) (s : ℕ) → s < 4 → get_or (replicate 4 p) s (λ k. false) ≡ p
-same-four p zero h = refl
-same-four p (suc zero) h = refl
-same-four p (suc (suc zero)) h = refl
-same-four p (suc (suc (suc zero))) h = refl
-same-four p (suc (suc (suc (suc s)))) h = absurd (omega arith)
-
--- each step of row 4 takes from the seven names of 2005
-pub row-2005 : (k s : ℕ) → k ≡ 4 → s < 4 → set_at k s ≡ in_set names2005
-row-2005 k s q h = rw q (same-four (in_set names2005) s h)
-
--- each step of row 5 takes from the weekly Fridays
-pub row-weekly : (k s : ℕ) → k ≡ 5 → s < 4 → set_at k s ≡ weekly_friday
-row-weekly k s q h = rw q (same-four weekly_friday s h)

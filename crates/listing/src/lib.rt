@@ -9,7 +9,7 @@ ghost use Rattle.expiry.specs.LastDays.{weekly_friday, key_of, last_trading_day}
 ghost use Rattle.listing.specs.Months.{month_sets, names2005, in_set, set_at, places_of_kind, counted_for, rule_of, listing_of, week_into_cover};
 
 use calendar::{Calendar, Cover};
-use product::Kind;
+use product::{Kind, ListingText, Term};
 
 // A listed maturity: its key, which is its month or the day number of its Friday, its last trading day,
 // and how many days that day lies before the anchor. A listing that is not yet numbered has number 0.
@@ -64,18 +64,16 @@ fn is_of_2005(month: u16) -> bool
     (name % 3 == 0) | ((name == 4) | ((name == 5) | (name == 7)))
 }
 
-// Whether a key is in the set of a step of a kind with this number.
-fn in_set(row: usize, step: usize, key: u16) -> bool
-    requires { (row < 6) × (step < 4) }
-    ensures { result ≡ set_at row step key }
+// Whether a key is in the set of a step of a kind.
+fn in_set(kind: Kind, step: usize, key: u16) -> bool
+    requires { step < 4 }
+    ensures { result ≡ set_at (kind_number kind) step key }
 {
-    if row < 4 {
-        return in_month_set(step, key);
+    match kind {
+        Kind::Future(ListingText::Of2005) => is_of_2005(key),
+        Kind::Option(Term::Weeks5) => expiry::is_weekly_friday(key),
+        _ => in_month_set(step, key),
     }
-    if row == 4 {
-        return is_of_2005(key);
-    }
-    expiry::is_weekly_friday(key)
 }
 
 // How many months after a month the next one of a step's set of kinds 0 to 3 comes; 0 where it is in the set itself.
@@ -107,21 +105,16 @@ fn next_month(step: usize, from: u16, end: u16) -> u16
 }
 
 // The next key of a step's set; the first key beyond the cover where the cover has none.
-fn next_in_set(row: usize, step: usize, from: u16, end: u16) -> u16
-    requires { (row < 6) × (step < 4) }
-    ensures { result ≡ next_of end (set_at row step) from }
+fn next_in_set(kind: Kind, step: usize, from: u16, end: u16) -> u16
+    requires { step < 4 }
+    ensures { result ≡ next_of end (set_at (kind_number kind) step) from }
 {
-    if row < 4 {
-        return next_month(step, from, end);
+    match kind {
+        Kind::Future(ListingText::Of2005) | Kind::Option(Term::Weeks5) => (from..end)
+            .find(|key| in_set(kind, step, *key))
+            .unwrap_or(end),
+        _ => next_month(step, from, end),
     }
-    let mut key = from;
-    while key < end {
-        if in_set(row, step, key) {
-            return key;
-        }
-        key += 1;
-    }
-    end
 }
 
 // How many maturities a complete listing of a kind has: the sum of its row of counts.
@@ -129,12 +122,7 @@ pub fn places_of_kind(kind: Kind) -> u16
     ensures { (result ≡ places_of_kind kind) × (result ≤ 15) }
 {
     let row = product::kind_number(kind) as usize;
-    let mut sum: u16 = 0;
-    for step in 0..4 {
-        let count = COUNTS[row][step];
-        sum += count as u16;
-    }
-    sum
+    COUNTS[row].iter().map(|count| *count as u16).sum()
 }
 
 // Whether a key is in the first step's set of a kind, and its last trading day is not before the date.
@@ -148,8 +136,7 @@ fn may_be_front(
 ) -> bool
     ensures { result ≡ (set_at (kind_number kind) 0 key && leb date (last_trading_day (calendar_with cover closed.now) kind group key)) }
 {
-    let row = product::kind_number(kind) as usize;
-    if !in_set(row, 0, key) {
+    if !in_set(kind, 0, key) {
         return false;
     }
     let last = expiry::last_trading_day_in(cover, closed, kind, group, key);
@@ -161,14 +148,10 @@ pub fn front_key_in(cover: Cover, closed: &[u8], kind: Kind, group: [u8; 4], dat
     ensures { result ≡ front (rule_of (calendar_with cover closed.now) kind group) (calendar_with cover closed.now) date }
 {
     let end = expiry::end_key(kind, cover);
-    let mut key = expiry::key_of(kind, date);
-    while key < end {
-        if may_be_front(cover, closed, kind, group, date, key) {
-            return key;
-        }
-        key += 1;
-    }
-    end
+    let start = expiry::key_of(kind, date);
+    (start..end)
+        .find(|key| may_be_front(cover, closed, kind, group, date, *key))
+        .unwrap_or(end)
 }
 
 // The same of a calendar.
@@ -231,25 +214,25 @@ pub fn list_in(cover: Cover, closed: &[u8], kind: Kind, group: [u8; 4], date: u1
     'steps: for step in 0..4 {
         let count = COUNTS[row][step];
         for j in 0..count {
-            let key = next_in_set(row, step, from, end);
+            let key = next_in_set(kind, step, from, end);
             if end <= key {
                 complete = false;
                 break 'steps;
             }
             let last = expiry::last_trading_day_in(cover, closed, kind, group, key);
             maturities[listed] = Maturity {
-                key: key,
+                key,
                 day: last.day,
                 back: last.back,
                 number: 0,
             };
-            listed = listed + 1;
+            listed += 1;
             from = key + 1;
         }
     }
     Listing {
-        complete: complete,
-        maturities: maturities,
+        complete,
+        maturities,
     }
 }
 

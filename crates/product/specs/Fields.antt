@@ -1,7 +1,9 @@
 -- The kinds, and what question 7 says of each field of a product record (01, Listed months; Master file; Questions, 7; 02, notes 1, 3 and 11).
 -- Assumes nothing.
-use Rattle.std.specs.Prelude.{ℕ, Bool, true, false, ◌&&◌, ◌||◌, cond, List, [], ◌∷◌, length, get_or, replicate, eqb, leb, ltb}
+use Rattle.std.specs.Prelude.{ℕ, Bool, true, false, ◌&&◌, ◌||◌, cond, List, [], ◌∷◌, Result, length, get_or, replicate, eqb, leb, ltb}
 use Rattle.questions.specs.Questions.{Ask, ask, Answer, answer}
+use Rattle.questions.specs.Refusals.{result_answer}
+use Rattle.questions.specs.declared.Refusal.{Refusal}
 use Rattle.questions.specs.Search.{every, one_of}
 use Rattle.product.specs.declared.ListingText.{ListingText}
 use Rattle.product.specs.declared.ListingText.TheVariants.{Of2008, Of2005}
@@ -9,8 +11,6 @@ use Rattle.product.specs.declared.Term.{Term}
 use Rattle.product.specs.declared.Term.TheVariants.{Months12, Months24, Months60, Weeks5}
 use Rattle.product.specs.declared.Kind.{Kind}
 use Rattle.product.specs.declared.Kind.TheVariants.{Future, Option}
-use Rattle.product.specs.declared.KindAnswer.{KindAnswer}
-use Rattle.product.specs.declared.KindAnswer.TheVariants.{Is, NotAKind}
 use Rattle.product.specs.declared.Product.{Product}
 
 -- '0 future', of the text of 2008; 'kind 4, a future of 2005' (02, note 1)
@@ -54,10 +54,9 @@ kind_asks number = ask 7 (kind_right number) ∷ []
 unfoldable pub kind_call : ℕ → Answer Kind
 kind_call number = answer (kind_asks number) (Future Of2008) (kind_of number)
 
--- the number and the value that each case of the answer stands for
-abbrev pub kind_answer : KindAnswer → Answer Kind
-kind_answer (Is kind) = record { refusal = 0; value = kind }
-kind_answer NotAKind = record { refusal = 7; value = Future Of2008 }
+-- the number and the value that the result for a kind stands for
+abbrev pub kind_answer : Result Kind Refusal → Answer Kind
+kind_answer result = result_answer (Future Of2008) result
 
 -- 21 'Is it a future?'; of either text: 'The due day, cash .. of kind 4 are those of a future' (02, note 1)
 abbrev pub is_future : Kind → Bool

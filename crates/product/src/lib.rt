@@ -5,14 +5,7 @@ ghost use Rattle.std.specs.Prelude.{◌≡◌, [], ◌∷◌, ◌+◌, ◌*◌, 
 ghost use Rattle.product.specs.Fields.{kind_number, kind_call, kind_answer, is_future, is_weekly, letter, digit, id_character, id_byte, id_of_length, id_right, first_digit, group_right, market_right, kind_right, size_right, file_size_right, tick_right, is_code, currency_right, fields_right, product_right, zero_product};
 ghost use Rattle.product.specs.Settlement.{italian, group_number, option_days, settlement_days};
 
-// The country codes that days to settlement tell apart: two bytes as one number.
-const DE: u16 = 0x4445;
-
-const FI: u16 = 0x4649;
-
-const GB: u16 = 0x4742;
-
-const IE: u16 = 0x4945;
+use questions::Refusal;
 
 // The text by which a future is listed.
 #[derive(Clone, Copy)]
@@ -35,13 +28,6 @@ pub enum Term {
 pub enum Kind {
     Future(ListingText),
     Option(Term),
-}
-
-// The kind with a number, or the refusal 7.
-#[derive(Clone, Copy)]
-pub enum KindAnswer {
-    Is(Kind),
-    NotAKind,
 }
 
 // A product's fields, as in its record; the size in ten-thousandths of a share.
@@ -76,67 +62,53 @@ pub fn kind_number(kind: Kind) -> u8
     ensures { result ≡ kind_number kind }
 {
     match kind {
-        Kind::Future(text) => match text {
-            ListingText::Of2008 => 0,
-            ListingText::Of2005 => 4,
-        },
-        Kind::Option(term) => match term {
-            Term::Months12 => 1,
-            Term::Months24 => 2,
-            Term::Months60 => 3,
-            Term::Weeks5 => 5,
-        },
+        Kind::Future(ListingText::Of2008) => 0,
+        Kind::Option(Term::Months12) => 1,
+        Kind::Option(Term::Months24) => 2,
+        Kind::Option(Term::Months60) => 3,
+        Kind::Future(ListingText::Of2005) => 4,
+        Kind::Option(Term::Weeks5) => 5,
     }
 }
 
-// The kind with a number, where there is one.
-pub fn kind_of(number: u8) -> KindAnswer
-    ensures { kind_answer result ≡ kind_call number }
-{
-    match number {
-        0 => KindAnswer::Is(Kind::Future(ListingText::Of2008)),
-        1 => KindAnswer::Is(Kind::Option(Term::Months12)),
-        2 => KindAnswer::Is(Kind::Option(Term::Months24)),
-        3 => KindAnswer::Is(Kind::Option(Term::Months60)),
-        4 => KindAnswer::Is(Kind::Future(ListingText::Of2005)),
-        5 => KindAnswer::Is(Kind::Option(Term::Weeks5)),
-        _ => KindAnswer::NotAKind,
+// The kind with a number, or the refusal 7.
+impl TryFrom<u8> for Kind {
+    type Error = Refusal;
+
+    ghost try_from_gives = { λ number result. kind_answer result ≡ kind_call number };
+
+    fn try_from(number: u8) -> Result<Kind, Refusal> {
+        match number {
+            0 => Ok(Kind::Future(ListingText::Of2008)),
+            1 => Ok(Kind::Option(Term::Months12)),
+            2 => Ok(Kind::Option(Term::Months24)),
+            3 => Ok(Kind::Option(Term::Months60)),
+            4 => Ok(Kind::Future(ListingText::Of2005)),
+            5 => Ok(Kind::Option(Term::Weeks5)),
+            _ => Err(Refusal::WrongRecord),
+        }
     }
 }
 
 // The kind that was looked up; the kind of number 0 where there is none.
-pub fn kind_or_future(answer: KindAnswer) -> Kind
+pub fn kind_or_future(answer: Result<Kind, Refusal>) -> Kind
     ensures { result ≡ (kind_answer answer).value }
 {
-    match answer {
-        KindAnswer::Is(kind) => kind,
-        KindAnswer::NotAKind => Kind::Future(ListingText::Of2008),
-    }
+    answer.unwrap_or(Kind::Future(ListingText::Of2008))
 }
 
 // Question 21.
 pub fn is_future(kind: Kind) -> bool
     ensures { result ≡ is_future kind }
 {
-    match kind {
-        Kind::Future(_) => true,
-        Kind::Option(_) => false,
-    }
+    matches!(kind, Kind::Future(_))
 }
 
 // 02, note 3: whether a kind's maturities are weekly.
 pub fn is_weekly(kind: Kind) -> bool
     ensures { result ≡ is_weekly kind }
 {
-    match kind {
-        Kind::Future(_) => false,
-        Kind::Option(term) => match term {
-            Term::Months12 => false,
-            Term::Months24 => false,
-            Term::Months60 => false,
-            Term::Weeks5 => true,
-        },
-    }
+    matches!(kind, Kind::Option(Term::Weeks5))
 }
 
 // A letter A–Z.
@@ -196,10 +168,10 @@ pub fn id_right(id: [u8; 4]) -> bool
 fn first_digit(kind: u8) -> u8
     ensures { result ≡ first_digit kind }
 {
-    if (kind == 0) | (kind == 4) {
-        return b'0';
+    match kind {
+        0 | 4 => b'0',
+        _ => b'1',
     }
-    b'1'
 }
 
 // Question 7, the group of a kind with this number.
@@ -245,25 +217,18 @@ pub fn file_size_right(shares: u16, part: u16) -> bool
 pub fn tick_right(tick: u16) -> bool
     ensures { result ≡ tick_right tick }
 {
-    (tick == 1) | (tick == 5) | (tick == 10) | (tick == 100)
-}
-
-// A currency's code.
-fn is_currency(currency: [u8; 3], a: u8, b: u8, c: u8) -> bool
-    ensures { result ≡ is_code (a ∷ b ∷ c ∷ []) currency }
-{
-    (currency[0] == a) & (currency[1] == b) & (currency[2] == c)
+    matches!(tick, 1 | 5 | 10 | 100)
 }
 
 // Question 7, the currency.
 pub fn currency_right(currency: [u8; 3]) -> bool
     ensures { result ≡ currency_right currency }
 {
-    is_currency(currency, b'E', b'U', b'R')
-        | is_currency(currency, b'C', b'H', b'F')
-        | is_currency(currency, b'U', b'S', b'D')
-        | is_currency(currency, b'G', b'B', b'P')
-        | is_currency(currency, b'G', b'B', b'X')
+    (currency == *b"EUR")
+        | (currency == *b"CHF")
+        | (currency == *b"USD")
+        | (currency == *b"GBP")
+        | (currency == *b"GBX")
 }
 
 // Question 7, all fields, as bytes and numbers.
@@ -307,25 +272,11 @@ pub fn product_right(product: Product) -> bool
     )
 }
 
-// A group's code.
-fn is_group(group: [u8; 4], a: u8, b: u8, c: u8, d: u8) -> bool
-    ensures { result ≡ is_code (a ∷ b ∷ c ∷ d ∷ []) group }
-{
-    (group[0] == a) & (group[1] == b) & (group[2] == c) & (group[3] == d)
-}
-
 // The groups whose anchor is a day earlier.
 pub fn is_italian(group: [u8; 4]) -> bool
     ensures { result ≡ italian group }
 {
-    is_group(group, b'I', b'T', b'0', b'1') | is_group(group, b'I', b'T', b'1', b'1')
-}
-
-// A country code's two bytes as one number.
-fn country_number(first: u8, second: u8) -> u16
-    ensures { (result ≡ 256 * first + second) × (second < 256) }
-{
-    256 * (first as u16) + (second as u16)
+    (group == *b"IT01") | (group == *b"IT11")
 }
 
 // A group's two digits as one number; 100 where a byte is no digit.
@@ -342,21 +293,10 @@ fn group_number(tens: u8, ones: u8) -> u8
 pub fn option_days(group: [u8; 4]) -> u8
     ensures { result ≡ option_days group }
 {
-    let country = country_number(group[0], group[1]);
     let number = group_number(group[2], group[3]);
-    match country {
-        DE => match number {
-            11..=14 => 2,
-            _ => 3,
-        },
-        FI => match number {
-            11..=14 => 4,
-            _ => 3,
-        },
-        GB | IE => match number {
-            11 => 4,
-            _ => 3,
-        },
+    match (group[0], group[1], number) {
+        (b'D', b'E', 11..=14) => 2,
+        (b'F', b'I', 11..=14) | (b'G', b'B', 11) | (b'I', b'E', 11) => 4,
         _ => 3,
     }
 }

@@ -1,9 +1,10 @@
-// What a program is asked for by its arguments, and what it answers where that is no run.
+// What a program is asked for by its arguments, and what it does then: its run, or a text.
 // Nothing can say which arguments there are, so what is asked for is tested (tests/gate/installed.py); promised is the status.
 #![tactic(auto)]
 
-ghost use Rattle.std.specs.Prelude.{◌≡◌, cond};
+ghost use Rattle.std.specs.Prelude.{◌≡◌, ◌≤◌, ◌⊎◌, cond, length, IfSome};
 
+use program_help::Program;
 use std::env::FillError;
 use std::rt::Env;
 use streams::Sent;
@@ -17,46 +18,36 @@ pub enum Request {
     Other,
 }
 
-// Whether the first bytes are `--help`.
-fn is_help(word: [u8; 10]) -> bool {
-    let dashes = (word[0] == b'-') & (word[1] == b'-');
-    let first = (word[2] == b'h') & (word[3] == b'e');
-    dashes & first & (word[4] == b'l') & (word[5] == b'p')
-}
-
-// Whether the first bytes are `--version`.
-fn is_version(word: [u8; 10]) -> bool {
-    let dashes = (word[0] == b'-') & (word[1] == b'-');
-    let first = (word[2] == b'v') & (word[3] == b'e') & (word[4] == b'r');
-    dashes & first & (word[5] == b's') & (word[6] == b'i') & (word[7] == b'o') & (word[8] == b'n')
-}
-
 // Whether the program was started with an argument of this number; its own name is 0.
 fn is_there(rt: HostRuntime, i: usize) -> bool {
     let mut word = [0u8; 1];
-    match rt.arg(i, &mut word) {
-        Err(FillError::NotPresent) => false,
-        _ => true,
-    }
+    !matches!(rt.arg(i, &mut word), Err(FillError::NotPresent))
 }
 
-// What a program is asked for. Of a word that is longer than any known one the length is 0.
+// The one argument of a program at the start of a text, and its length; none where there is none, or more than one, or the text is too short for it.
+pub fn sole_argument(rt: HostRuntime, text: &mut [u8]) -> Option<usize>
+    ensures { IfSome result (λ n. n ≤ length text.new) }
+{
+    if !is_there(rt, 1) | is_there(rt, 2) {
+        return None;
+    }
+    rt.arg(1, text).ok()
+}
+
+// What a program is asked for.
 pub fn asked_for(rt: HostRuntime) -> Request {
     if !is_there(rt, 1) {
         return Request::Nothing;
     }
-    if is_there(rt, 2) {
-        return Request::Other;
-    }
     let mut word = [0u8; 10];
-    let n = rt.arg(1, &mut word).unwrap_or(0);
-    if (n == 6) & is_help(word) {
-        return Request::Help;
+    let Some(n) = sole_argument(rt, &mut word) else {
+        return Request::Other;
+    };
+    match &word[..n] {
+        b"--help" => Request::Help,
+        b"--version" => Request::Version,
+        _ => Request::Other,
     }
-    if (n == 9) & is_version(word) {
-        return Request::Version;
-    }
-    Request::Other
 }
 
 // The status after a text that was asked for was written.
@@ -76,4 +67,18 @@ pub fn refused(rt: HostRuntime, program: &[u8]) -> u8
     streams::tell(rt, program);
     streams::tell(rt, b": unknown argument; --help says what there is\n");
     2
+}
+
+// What a program without arguments of its own does: its run, or what it says of itself; the status with which it ends.
+pub fn answered<F: FnOnce(HostRuntime) -> u8>(rt: HostRuntime, program: Program, run: F) -> u8
+    requires { F.pre run rt }
+    ensures { F.post run rt result ⊎ (result ≡ 0) ⊎ (result ≡ 2) }
+{
+    let none = streams::nothing_sent();
+    match asked_for(rt) {
+        Request::Nothing => run(rt),
+        Request::Help => shown(program.write_help(rt, none)),
+        Request::Version => shown(program.write_version(rt, none)),
+        Request::Other => refused(rt, program.name()),
+    }
 }

@@ -1,46 +1,51 @@
 -- The first n numbers of an array, one by one, and places filled one after another.
 -- Assumes nothing.
 use mathlib.Core.Path.{◌≡◌, refl, ◌∙◌, sym, ap}
-use mathlib.Core.List.{List, [], ◌∷◌, ◌++◌, append-nil}
+use mathlib.Core.List.{List, [], ◌∷◌, ◌++◌}
 use Prim.Native.Nat.{ℕ, suc, ◌+◌, ◌-◌, ◌≤◌, ◌<◌}
-use native.Mathlib.Numerals.{add-one}
+use native.Mathlib.Numerals.{one-add}
 use native.Mathlib.Omega.{arith}
-use lib.ListN.{length, get_or, set, take, drop, replicate, drop_of_length-le, length-append}
-use lib.Seq.{slice-cons, length-take-le, take_at, set_at, append_snoc}
-use borrow.Author.Tests.{eq-eqb, ne_eqb}
+use mathlib.Core.Bool.{Bool, true, false, cond}
+use lib.Dec.{ltb, eqb}
+use lib.ListN.{length, set, take, drop, replicate, length-append}
+use Rattle.std.specs.List.{position_or_len, list_any}
+use Rattle.std.specs.Option.{MatchOption}
+use Rattle.std.proofs.Common.{Option, Some, None}
+use Rattle.questions.proofs.Bools.{same_test}
+use Rattle.std.proofs.lemmas.List.Recursion.{is_position_or_len}
+use Rattle.std.proofs.lemmas.List.{drop_at, drop-replicate, drop-take, append_assoc}
+use borrow.Rule.Slice.PartMut.{put_mid}
+use lib.Seq.{length-take-le, take_at, set_at, append_snoc, length-slice}
+use borrow.Author.Tests.{eq-eqb, eqb-true, ltb-false, ltb-true}
+use Rattle.questions.specs.Search.{one_of}
 use Rattle.rounds.specs.Rounds.{places200, index_of}
 
-module _ (a : List ℕ) (n i : ℕ) (fits : n ≤ length a) where
-  -- the number at i comes next
-  next : i < n → drop i (take n a) ≡ get_or a i 0 ∷ drop (i + 1) (take n a)
-  next h = rw (add-one i) (slice-cons i n a 0 h fits)
+eqb-turned : (x y : ℕ) → eqb x y ≡ eqb y x
+eqb-turned x y = same_test _ _ (λ h. eq-eqb y x (sym (eqb-true x y h))) (λ h. eq-eqb x y (sym (eqb-true y x h)))
 
-  -- none is left
-  none_left : n ≤ i → drop i (take n a) ≡ []
-  none_left h = drop_of_length-le (take n a) {i = i} (omega (arith, length-take-le n a fits))
+-- how many numbers stand before a number is how many fail the search for it before one passes
+index-first : (x : ℕ) (xs : List ℕ) → index_of xs x ≡ position_or_len (λ y. eqb y x) xs
+unfolding index_of
+index-first x xs = is_position_or_len (λ ys. index_of ys x) (λ y. eqb y x) refl (λ y ys. rw (eqb-turned x y, one-add) refl) xs
 
-  -- the search for a number
-  module _ (x : ℕ) (e : index_of (take n a) x ≡ i + index_of (drop i (take n a)) x) where
-    -- the number looked for is at this place
-    pub index-here : i < n → get_or a i 0 ≡ x → i ≡ index_of (take n a) x
-    unfolding index_of
-    index-here h q =
-        let z : index_of (drop i (take n a)) x ≡ 0 = rw (next h, eq-eqb x (get_or a i 0) (sym q)) in
-        omega arith
+-- the place that the search gives is that many, below all of them; where it gives none, all of them stand before the number
+pub index-found : (xs : List ℕ) (x n : ℕ) (r : Option ℕ) → length xs ≡ n
+    → r ≡ cond (ltb (position_or_len (λ y. eqb y x) xs) (length xs)) (Some (position_or_len (λ y. eqb y x) xs)) None
+    → MatchOption r (n ≤ index_of xs x) (λ i. (i < n) × (i ≡ index_of xs x))
+index-found xs x n r l e = rw (e, index-first x xs) (go (ltb first (length xs)) refl)
+  where
+    first : ℕ
+    first = position_or_len (λ y. eqb y x) xs
 
-    -- the number looked for is not at this place, so the search goes on at the next
-    pub index-next : i < n → (get_or a i 0 ≡ x → ⊥) → index_of (take n a) x ≡ (i + 1) + index_of (drop (i + 1) (take n a)) x
-    unfolding index_of
-    index-next h q =
-        let z : index_of (drop i (take n a)) x ≡ suc (index_of (drop (i + 1) (take n a)) x) = rw (next h, ne_eqb x (get_or a i 0) (λ s. q (sym s))) in
-        omega arith
+    go : (b : Bool) → ltb first (length xs) ≡ b → MatchOption (cond b (Some first) None) (n ≤ first) (λ i. (i < n) × (i ≡ first))
+    go true q = (omega (arith, ltb-true first (length xs) q), refl)
+    go false q = omega (arith, ltb-false first (length xs) q)
 
-    -- when all places are searched, the place of the number looked for is the one past the last
-    pub index-none : n ≤ i → i ≡ index_of (take n a) x
-    unfolding index_of
-    index-none h =
-        let z : index_of (drop i (take n a)) x ≡ 0 = rw (none_left h) in
-        omega arith
+-- a number is one of a list where the library's search finds one that is equal
+pub one-any : (x : ℕ) (xs : List ℕ) → list_any (λ y. eqb y x) xs ≡ one_of xs x
+unfolding one_of
+one-any x [] = refl
+one-any x (y ∷ xs) = rw (eqb-turned x y, one-any x xs)
 
 -- a store to the first place that is unused
 pub put-place : (done : List ℕ) (x : ℕ) (out : List ℕ) (i : ℕ) → length done ≡ i → i < 200 → out ≡ places200 done → set out i x ≡ places200 (done ++ (x ∷ []))
@@ -55,56 +60,31 @@ pub take_places : (xs : List ℕ) (n : ℕ) → length xs ≡ n → take n (plac
 unfolding places200
 take_places xs n e = take_at xs (replicate (200 - length xs) 0) n e
 
--- the state of the loop: the places that are filled, and the whole once the rest is
-pub record Putting (whole tables : List ℕ) (end : ℕ) (out : List ℕ) (at i : ℕ) : Type 0 where
-  -- the numbers that are put
-  pub done : List ℕ
-  -- as many numbers are put as places are filled
-  pub filled : length done ≡ at
-  -- the end is no later than the end of the tables
-  pub fits : end ≤ length tables
-  -- the next table's place is no later than the end
-  pub within : i ≤ end
-  -- the filled places and the tables left are at most 200
-  pub room : at + (end - i) ≤ 200
-  -- the output holds the numbers that are put, in 200 places
-  pub places : out ≡ places200 done
-  -- the numbers that are put and those left are the whole
-  pub rest : done ++ drop i (take end tables) ≡ whole
+-- the numbers from first to end, copied to the places from n on, stand after the first n numbers
+pub put_slice : (other tables : List ℕ) (n first end : ℕ) (copied : List ℕ) → n ≤ length other → end ≤ length tables → first ≤ end → n + (end - first) ≤ 200
+    → other ≡ places200 (take n other) → copied ≡ take (end - first) (drop first tables)
+    → put_mid n (n + (end - first) - n) other copied ≡ places200 (take n other ++ drop first (take end tables))
+unfolding places200
+put_slice other tables n first end copied l fits within room e q = rw (many, copies) (rest ∙ sym (append_assoc (take n other) part _))
+  where
+    part : List ℕ
+    part = drop first (take end tables)
 
-module _ (tables : List ℕ) (end : ℕ) where
-  -- the state before the tables are put after those that are in the output already
-  pub puts : (other : List ℕ) (n first : ℕ) → n ≤ length other → end ≤ length tables → first ≤ end → n + (end - first) ≤ 200 → other ≡ places200 (take n other)
-      → Putting (take n other ++ drop first (take end tables)) tables end other n first
-  puts other n first l fits within room e =
-      record {
-        done = take n other;
-        filled = length-take-le n other l;
-        fits = fits;
-        within = within;
-        room = room;
-        places = e;
-        rest = refl;
-      }
+    many : n + (end - first) - n ≡ end - first
+    many = omega arith
 
-  module _ (whole out : List ℕ) (at i : ℕ) (s : Putting whole tables end out at i) where
-    -- one more number is put in the next place
-    pub puts-more : i < end → Putting whole tables end (set out at (get_or tables i 0)) (at + 1) (i + 1)
-    puts-more h =
-        record {
-          done = s.done ++ (get_or tables i 0 ∷ []);
-          filled = length-append s.done (get_or tables i 0 ∷ []) ∙ (omega (arith, s.filled));
-          fits = s.fits;
-          within = omega arith;
-          room = omega (arith, s.room);
-          places = put-place s.done (get_or tables i 0) out at s.filled (omega (arith, s.room)) s.places;
-          rest =
-              append_snoc s.done (get_or tables i 0) (drop (i + 1) (take end tables))
-              ∙ ap (λ (zs : List ℕ). s.done ++ zs) (sym (next tables end i s.fits h)) ∙ s.rest;
-        }
+    copies : copied ≡ part
+    copies =
+        let h : end ≡ first + (end - first) = omega arith in
+        q ∙ sym (drop-take first (end - first) tables) ∙ ap (λ (m : ℕ). drop first (take m tables)) (sym h)
 
-    -- after the last number the output holds the whole
-    pub puts-all : end ≤ i → out ≡ places200 whole
-    puts-all h =
-        let z : drop i (take end tables) ≡ [] = none_left tables end i s.fits h in
-        s.places ∙ ap places200 (sym (append-nil s.done) ∙ (rw z at s.rest))
+    free : drop n other ≡ replicate (200 - n) 0
+    free =
+        let k : 200 - length (take n other) ≡ 200 - n = omega (arith, length-take-le n other l) in
+        ap (drop n) e ∙ (rw (drop_at (take n other) (replicate (200 - length (take n other)) 0) n (length-take-le n other l), k) refl)
+
+    rest : take n other ++ (part ++ drop (end - first) (drop n other)) ≡ take n other ++ (part ++ replicate (200 - length (take n other ++ part)) 0)
+    rest =
+        let m : 200 - n - (end - first) ≡ 200 - length (take n other ++ part) =
+        omega (arith, length-append (take n other) part, length-take-le n other l, length-slice first end tables fits) in
+        ap (λ (zs : List ℕ). take n other ++ (part ++ zs)) (ap (drop (end - first)) free ∙ (rw (drop-replicate {X = ℕ} (end - first) (200 - n) 0, m) refl))

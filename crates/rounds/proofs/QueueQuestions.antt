@@ -3,22 +3,22 @@
 use mathlib.Core.Path.{◌≡◌, refl, ◌∙◌, sym, ap}
 use mathlib.Core.Bool.{Bool, true, false, ◌||◌, cond}
 use mathlib.Core.List.{List, [], ◌∷◌, ◌++◌}
-use Prim.Native.Nat.{ℕ, suc, ◌+◌, ◌-◌, ◌≤◌, ◌<◌}
+use Prim.Native.Nat.{ℕ, suc, ◌+◌, ◌-◌, ◌≤◌, ◌<◌, min}
+use mathlib.Core.Logic.{◌⊎◌, inl, inr}
 use native.Mathlib.Numerals.{add-one}
 use native.Mathlib.Omega.{arith}
-use lib.Dec.{leb, ltb, eqb}
+use lib.Dec.{leb, eqb}
 use lib.ListN.{length, set, take, drop, length-append, drop_of_length-le}
 use lib.Seq.{length-take-le, length-slice, take-take, take_all}
-use borrow.Author.Tests.{eqb-true, eq-eqb, ne_eqb, eqb-false, ltb-true, ltb-false, leb-true}
+use borrow.Author.Tests.{eqb-true, eq-eqb, ne_eqb, eqb-false, leb-true}
 use Rattle.questions.specs.Questions.{Ask, ask, first_no}
 use Rattle.questions.specs.Search.{one_of}
 use Rattle.questions.proofs.Asks.{first-no}
-use Rattle.questions.proofs.Bools.{clash}
+use Rattle.questions.proofs.Bools.{clash, lt-or-ge}
 use Rattle.rounds.proofs.QueuePlaces.{put-place, take_places}
 use Rattle.rounds.proofs.Distinct.{times, room_for}
 use Rattle.rounds.proofs.Queues.{distinct-queue}
 use Rattle.rounds.specs.declared.Queue.{Queue}
-use Rattle.rounds.specs.declared.Changed.{Changed}
 use Rattle.rounds.specs.Rounds.{queued, queue_right, places200, queue_of, index_of, handled, handle_call, changed, without}
 
 -- places filled with a list
@@ -30,30 +30,28 @@ queue-is xs ts n e l = rw (e, l)
 
 module _ (tables : List ℕ) (n : ℕ) (fits : n ≤ length tables) where
   -- as many as are taken
-  module _ (b few : ℕ) (least : few ≡ cond (ltb b n) b n) where
+  module _ (b few : ℕ) (least : few ≡ min b n) where
     -- no more tables are taken than the queue has
     pub few-least : few ≤ n
-    few-least = rw least (go (ltb b n) refl)
-      where
-        go : (c : Bool) → ltb b n ≡ c → cond c b n ≤ n
-        go true e = omega (arith, ltb-true b n e)
-        go false e = omega arith
+    few-least = omega (arith, least)
 
     few-take : take few tables ≡ take b (take n tables)
-    few-take = rw least (go (ltb b n) refl)
+    few-take = go (lt-or-ge b n)
       where
-        go : (c : Bool) → ltb b n ≡ c → take (cond c b n) tables ≡ take b (take n tables)
-        go true e = sym (take-take b n tables (omega (arith, ltb-true b n e)))
-        go false e = sym (take_all b (take n tables) (omega (arith, ltb-false b n e, length-take-le n tables fits)))
+        go : (b < n) ⊎ (n ≤ b) → take few tables ≡ take b (take n tables)
+        go (inl h) = let e : few ≡ b = omega (arith, least) in ap (λ (k : ℕ). take k tables) e ∙ sym (take-take b n tables (omega arith))
+        go (inr h) =
+            let e : few ≡ n = omega (arith, least) in
+            ap (λ (k : ℕ). take k tables) e ∙ sym (take_all b (take n tables) (omega (arith, length-take-le n tables fits)))
 
     few-drop : drop few (take n tables) ≡ drop b (take n tables)
-    few-drop = rw least (go (ltb b n) refl)
+    few-drop = go (lt-or-ge b n)
       where
-        go : (c : Bool) → ltb b n ≡ c → drop (cond c b n) (take n tables) ≡ drop b (take n tables)
-        go true e = refl
-        go false e =
-            drop_of_length-le (take n tables) {i = n} (omega (arith, length-take-le n tables fits))
-            ∙ sym (drop_of_length-le (take n tables) {i = b} (omega (arith, ltb-false b n e, length-take-le n tables fits)))
+        go : (b < n) ⊎ (n ≤ b) → drop few (take n tables) ≡ drop b (take n tables)
+        go (inl h) = let e : few ≡ b = omega (arith, least) in ap (λ (k : ℕ). drop k (take n tables)) e
+        go (inr h) =
+            drop_of_length-le (take n tables) {i = few} (omega (arith, least, length-take-le n tables fits))
+            ∙ sym (drop_of_length-le (take n tables) {i = b} (omega (arith, length-take-le n tables fits)))
 
     few-length : few ≡ length (take b (take n tables))
     few-length = sym (ap (λ (l : List ℕ). length l) (sym few-take) ∙ length-take-le few tables (omega (arith, few-least)))
@@ -92,20 +90,17 @@ module _ (tables : List ℕ) (n : ℕ) (fits : n ≤ length tables) where
 
   -- the one that a joining fills
   pub joined_is : (table : ℕ) (all : List ℕ) → n < 200 → all ≡ places200 (take n tables)
-      → ◌≡◌ {A = Changed} (record { refusal = 0; queue = record { tables = set all n table; count = n + 1 } })
-      (record { refusal = 0; queue = queue_of (take n tables ++ (table ∷ [])) })
+      → ◌≡◌ {A = Queue} (record { tables = set all n table; count = n + 1 }) (queue_of (take n tables ++ (table ∷ [])))
   joined_is table all h e =
       let l = length-take-le n tables fits in
-      rw (queue-is (take n tables ++ (table ∷ [])) (set all n table) (n + 1) (put-place (take n tables) table all n l h e)
-      (omega (arith, l, length-append (take n tables) (table ∷ []))))
+      queue-is (take n tables ++ (table ∷ [])) (set all n table) (n + 1) (put-place (take n tables) table all n l h e)
+      (omega (arith, l, length-append (take n tables) (table ∷ [])))
 
   -- the one that a leaving fills
   pub left_is : (index : ℕ) (before all : List ℕ) → index < n → before ≡ places200 (take index tables)
       → all ≡ places200 (take index before ++ drop (index + 1) (take n tables))
-      → ◌≡◌ {A = Changed} (record { refusal = 0; queue = record { tables = all; count = n - 1 } })
-      (record { refusal = 0; queue = queue_of (take index (take n tables) ++ drop (index + 1) (take n tables)) })
-  left_is index before all h e a =
-      rw (queue-is (take index (take n tables) ++ drop (index + 1) (take n tables)) all (n - 1) a1 a2)
+      → ◌≡◌ {A = Queue} (record { tables = all; count = n - 1 }) (queue_of (take index (take n tables) ++ drop (index + 1) (take n tables)))
+  left_is index before all h e a = queue-is (take index (take n tables) ++ drop (index + 1) (take n tables)) all (n - 1) a1 a2
     where
       l : length (take index tables) ≡ index
       l = length-take-le index tables (omega arith)
@@ -230,8 +225,8 @@ module _ (q : Queue) where
 
     module _ (r : queue_right q ≡ true) where
       -- a joining finds room
-      pub join-room : leb table 199 ≡ true → q.count ≤ index → q.count < 200
-      join-room s h = omega (arith, room_for (queued q) table (distinct-queue q r) (not-queued h) (leb-true table 199 s), long)
+      pub join-room : leb table 199 ≡ true → one_of (queued q) table ≡ false → q.count < 200
+      join-room s h = omega (arith, room_for (queued q) table (distinct-queue q r) h (leb-true table 199 s), long)
 
       -- the queue without a table is the queue without its index
       pub left_out : index < q.count → take index (queued q) ++ drop (index + 1) (queued q) ≡ without table (queued q)

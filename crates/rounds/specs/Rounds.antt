@@ -1,9 +1,12 @@
 -- The morning round: a queue of table numbers and its calls (02, Note 13; questions 10, 30 and 31).
 -- Assumes nothing.
-use Rattle.std.specs.Prelude.{ℕ, suc, ◌-◌, Bool, not, ◌&&◌, cond, List, [], ◌∷◌, ◌++◌, leb, eqb, length, take, drop, get_or, replicate}
+use Rattle.std.specs.Prelude.{ℕ, suc, ◌-◌, Bool, not, ◌&&◌, cond, List, [], ◌∷◌, ◌++◌, leb, eqb, length, take, drop, get_or, replicate, Result, Ok, Err}
 use Rattle.questions.specs.Questions.{Ask, ask, first_no}
 use Rattle.questions.specs.Search.{every, one_of}
 use Rattle.rounds.specs.declared.Queue.{Queue}
+use Rattle.questions.specs.declared.Refusal.{Refusal}
+use Rattle.questions.specs.Refusals.{refusal_number}
+use Rattle.rounds.specs.declared.RoundCalled.{RoundCalled}
 use Rattle.rounds.specs.declared.Handled.{Handled}
 use Rattle.rounds.specs.declared.Changed.{Changed}
 
@@ -49,6 +52,12 @@ handle_asks q b = ask 10 (queue_right q) ∷ ask 30 (round_right b) ∷ []
 abbrev pub handled : List ℕ → ℕ → Handled
 handled tables b = record { refusal = 0; taken = queue_of (take b tables); queue = queue_of (drop b tables ++ take b tables) }
 
+-- what the answer of a call of the round stands for: 0, the numbers taken and the queue;
+-- refused, it 'takes none and returns the queue as it came'
+abbrev pub handled_of : Queue → Result RoundCalled Refusal → Handled
+handled_of q (Ok round) = record { refusal = 0; taken = round.taken; queue = round.queue }
+handled_of q (Err refusal) = record { refusal = refusal_number refusal; taken = queue_of []; queue = q }
+
 -- 'A refused call takes none and returns the queue as it came'
 unfoldable pub handle_call : Queue → ℕ → Handled
 handle_call q b =
@@ -59,6 +68,11 @@ handle_call q b =
 unfoldable pub changed : Queue → List Ask → List ℕ → Changed
 changed q asks tables =
     cond (eqb (first_no asks) 0) (record { refusal = 0; queue = queue_of tables }) (record { refusal = first_no asks; queue = q })
+
+-- what the answer of a joining or leaving stands for: 0 and the queue; refused, it 'returns the queue as it came'
+abbrev pub changed_of : Queue → Result Queue Refusal → Changed
+changed_of q (Ok queue) = record { refusal = 0; queue = queue }
+changed_of q (Err refusal) = record { refusal = refusal_number refusal; queue = q }
 
 -- a joining or leaving: 10, 30, then 31, which asks each its own way
 abbrev pub change_asks : Queue → ℕ → Bool → List Ask

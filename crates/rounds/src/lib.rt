@@ -1,8 +1,10 @@
 // The morning round: the queue of tables that a host rolls, some at each call.
 #![tactic(auto)]
 
-ghost use Rattle.std.specs.Prelude.{◌≡◌, cond, [], ◌∷◌, ◌++◌, ◌+◌, ◌-◌, ◌≤◌, ◌<◌, ltb, take, drop};
-ghost use Rattle.rounds.specs.Rounds.{queued, queue_place_right, queue_right, places200, queue_of, index_of, handled, handle_call, join_call, leave_call};
+ghost use Rattle.std.specs.Prelude.{Ok, MatchOption, ◌≡◌, [], ◌∷◌, ◌++◌, ◌+◌, ◌-◌, ◌≤◌, ◌<◌, take, drop};
+ghost use Rattle.rounds.specs.Rounds.{queued, queue_place_right, queue_right, places200, queue_of, index_of, handled, handled_of, changed_of, handle_call, join_call, leave_call};
+
+use questions::Refusal;
 
 // Numbers of tables, the first to be handled first; the first `count` places are used.
 #[repr(C)]
@@ -12,7 +14,14 @@ pub struct Queue {
     pub count: u16,
 }
 
-// A call of the round: its refusal, 0 where it is accepted, the numbers that it took, in their order, and the queue.
+// The numbers that an accepted call of the round took, in the queue's order, and the queue after it.
+#[derive(Clone, Copy)]
+pub struct RoundCalled {
+    pub taken: Queue,
+    pub queue: Queue,
+}
+
+// A call of the round, for C: its refusal, 0 where it is accepted, the numbers that it took, in their order, and the queue.
 #[repr(C)]
 #[derive(Clone, Copy)]
 pub struct Handled {
@@ -21,12 +30,50 @@ pub struct Handled {
     pub queue: Queue,
 }
 
-// A joining or leaving: its refusal, 0 where it is accepted, and the queue.
+// A joining or leaving, for C: its refusal, 0 where it is accepted, and the queue.
 #[repr(C)]
 #[derive(Clone, Copy)]
 pub struct Changed {
     pub refusal: u8,
     pub queue: Queue,
+}
+
+impl Handled {
+    // The answer of a call of the round on a queue: refused, it takes none and returns the queue as it came.
+    pub fn for_c(queue: Queue, answer: Result<RoundCalled, Refusal>) -> Handled
+        ensures { result ≡ handled_of queue answer }
+    {
+        match answer {
+            Ok(round) => Handled {
+                refusal: 0,
+                taken: round.taken,
+                queue: round.queue,
+            },
+            Err(refusal) => Handled {
+                refusal: refusal.number(),
+                taken: Queue::empty(),
+                queue,
+            },
+        }
+    }
+}
+
+impl Changed {
+    // The answer of a joining or leaving on a queue: refused, it returns the queue as it came.
+    pub fn for_c(queue: Queue, answer: Result<Queue, Refusal>) -> Changed
+        ensures { result ≡ changed_of queue answer }
+    {
+        match answer {
+            Ok(changed) => Changed {
+                refusal: 0,
+                queue: changed,
+            },
+            Err(refusal) => Changed {
+                refusal: refusal.number(),
+                queue,
+            },
+        }
+    }
 }
 
 // Whether the number at place i is from 0 to 199, and no place before it has it.
@@ -38,14 +85,7 @@ fn is_place_right(tables: [u16; 200], i: usize) -> bool
     if 199 < number {
         return false;
     }
-    let mut j: usize = 0;
-    while j < i {
-        if tables[j] == number {
-            return false;
-        }
-        j += 1;
-    }
-    true
+    !tables[..i].contains(&number)
 }
 
 // Question 10: whether the queue holds at most 200 numbers from 0 to 199, each at most once. Places that are not used are not looked at.
@@ -57,29 +97,15 @@ fn is_right(q: Queue) -> bool
         return false;
     }
     let tables = q.tables;
-    let mut i: usize = 0;
-    while i < n {
-        if !is_place_right(tables, i) {
-            return false;
-        }
-        i += 1;
-    }
-    true
+    (0..n).all(|i| is_place_right(tables, i))
 }
 
-// How many of the first n numbers stand before a table's; n where it is not among them.
-fn index_of(tables: [u16; 200], n: usize, table: u16) -> usize
+// How many of the first n numbers stand before a table's, where it is among them.
+fn index_of(tables: [u16; 200], n: usize, table: u16) -> Option<usize>
     requires { n ≤ 200 }
-    ensures { (result ≡ index_of (take n tables) table) × (result ≤ n) }
+    ensures { MatchOption result (n ≤ index_of (take n tables) table) (λ i. (i < n) × (i ≡ index_of (take n tables) table)) }
 {
-    let mut i: usize = 0;
-    while i < n {
-        if tables[i] == table {
-            return i;
-        }
-        i += 1;
-    }
-    i
+    tables[..n].iter().position(|number| *number == table)
 }
 
 // The numbers at places first to end − 1, put after the first n of other places, which are zero from n on.
@@ -94,13 +120,7 @@ fn put_after(
     ensures { result ≡ places200 (take n other ++ drop first (take end tables)) }
 {
     let mut out = other;
-    let mut at = n;
-    let mut i = first;
-    while i < end {
-        out[at] = tables[i];
-        at += 1;
-        i += 1;
-    }
+    out[n..n + (end - first)].copy_from_slice(&tables[first..end]);
     out
 }
 
@@ -111,24 +131,14 @@ fn no_tables() -> [u16; 200]
     [0; 200]
 }
 
-// The smaller of two numbers.
-fn fewer(a: u16, b: u16) -> u16
-    ensures { result ≡ cond (ltb a b) a b }
-{
-    if a < b {
-        return a;
-    }
-    b
-}
-
 // An accepted call of the round: the first b tables, or all if fewer, are taken and put at the end.
-fn first_to_end(q: Queue, b: u16) -> Handled
+fn first_to_end(q: Queue, b: u16) -> RoundCalled
     requires { q.count ≤ 200 }
-    ensures { result ≡ handled (queued q) b }
+    ensures { handled_of q (Ok result) ≡ handled (queued q) b }
 {
     let tables = q.tables;
     let n = q.count as usize;
-    let few = fewer(b, q.count);
+    let few = b.min(q.count);
     let k = few as usize;
     let none = no_tables();
     let first = put_after(none, 0, tables, 0, k);
@@ -142,66 +152,38 @@ fn first_to_end(q: Queue, b: u16) -> Handled
         tables: all,
         count: q.count,
     };
-    Handled {
-        refusal: 0,
-        taken,
-        queue,
-    }
+    RoundCalled { taken, queue }
 }
 
 // An accepted joining: the table at the end.
-fn with_last(q: Queue, table: u16) -> Changed
+fn with_last(q: Queue, table: u16) -> Queue
     requires { q.count < 200 }
-    ensures { result ≡ record { refusal = 0; queue = queue_of (queued q ++ (table ∷ [])) } }
+    ensures { result ≡ queue_of (queued q ++ (table ∷ [])) }
 {
     let tables = q.tables;
     let n = q.count as usize;
     let none = no_tables();
     let mut all = put_after(none, 0, tables, 0, n);
     all[n] = table;
-    let queue = Queue {
+    Queue {
         tables: all,
         count: q.count + 1,
-    };
-    Changed { refusal: 0, queue }
+    }
 }
 
 // An accepted leaving: the queue without the number that so many stand before, the rest keeping their order.
-fn without_index(q: Queue, index: usize) -> Changed
+fn without_index(q: Queue, index: usize) -> Queue
     requires { (index < q.count) × (q.count ≤ 200) }
-    ensures { result ≡ record { refusal = 0; queue = queue_of (take index (queued q) ++ drop (index + 1) (queued q)) } }
+    ensures { result ≡ queue_of (take index (queued q) ++ drop (index + 1) (queued q)) }
 {
     let tables = q.tables;
     let n = q.count as usize;
     let none = no_tables();
     let before = put_after(none, 0, tables, 0, index);
     let all = put_after(before, index, tables, index + 1, n);
-    let queue = Queue {
+    Queue {
         tables: all,
         count: q.count - 1,
-    };
-    Changed { refusal: 0, queue }
-}
-
-// A refused call takes none and returns the queue as it came.
-fn none_taken(q: Queue, number: u8) -> Handled
-    ensures { result ≡ record { refusal = number; taken = queue_of []; queue = q } }
-{
-    let taken = Queue::empty();
-    Handled {
-        refusal: number,
-        taken,
-        queue: q,
-    }
-}
-
-// A refused joining or leaving returns the queue as it came.
-fn unchanged(q: Queue, number: u8) -> Changed
-    ensures { result ≡ record { refusal = number; queue = q } }
-{
-    Changed {
-        refusal: number,
-        queue: q,
     }
 }
 
@@ -215,56 +197,54 @@ impl Queue {
     }
 
     // A call of the round: takes the first b tables, or all if fewer, and puts them at the end.
-    pub fn handle(self, b: u16) -> Handled
-        ensures { result ≡ handle_call self b }
+    pub fn handle(self, b: u16) -> Result<RoundCalled, Refusal>
+        ensures { handled_of self result ≡ handle_call self b }
     {
         if !is_right(self) {
-            return none_taken(self, 10);
+            return Err(Refusal::Unsound);
         }
         if b < 1 {
-            return none_taken(self, 30);
+            return Err(Refusal::QueueNumberOutOfRange);
         }
         if 200 < b {
-            return none_taken(self, 30);
+            return Err(Refusal::QueueNumberOutOfRange);
         }
-        first_to_end(self, b)
+        Ok(first_to_end(self, b))
     }
 
     // Puts a table at the end.
-    pub fn join(self, table: u16) -> Changed
-        ensures { result ≡ join_call self table }
+    pub fn join(self, table: u16) -> Result<Queue, Refusal>
+        ensures { changed_of self result ≡ join_call self table }
     {
         if !is_right(self) {
-            return unchanged(self, 10);
+            return Err(Refusal::Unsound);
         }
         if 199 < table {
-            return unchanged(self, 30);
+            return Err(Refusal::QueueNumberOutOfRange);
         }
         let tables = self.tables;
         let n = self.count as usize;
-        let index = index_of(tables, n, table);
-        if index < n {
-            return unchanged(self, 31);
+        if tables[..n].contains(&table) {
+            return Err(Refusal::WronglyQueued);
         }
-        with_last(self, table)
+        Ok(with_last(self, table))
     }
 
     // Takes a table out, wherever it stands.
-    pub fn leave(self, table: u16) -> Changed
-        ensures { result ≡ leave_call self table }
+    pub fn leave(self, table: u16) -> Result<Queue, Refusal>
+        ensures { changed_of self result ≡ leave_call self table }
     {
         if !is_right(self) {
-            return unchanged(self, 10);
+            return Err(Refusal::Unsound);
         }
         if 199 < table {
-            return unchanged(self, 30);
+            return Err(Refusal::QueueNumberOutOfRange);
         }
         let tables = self.tables;
         let n = self.count as usize;
-        let index = index_of(tables, n, table);
-        if n <= index {
-            return unchanged(self, 31);
+        match index_of(tables, n, table) {
+            None => Err(Refusal::WronglyQueued),
+            Some(index) => Ok(without_index(self, index)),
         }
-        without_index(self, index)
     }
 }

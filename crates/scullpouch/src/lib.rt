@@ -10,10 +10,10 @@ ghost use Rattle.file_load.specs.Load.{load_answer, load_call, judge_call};
 ghost use Rattle.table.specs.Table.{open_call, open_in, roll_call, close_call, reopen_call};
 ghost use Rattle.table_values.specs.Values.{day_reply, last_day_reply, last_day_call, due_call};
 ghost use Rattle.table_prices.specs.TablePrices.{cash_reply, tick_call, cash_call};
-ghost use Rattle.file_write.specs.Writing.{write_call, write_answer, buffer_after};
+ghost use Rattle.file_write.specs.Writing.{write_call, buffer_after};
 ghost use Rattle.file_intake.specs.Intake.{announce_call, take_call, finish_call, finished_answer};
 ghost use Rattle.rounds.specs.Rounds.{queue_of, handle_call, join_call, leave_call};
-ghost use Rattle.calendar_synthetic.specs.Generated.{made_answer, made_call};
+ghost use Rattle.calendar_synthetic.specs.Generated.{made_call};
 ghost use Rattle.table_measures.specs.Measures.{measure_call};
 ghost use Rattle.table_vendor.specs.Vendor.{vendor_call};
 ghost use Rattle.session_lines.specs.CommandLines.{empty_line, fed};
@@ -26,19 +26,18 @@ ghost use Rattle.delivery_receipts.specs.Receiving.{received_to, first_unknown};
 ghost use Rattle.delivery_reports.specs.Reports.{unknown_text, differences_heading};
 ghost use Rattle.c_differences.specs.Found.{ReceivedIn, DifferencesIn};
 ghost use Rattle.c_delivery.specs.Delivered.{product_reply, NoticesIn, DeliveredIn, RowsWritten, text_line};
-ghost use Rattle.c_types.specs.Flat.{unflat_table, flat_outcome, outcome_on, measured_on, date_reply, verdict_reply, record_flat};
+ghost use Rattle.c_types.specs.Flat.{made_answer, written_reply, unflat_table, flat_outcome, outcome_on, measured_on, date_reply, verdict_reply, record_flat};
 
 use c_delivery::{FlatDelivered, Notices, ProductReply, TextLine, TextReply};
 use c_differences::{FlatReceipt, FoundLines};
 use c_types::{
-    DateReply, FlatMeasured, FlatOutcome, FlatProduct, FlatRecord, FlatTable, Id, VerdictReply,
+    DateReply, FlatMeasured, FlatOutcome, FlatProduct, FlatRecord, FlatTable, Id, Made,
+    VerdictReply, WrittenFile,
 };
 use calendar::{Calendar, Cover};
-use calendar_synthetic::Made;
 use file_calendar::FileCalendar;
 use file_intake::{Finished, Intake, Taken};
 use file_load::Loaded;
-use file_write::WrittenFile;
 use rounds::{Changed, Handled, Queue};
 use table_prices::CashReply;
 use table_values::{DayReply, LastDayReply};
@@ -157,9 +156,9 @@ pub fn scullpouch_cash(t: FlatTable, contracts: u32, agreed: u32, final_price: u
 
 // Writes a master file into a lent buffer. Refused, nothing is written.
 pub fn scullpouch_write(calendar: Calendar, records: &[u8], buffer: &mut [u8]) -> WrittenFile
-    ensures { (write_answer result ≡ write_call calendar records.now (length buffer.old)) × (buffer.new ≡ buffer_after calendar records.now buffer.old) }
+    ensures { (written_reply result ≡ write_call calendar records.now (length buffer.old)) × (buffer.new ≡ buffer_after calendar records.now buffer.old) }
 {
-    file_write::write(calendar, records, buffer)
+    c_types::reply_of_writing(file_write::write(calendar, records, buffer))
 }
 
 // The record of a product.
@@ -208,28 +207,28 @@ pub fn scullpouch_queue() -> Queue
 pub fn scullpouch_handle(queue: Queue, b: u16) -> Handled
     ensures { result ≡ handle_call queue b }
 {
-    queue.handle(b)
+    Handled::for_c(queue, queue.handle(b))
 }
 
 // Puts a table at the end of the queue.
 pub fn scullpouch_join(queue: Queue, table: u16) -> Changed
     ensures { result ≡ join_call queue table }
 {
-    queue.join(table)
+    Changed::for_c(queue, queue.join(table))
 }
 
 // Takes a table out of the queue.
 pub fn scullpouch_leave(queue: Queue, table: u16) -> Changed
     ensures { result ≡ leave_call queue table }
 {
-    queue.leave(table)
+    Changed::for_c(queue, queue.leave(table))
 }
 
 // The made-up calendar of a seed, for load tests.
 pub fn scullpouch_make(seed: u32, cover: Cover) -> Made
     ensures { made_answer result ≡ made_call seed cover }
 {
-    calendar_synthetic::make(seed, cover)
+    c_types::reply_of_made(calendar_synthetic::make(seed, cover))
 }
 
 // The product at a place of a master file: questions 1 to 8, and 9 of the place.

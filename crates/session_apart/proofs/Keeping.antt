@@ -24,9 +24,10 @@ use Rattle.session_text.specs.TermsText.{call_text, outcome_text, refusal_text}
 use Rattle.session_lines.specs.declared.Command.{Command}
 use Rattle.table.specs.declared.Table.{Table}
 use Rattle.table.specs.declared.Outcome.{Outcome}
-use Rattle.table_opening.specs.declared.Listed.{Listed}
-use Rattle.table_opening.specs.Opening.{refused_opening, listing_in}
-use Rattle.table_opening.proofs.Opened.{refused-listed, accepted-listed}
+use Rattle.std.specs.Prelude.{Ok, Err}
+use Rattle.table_opening.specs.declared.ListedFindings.{ListedFindings}
+use Rattle.table_opening.specs.Opening.{Listed, refused_opening, listing_in, listed_result}
+use Rattle.table_opening.proofs.Opened.{refused-listed, accepted-listed, result-err, result-ok}
 use Rattle.table.specs.Table.{sound, calendar_sound, kept_in, roll_call, close_call, opened_with, open_in, trades_around, none_ends_on}
 use Rattle.table.proofs.TableQuestions.{roll-16, close-16, sound-parts}
 use Rattle.table.proofs.Opens.{in-refused, in-accepted}
@@ -165,6 +166,22 @@ module _ (verdict : Answer Calendar) (f id : List ℕ) (date : ℕ) (l : Listed)
       (record { refusal = 0; product = l.product; calendar = verdict.value; fresh = l.fresh })
       (accepted-listed verdict f id date l is z)
       refl
+
+-- the same of a result
+module _ (verdict : Answer Calendar) (f id : List ℕ) (date : ℕ) where
+  -- an opening that the listing refuses has its number, which is not 0
+  pub result-refused : (n : ℕ) → listed_result (listing_in verdict f id date) ≡ Err n → (n ≡ (open_in verdict f id date).refusal) × (n ≡ 0 → ⊥)
+  result-refused n e =
+      let (q, h) = result-err (listing_in verdict f id date).refusal n _ e in
+      (sym q ∙ open-refused verdict f id date (listing_in verdict f id date) refl (λ z. h (sym q ∙ z)), h)
+
+  -- an opening that the listing accepts has the product, the verdict's calendar and the fresh listing
+  pub result-accepted : (r : ListedFindings) → listed_result (listing_in verdict f id date) ≡ Ok r
+      → opened_with r.product verdict.value date (take (places_of_kind r.product.kind) r.fresh) ≡ open_in verdict f id date
+  result-accepted r e =
+      let (z, q) = result-ok (listing_in verdict f id date).refusal _ r e in
+      ap (λ (x : ListedFindings). opened_with x.product verdict.value date (take (places_of_kind x.product.kind) x.fresh)) (sym q)
+      ∙ open-accepted verdict f id date (listing_in verdict f id date) refl z
 
 -- an open, whatever the table was
 pub opened-apart : (opening : List ℕ → ℕ → Outcome) (t : Table) (c : Command) (m : Moved) (closed exchange : List ℕ) → c.letter ≡ 79

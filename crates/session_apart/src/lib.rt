@@ -209,16 +209,17 @@ fn open_apart(
 ) -> Moved
     ensures { Moves (table_with rest closed.old exchange.old) (open_in (calendar_answer judged) file.now id date) result closed.new exchange.new }
 {
-    let l = table_opening::listed_in(file, judged, id, date);
-    let refusal = l.refusal;
-    if refusal != 0 {
-        return Moved {
-            refusal,
-            rest,
-            entered: 0,
-            left: 0,
-        };
-    }
+    let l = match table_opening::listed_in(file, judged, id, date) {
+        Ok(l) => l,
+        Err(refusal) => {
+            return Moved {
+                refusal,
+                rest,
+                entered: 0,
+                left: 0,
+            };
+        }
+    };
     let cal = judged.calendar;
     let first_map = cal.closed;
     let second_map = cal.exchange;

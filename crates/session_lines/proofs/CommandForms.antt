@@ -10,8 +10,10 @@ use lib.ListN.{length, get_or, replicate, get_or-eq_default}
 use Rattle.questions.proofs.Bools.{and-fst, and-snd, clash, is_false}
 use Rattle.product.specs.Fields.{digit}
 use borrow.Author.Tests.{leb-true, le-leb, lt-leb, eq-eqb, ne_eqb}
-use Rattle.days.specs.declared.DayAnswer.{DayAnswer}
-use Rattle.days.specs.declared.DayAnswer.TheVariants.{Day, NotADate}
+use Rattle.std.specs.Prelude.{Result, Ok, Err}
+use Rattle.questions.specs.declared.Refusal.{Refusal}
+use Rattle.questions.specs.Refusals.{refusal_number}
+use Rattle.questions.proofs.Refusals.{numbered-from-1}
 use Rattle.days.specs.Dates.{day_call, day_answer}
 use Rattle.session_lines.specs.declared.DateRead.{DateRead}
 use Rattle.session_lines.specs.CommandLines.{two_digits, two_value, date_form, year_at, no_date_read, date_at, other_line, move_form, move_command, id_form}
@@ -25,24 +27,24 @@ module _ (f : ℕ → ℕ) where
     unfolding date_at
     date-formless e = rw e refl
 
-    module _ (e : date_form f at ≡ true) (y m d : ℕ) (p : y ≡ year_at f at) (q : m ≡ two_value f (at + 5)) (r : d ≡ two_value f (at + 8)) (a : DayAnswer)
+    module _ (e : date_form f at ≡ true) (y m d : ℕ) (p : y ≡ year_at f at) (q : m ≡ two_value f (at + 5)) (r : d ≡ two_value f (at + 8)) (a : Result ℕ Refusal)
         (s : day_answer a ≡ day_call y m d) where
       called : day_answer a ≡ day_call (year_at f at) (two_value f (at + 5)) (two_value f (at + 8))
       called = s ∙ rw (p, q, r) refl
 
       -- bytes with the form of a date that the calendar has read as its day
-      pub date-there : (n : ℕ) → a ≡ Day n → record { there = true; day = n } ≡ date_at f at
+      pub date-there : (n : ℕ) → a ≡ Ok n → record { there = true; day = n } ≡ date_at f at
       unfolding date_at
       date-there n t =
           let c : record { refusal = 0; value = n } ≡ day_call (year_at f at) (two_value f (at + 5)) (two_value f (at + 8)) = sym (ap day_answer t) ∙ called in
           rw (e, ← c) refl
 
       -- bytes with the form of a date that the calendar does not have read as no date
-      pub date-refused : a ≡ NotADate → no_date_read ≡ date_at f at
+      pub date-refused : (k : Refusal) → a ≡ Err k → no_date_read ≡ date_at f at
       unfolding date_at
-      date-refused t =
-          let c : record { refusal = 23; value = 0 } ≡ day_call (year_at f at) (two_value f (at + 5)) (two_value f (at + 8)) = sym (ap day_answer t) ∙ called in
-          rw (e, ← c) refl
+      date-refused k t =
+          let c : record { refusal = refusal_number k; value = 0 } ≡ day_call (year_at f at) (two_value f (at + 5)) (two_value f (at + 8)) = sym (ap day_answer t) ∙ called in
+          rw (e, ← c, ne_eqb (refusal_number k) 0 (omega (arith, numbered-from-1 k))) refl
 
   -- a roll or a close
   module _ (n : ℕ) where

@@ -1,11 +1,11 @@
 // Lines of any length, byte by byte; and a line of the program `terms` to a command.
 #![tactic(auto)]
 
-ghost use Rattle.std.specs.Prelude.{◌≡◌, ◌+◌, ◌≤◌, ◌<◌, get_or, length};
+ghost use Rattle.std.specs.Prelude.{◌≡◌, ◌+◌, ◌≤◌, ◌<◌, ◌==◌, get_or, length, position};
+ghost use Rattle.std.specs.List.{list_all};
+ghost use Rattle.product.specs.Fields.{id_character};
 ghost use Rattle.session_lines.specs.CommandLines.{digit_value, two_digits, two_value, date_form, date_at, other_line, move_command, id_form, id_byte_at, id_in_line, open_form, open_command, line_command, empty_line, extended, fed};
 ghost use Rattle.session_lines.specs.BytePlaces.{ByteFrom};
-
-use days::DayAnswer;
 
 // A line: its first bytes and their number. The longest command has 17, the longest line of a master file's text 63.
 #[derive(Clone, Copy)]
@@ -61,17 +61,15 @@ pub fn feed(line: Line, bytes: &[u8]) -> Line
 {
     let mut held = line.bytes;
     let mut n = line.length;
-    let mut i: usize = 0;
-    while i < bytes.len() {
+    for byte in bytes {
         if 64 <= n {
             return Line {
                 bytes: held,
                 length: n,
             };
         }
-        held[n] = bytes[i];
+        held[n] = *byte;
         n += 1;
-        i += 1;
     }
     Line {
         bytes: held,
@@ -79,18 +77,24 @@ pub fn feed(line: Line, bytes: &[u8]) -> Line
     }
 }
 
+// The place of the first such byte.
+fn first_place(bytes: &[u8], byte: u8) -> Option<usize>
+    ensures { result ≡ position (λ b. b == byte) bytes.now }
+{
+    bytes.iter().position(|b| *b == byte)
+}
+
 // The place of the first such byte from a place on, or the end; a place past the end stays.
 pub fn byte_from(bytes: &[u8], from: usize, byte: u8) -> usize
     ensures { (from ≤ length bytes.now → ByteFrom byte bytes.now from result) × (length bytes.now < from → result ≡ from) }
 {
-    let mut i = from;
-    while i < bytes.len() {
-        if bytes[i] == byte {
-            return i;
-        }
-        i += 1;
+    if bytes.len() < from {
+        return from;
     }
-    i
+    match first_place(&bytes[from..], byte) {
+        Some(ahead) => from + ahead,
+        None => bytes.len(),
+    }
 }
 
 // The value of a digit.
@@ -144,8 +148,8 @@ fn date_at(bytes: [u8; 64], at: usize) -> DateRead
     }
     let year = 100 * two_value(bytes, at) + two_value(bytes, at + 2);
     match days::day_of_date(year, two_value(bytes, at + 5), two_value(bytes, at + 8)) {
-        DayAnswer::Day(day) => DateRead { there: true, day },
-        DayAnswer::NotADate => DateRead {
+        Ok(day) => DateRead { there: true, day },
+        Err(_) => DateRead {
             there: false,
             day: 0,
         },
@@ -199,19 +203,19 @@ fn move_command(bytes: [u8; 64], length: usize) -> Command
     }
 }
 
+// Whether all bytes are characters of an id.
+fn are_id_characters(bytes: &[u8]) -> bool
+    ensures { result ≡ list_all id_character bytes.now }
+{
+    bytes.iter().all(|b| product::is_id_character(*b))
+}
+
 // Whether k characters of an id follow the letter and its space.
 fn is_id_form(bytes: [u8; 64], k: usize) -> bool
     requires { k ≤ 4 }
     ensures { result ≡ id_form (λ i. get_or bytes i 0) k }
 {
-    let mut i: usize = 0;
-    while i < k {
-        if !product::is_id_character(bytes[2 + i]) {
-            return false;
-        }
-        i += 1;
-    }
-    true
+    are_id_characters(&bytes[2..2 + k])
 }
 
 // Byte i of an id of k characters, with spaces after them.

@@ -1,6 +1,6 @@
 -- The texts of numbers, days and maturities, case by case.
 -- Assumes nothing.
-use mathlib.Core.Path.{◌≡◌, refl, ◌∙◌, sym, ap}
+use mathlib.Core.Path.{◌≡◌, refl, ap}
 use mathlib.Core.Bool.{Bool, true, false, cond}
 use mathlib.Core.List.{List, [], ◌∷◌, ◌++◌}
 use Prim.Native.Nat.{ℕ, ◌+◌, ◌-◌, ◌*◌, ◌/◌, ◌%◌, ◌≤◌, ◌<◌}
@@ -11,8 +11,9 @@ use lib.ListN.{get_or}
 use borrow.Author.Tests.{lt-ltb, le-ltb}
 use Rattle.questions.specs.Questions.{Answer}
 use Rattle.days.specs.declared.Date.{Date}
-use Rattle.days.specs.declared.DateAnswer.{DateAnswer}
-use Rattle.days.specs.declared.DateAnswer.TheVariants.{Is, NotADay}
+use Rattle.std.specs.Prelude.{Result, Ok, Err}
+use Rattle.std.specs.Result.{result_unwrap_or}
+use Rattle.questions.specs.declared.Refusal.{Refusal}
 use Rattle.days.specs.Dates.{date_call, date_answer, zero_date}
 use Rattle.product.specs.declared.Kind.{Kind}
 use Rattle.product.specs.declared.Kind.TheVariants.{Future, Option}
@@ -63,13 +64,10 @@ year-digits year a b =
     let rest : year % 100 ≡ year - 2000 = omega arith in
     rw (first, rest) refl
 
--- the date in the answer of the call from a day to its date
-pub is-date : (a : DateAnswer) (d : ℕ) (x : Date) → date_answer a ≡ date_call d → a ≡ Is x → x ≡ (date_call d).value
-is-date a d x e q = ap (λ (r : Answer Date). r.value) (sym (ap date_answer q) ∙ e)
-
--- the date of a number that is not a day is the zero date
-pub no-date : (a : DateAnswer) (d : ℕ) → date_answer a ≡ date_call d → a ≡ NotADay → zero_date ≡ (date_call d).value
-no-date a d e q = ap (λ (r : Answer Date). r.value) (sym (ap date_answer q) ∙ e)
+-- the date in the answer of the call from a day to its date, and the zero date of a number that is not a day
+pub date-or-zeros : (a : Result Date Refusal) (d : ℕ) → date_answer a ≡ date_call d → result_unwrap_or a zero_date ≡ (date_call d).value
+date-or-zeros (Ok x) d e = ap (λ (r : Answer Date). r.value) e
+date-or-zeros (Err k) d e = ap (λ (r : Answer Date). r.value) e
 
 -- no maturity, and one more
 pub no_lines : (a : List ℕ) (at : ℕ) (kind : Kind) (ms : List Maturity) → Written a a at at (maturities_text kind 0 ms)

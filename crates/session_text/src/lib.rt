@@ -6,7 +6,7 @@ ghost use Rattle.days.specs.Dates.{date_call};
 ghost use Rattle.session_text.specs.TermsText.{last_digit, in_two_digits, in_four_digits, decimal, year_month, month_text, day_text, spaced, name_text, maturity_text, maturities_text, name_width, lines_width, heading_text, call_text, outcome_text, refusal_text, bad_text};
 ghost use Rattle.session_text.specs.Buffer.{Written, Printed, roomy};
 
-use days::{Date, DateAnswer};
+use days::Date;
 use listing::Maturity;
 use product::Kind;
 use table::Outcome;
@@ -115,14 +115,11 @@ fn put_month(out: &mut [u8], at: usize, month: u16) -> usize
 pub fn date_or_zeros(day: u16) -> Date
     ensures { result ≡ (date_call day).value }
 {
-    match days::date_of_day(day) {
-        DateAnswer::Is(date) => date,
-        DateAnswer::NotADay => Date {
-            year: 0,
-            month: 0,
-            day: 0,
-        },
-    }
+    days::date_of_day(day).unwrap_or(Date {
+        year: 0,
+        month: 0,
+        day: 0,
+    })
 }
 
 // A day by its date.
@@ -173,11 +170,8 @@ fn put_maturities(
     ensures { Written out.old out.new at result (maturities_text kind n maturities) × (result ≤ at + 465) }
 {
     let mut next = at;
-    let mut i: usize = 0;
-    while i < n {
-        let m = maturities[i];
-        next = put_maturity(out, next, kind, m);
-        i += 1;
+    for m in &maturities[..n] {
+        next = put_maturity(out, next, kind, *m);
     }
     next
 }

@@ -13,7 +13,7 @@ pub const STDERR_FILENO: i32 = 2;
 // The numbers of errors, as Linux has them.
 const EINTR: i32 = 4;
 
-const EBADF: i32 = 9;
+pub const EBADF: i32 = 9;
 
 pub(crate) const EINVAL: i32 = 22;
 
@@ -75,10 +75,7 @@ fn answer_of(said: Result<usize, Error>, buffer: &[u8]) -> Answer
 
 // Whether a signal interrupted a call before it moved a byte.
 fn interrupted(answer: Answer) -> bool {
-    if 0 <= answer.got {
-        return false;
-    }
-    answer.error == EINTR
+    (answer.got < 0) & (answer.error == EINTR)
 }
 
 // What the answer of a call on a buffer says.
@@ -99,8 +96,7 @@ fn transfer_of(got: isize, buffer: &[u8]) -> Transfer
 pub(crate) fn read_some<R: Read>(from: &mut R, part: &mut [u8]) -> Attempt
     ensures { Within result.moved part.new }
 {
-    let mut tries: u64 = 18446744073709551615;
-    while 0 < tries {
+    for _ in 0..u64::MAX {
         let said = from.read(part);
         let answer = answer_of(said, part);
         if !interrupted(answer) {
@@ -110,7 +106,6 @@ pub(crate) fn read_some<R: Read>(from: &mut R, part: &mut [u8]) -> Attempt
                 error: answer.error,
             };
         }
-        tries -= 1;
     }
     Attempt {
         moved: failure(),
@@ -135,8 +130,7 @@ fn write_to(rt: HostRuntime, fd: i32, bytes: &[u8]) -> Result<usize, Error>
 pub fn write_or_error(rt: HostRuntime, fd: i32, bytes: &[u8]) -> Attempt
     ensures { Within result.moved bytes.now }
 {
-    let mut tries: u64 = 18446744073709551615;
-    while 0 < tries {
+    for _ in 0..u64::MAX {
         let said = write_to(rt, fd, bytes);
         let answer = answer_of(said, bytes);
         if !interrupted(answer) {
@@ -146,7 +140,6 @@ pub fn write_or_error(rt: HostRuntime, fd: i32, bytes: &[u8]) -> Attempt
                 error: answer.error,
             };
         }
-        tries -= 1;
     }
     Attempt {
         moved: failure(),

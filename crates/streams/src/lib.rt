@@ -6,7 +6,9 @@ mod input;
 mod output;
 mod reads;
 
-pub use calls::{Attempt, STDERR_FILENO, STDOUT_FILENO, Transfer, write_or_error, write_some};
+pub use calls::{
+    Attempt, EBADF, STDERR_FILENO, STDOUT_FILENO, Transfer, write_or_error, write_some,
+};
 pub use input::{read_file, read_file_or_tell};
 pub use output::{Sent, Told, is_open, nothing_sent, nothing_told, tell, tell_next, write_next};
 pub use reads::{

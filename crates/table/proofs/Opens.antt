@@ -7,6 +7,7 @@ use Prim.Native.Nat.{ℕ, zero, suc}
 use native.Mathlib.Omega.{arith}
 use lib.Dec.{eqb-suc-zero}
 use lib.ListN.{take}
+use Rattle.std.specs.Prelude.{Ok, Err}
 use Rattle.questions.specs.Questions.{Ask, first_no, Answer}
 use Rattle.calendar.specs.declared.Calendar.{Calendar}
 use Rattle.listing.specs.Months.{places_of_kind, all_in_cover}
@@ -15,9 +16,9 @@ use Rattle.file_calendar.specs.Calendars.{calendar_of}
 use Rattle.file_load.specs.Load.{load_asks, judge_call, product_of}
 use Rattle.file_load.specs.Halves.{product_by_halves}
 use Rattle.file_load.proofs.Halving.{halves_product}
-use Rattle.table_opening.specs.declared.Opening.{Opening}
-use Rattle.table_opening.specs.Opening.{open_asks, asks_in, opening_in}
-use Rattle.table_opening.proofs.Opened.{OpenedFrom, opened-from, OpenedIn, opened_in, verdict-no, verdict-yes}
+use Rattle.table_opening.specs.declared.Findings.{Findings}
+use Rattle.table_opening.specs.Opening.{Opening, opening_result, open_asks, asks_in, opening_in}
+use Rattle.table_opening.proofs.Opened.{result-err, result-ok, OpenedFrom, opened-from, OpenedIn, opened_in, verdict-no, verdict-yes}
 use Rattle.table.specs.declared.Table.{Table}
 use Rattle.table.specs.declared.Outcome.{Outcome}
 use Rattle.table.specs.Table.{refused_with, answered, zero_table, opened_with, opened_table, open_call, open_in}
@@ -60,6 +61,20 @@ module _ (verdict : Answer Calendar) (f id : List ℕ) (date : ℕ) where
         go (suc n) q =
             let r : o.refusal ≡ suc n = ap (λ (x : Opening). x.refusal) is ∙ rw (q, eqb-suc-zero n) in
             absurd (omega (arith, h))
+
+  -- a refused opening gives the zero table with its number
+  pub result-refused : (n : ℕ) → opening_result (opening_in verdict f id date) ≡ Err n → refused_with zero_table n ≡ open_in verdict f id date
+  result-refused n e =
+      let (q, h) = result-err (opening_in verdict f id date).refusal n _ e in
+      ap (refused_with zero_table) (sym q) ∙ in-refused (opening_in verdict f id date) refl (λ z. h (sym q ∙ z))
+
+  -- an accepted one gives the table that is opened with what is found
+  pub result-accepted : (o : Findings) → opening_result (opening_in verdict f id date) ≡ Ok o
+      → opened_with o.product o.calendar date (take (places_of_kind o.product.kind) o.fresh) ≡ open_in verdict f id date
+  result-accepted o e =
+      let (z, q) = result-ok (opening_in verdict f id date).refusal _ o e in
+      ap (λ (x : Findings). opened_with x.product x.calendar date (take (places_of_kind x.product.kind) x.fresh)) (sym q)
+      ∙ in-accepted (opening_in verdict f id date) refl z
 
 -- with the file's own verdict it is the open of the file
 pub open_is : (f id : List ℕ) (date : ℕ) → open_in (judge_call f) f id date ≡ open_call f id date

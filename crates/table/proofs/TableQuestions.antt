@@ -15,7 +15,7 @@ use Rattle.questions.proofs.Bools.{both}
 use Rattle.calendar.specs.declared.Calendar.{Calendar}
 use Rattle.calendar.specs.Trading.{valid_cover, clean, every_week, in_cover, trading_day, close_day}
 use Rattle.product.specs.Fields.{product_right}
-use Rattle.listing.specs.Rules.{complete, keys_before}
+use Rattle.listing.specs.Rules.{keys_before}
 use Rattle.listing.specs.declared.Listing.{Listing}
 use Rattle.listing.specs.Months.{places_of_kind, listing_of, week_into_cover}
 use Rattle.listing.proofs.OfKinds.{rule-before}

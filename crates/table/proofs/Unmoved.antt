@@ -4,14 +4,16 @@ use mathlib.Core.Path.{◌≡◌, refl, ◌∙◌, sym, ap}
 use mathlib.Core.Bool.{Bool, true, false, not, ◌&&◌, cond}
 use mathlib.Core.Logic.{◌⊎◌, inl, inr}
 use mathlib.Core.List.{List, [], ◌∷◌, map}
-use Prim.Native.Nat.{ℕ, zero, suc, ◌+◌, ◌-◌, ◌≤◌, ◌<◌}
+use Prim.Native.Nat.{ℕ, zero, suc, ◌-◌, ◌≤◌, ◌<◌}
 use native.Mathlib.Omega.{arith}
 use native.Mathlib.Nat.{add-zero}
 use lib.Dec.{leb, eqb}
 use lib.ListN.{length, get_or}
+use Rattle.std.specs.Bool.{MatchBool}
+use Rattle.std.specs.List.{AllWithin, HoldsAt}
 use borrow.Author.Tests.{leb-false, eqb-false, eq-eqb, ne_eqb, not-true}
-use Rattle.questions.specs.Search.{every, first_from}
-use Rattle.questions.proofs.Search.{every-none, every_more, every-at, every-not}
+use Rattle.questions.specs.Search.{first_from}
+use Rattle.questions.proofs.Search.{every-all, every-at, every-not}
 use Rattle.calendar.specs.declared.Calendar.{Calendar}
 use Rattle.calendar.specs.declared.Cover.{Cover}
 use Rattle.listing.specs.declared.Maturity.{Maturity}
@@ -27,29 +29,17 @@ use Rattle.table.proofs.TableQuestions.{sound-parts}
 use Rattle.table.proofs.Staying.{fresh-long, place, in-places, blank-is, places-are, known, none-missing, none_left, known-numbers}
 use lib.ListN.{length-map}
 
--- none of the places before one ends on a day
-pub record NoneEnds (ms : List Maturity) (d i : ℕ) : Type 0 where
-  -- none of the first places has the day as its last day
-  pub none : every i (λ i. not (eqb (get_or ms i unused).day d)) ≡ true
-
 module _ (ms : List Maturity) (d : ℕ) where
-  -- before the first place none ends on the day
-  pub none-begins : NoneEnds ms d 0
-  none-begins = record { none = every-none (λ i. not (eqb (get_or ms i unused).day d)) }
-
-  -- a place that does not end on the day is added to those that do not
-  pub none_more : (i : ℕ) → NoneEnds ms d i → ((get_or ms i unused).day ≡ d → ⊥) → NoneEnds ms d (i + 1)
-  none_more i v n = record { none = every_more (λ i. not (eqb (get_or ms i unused).day d)) i v.none (rw (ne_eqb (get_or ms i unused).day d n) refl) }
-
-  -- where a place ends on the day, it is not so that none ends on it
-  pub none_found : (i : ℕ) → i < 15 → (get_or ms i unused).day ≡ d → false ≡ none_ends_on ms d
+  -- what a test of all places found is the answer to whether none ends on the day
+  pub none-answered : (r : Bool) → length ms ≡ 15
+      → MatchBool r (AllWithin (λ (m : Maturity). m.day ≡ d → ⊥) ms 0 (length ms)) ((k : ℕ) × (k < length ms) × HoldsAt (λ (m : Maturity). m.day ≡ d) ms k)
+      → r ≡ none_ends_on ms d
   unfolding none_ends_on
-  none_found i h e = sym (every-not (λ i. not (eqb (get_or ms i unused).day d)) 15 i (rw (eq-eqb (get_or ms i unused).day d e) refl) h)
-
-  -- where none of fifteen places ends on the day, none ends on it
-  pub none-all : (i : ℕ) → i ≡ 15 → NoneEnds ms d i → true ≡ none_ends_on ms d
-  unfolding none_ends_on
-  none-all i e v = sym (rw e at v.none)
+  none-answered true l h =
+      sym (every-all (λ i. not (eqb (get_or ms i unused).day d)) 15
+      (λ k b. rw (ne_eqb (get_or ms k unused).day d (h k unused (omega arith) (omega arith))) refl))
+  none-answered false l h =
+      sym (every-not (λ i. not (eqb (get_or ms i unused).day d)) 15 h.0 (rw (eq-eqb (get_or ms h.0 unused).day d (h.2 unused)) refl) (omega (arith, h.1)))
 
   -- where none ends on the day, each place has another last day
   pub none_of : none_ends_on ms d ≡ true → (i : ℕ) → i < 15 → (get_or ms i unused).day ≡ d → ⊥

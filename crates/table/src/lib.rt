@@ -77,13 +77,7 @@ pub fn is_sound(t: Table) -> bool
     if !product::product_right(t.product) {
         return false;
     }
-    if !calendar::is_valid_cover(t.calendar.cover) {
-        return false;
-    }
-    if !calendar_checks::is_clean(t.calendar) {
-        return false;
-    }
-    if !calendar_checks::every_week_trades(t.calendar) {
+    if !is_calendar_sound(t.calendar) {
         return false;
     }
     if !calendar::in_cover(t.calendar.cover, t.date) {
@@ -250,31 +244,20 @@ fn kept(t: Table, cal: Calendar, date: u16) -> Outcome
 pub fn none_ends_on(maturities: [Maturity; 15], day: u16) -> bool
     ensures { result ≡ none_ends_on maturities day }
 {
-    let mut i: usize = 0;
-    while i < 15 {
-        let m = maturities[i];
-        if m.day == day {
-            return false;
-        }
-        i += 1;
-    }
-    true
+    maturities.iter().all(|m| m.day != day)
 }
 
 // How many days before a day the nearest trading day lies, by the cover and the lent maps; 7 where none of the six days before it is one.
 fn steps_back(cover: Cover, closed: &[u8], day: u16) -> u16
     ensures { result ≡ steps_back (calendar_with cover closed.now) day }
 {
-    let mut n: u16 = 1;
-    while n < 7 {
+    for n in 1..7 {
         if day < n {
             return 7;
         }
-        let earlier = day - n;
-        if calendar::is_trading_day_in(cover, closed, earlier) {
+        if calendar::is_trading_day_in(cover, closed, day - n) {
             return n;
         }
-        n += 1;
     }
     7
 }
@@ -286,12 +269,10 @@ fn steps_on(cover: Cover, closed: &[u8], day: u16) -> u16
     if 36525 <= day {
         return 7;
     }
-    let mut n: u16 = 1;
-    while n < 7 {
+    for n in 1..7 {
         if calendar::is_trading_day_in(cover, closed, day + n) {
             return n;
         }
-        n += 1;
     }
     7
 }
@@ -321,15 +302,10 @@ fn keeps_weeks(cal: Calendar, day: u16) -> bool
 pub fn open_in(file: &[u8], judged: FileCalendar, id: [u8; 4], date: u16) -> Outcome
     ensures { result ≡ open_in (calendar_answer judged) file.now id date }
 {
-    let o = table_opening::opening_in(file, judged, id, date);
-    let refusal = o.refusal;
-    if refusal != 0 {
-        return refused(zero_table(), refusal);
+    match table_opening::opening_in(file, judged, id, date) {
+        Ok(o) => opened_with(o.product, o.calendar, date, o.fresh),
+        Err(number) => refused(zero_table(), number),
     }
-    let product = o.product;
-    let calendar = o.calendar;
-    let fresh = o.fresh;
-    opened_with(product, calendar, date, fresh)
 }
 
 impl Table {

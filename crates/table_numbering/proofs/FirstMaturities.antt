@@ -1,14 +1,17 @@
 -- The first n maturities of an array, taken one by one.
 -- Assumes nothing.
 use mathlib.Core.Path.{◌≡◌, refl, ◌∙◌, sym, ap}
-use mathlib.Core.Bool.{Bool, true, false, cond}
+use mathlib.Core.Bool.{Bool, true, false, not, ◌||◌, cond}
 use mathlib.Core.List.{List, [], ◌∷◌, ◌++◌, append-nil}
 use Prim.Native.Nat.{ℕ, suc, ◌+◌, ◌-◌, ◌≤◌, ◌<◌}
 use native.Mathlib.Numerals.{add-one}
 use native.Mathlib.Omega.{arith}
 use lib.ListN.{length, get_or, set, take, drop, replicate, drop_of_length-le, length-append}
 use lib.Seq.{drop-cons, get_or-take, length-take-le, set_at, append_snoc}
-use borrow.Author.Tests.{eq-eqb, ne_eqb}
+use lib.Dec.{eqb}
+use Rattle.std.proofs.lemmas.Option.{none-some, same_Some}
+use Rattle.std.specs.List.{list_any, find, filter}
+use Rattle.std.proofs.Common.{Some, None}
 use Rattle.listing.specs.declared.Maturity.{Maturity}
 use Rattle.listing.specs.Rules.{unused, places15}
 use Rattle.table_numbering.specs.Numbering.{is_listed, number_of, missing, with_number, renumbered}
@@ -26,58 +29,55 @@ module _ (a : List Maturity) (n i : ℕ) (fits : n ≤ length a) where
       let l : length (take n a) ≤ i = rw (length-take-le n a fits) h in
       drop_of_length-le (take n a) l
 
-  module _ (m : ℕ) where
-    -- the search for a month
-    pub listed_here : i < n → (get_or a i unused).key ≡ m → is_listed (drop i (take n a)) m ≡ true
-    unfolding is_listed
-    listed_here h e = rw (part-next h, eq-eqb _ _ e)
+-- a month is among maturities where the search for one that has it finds one
+pub listed-any : (m : ℕ) (ms : List Maturity) → is_listed ms m ≡ list_any (λ o. eqb o.key m) ms
+unfolding is_listed
+listed-any m [] = refl
+listed-any m (o ∷ ms) = rw (listed-any m ms)
 
-    -- a month that is not in the next place is listed in the rest where it is listed from that place on
-    pub listed_next : i < n → ((get_or a i unused).key ≡ m → ⊥) → is_listed (drop (i + 1) (take n a)) m ≡ is_listed (drop i (take n a)) m
-    unfolding is_listed
-    listed_next h e = sym (rw (part-next h, ne_eqb _ _ e))
+-- the first maturity that has a month has its number
+pub found-listed : (m : ℕ) (ms : List Maturity) (o : Maturity) → find (λ p. eqb p.key m) ms ≡ Some o → (is_listed ms m ≡ true) × (number_of ms m ≡ o.number)
+unfolding is_listed number_of
+found-listed m [] o e = absurd (none-some o e)
+found-listed m (p ∷ ms) o e = go (eqb p.key m) e (found-listed m ms o)
+  where
+    go : (b : Bool) → cond b (Some p) (find (λ q. eqb q.key m) ms) ≡ Some o
+        → (find (λ q. eqb q.key m) ms ≡ Some o → (is_listed ms m ≡ true) × (number_of ms m ≡ o.number))
+        → ((b || is_listed ms m) ≡ true) × (cond b p.number (number_of ms m) ≡ o.number)
+    go true q ih = (refl, ap (λ (x : Maturity). x.number) (same_Some p o q))
+    go false q ih = ih q
 
-    -- after the last place no month is listed
-    pub listed-none : n ≤ i → is_listed (drop i (take n a)) m ≡ false
-    unfolding is_listed
-    listed-none h = rw (part-done h)
+-- where none has a month, it is not there
+pub none-listed : (m : ℕ) (ms : List Maturity) → find (λ p. eqb p.key m) ms ≡ None → is_listed ms m ≡ false
+unfolding is_listed
+none-listed m [] e = refl
+none-listed m (p ∷ ms) e = go (eqb p.key m) e (none-listed m ms)
+  where
+    go : (b : Bool) → cond b (Some p) (find (λ q. eqb q.key m) ms) ≡ None → (find (λ q. eqb q.key m) ms ≡ None → is_listed ms m ≡ false) → (b || is_listed ms m) ≡ false
+    go true q ih = absurd (none-some p (sym q))
+    go false q ih = ih q
 
-    -- a month in the next place has the number of that place
-    pub number-here : i < n → (get_or a i unused).key ≡ m → number_of (drop i (take n a)) m ≡ (get_or a i unused).number
-    unfolding number_of
-    number-here h e = rw (part-next h, eq-eqb _ _ e)
+-- those that are missing elsewhere are as many as pass the test that their month is not there
+pub missing-filter : (others ms : List Maturity) → length (missing ms others) ≡ length (filter (λ m. not (is_listed others m.key)) ms)
+unfolding missing
+missing-filter others [] = refl
+missing-filter others (m ∷ ms) = go (is_listed others m.key) (missing-filter others ms)
+  where
+    go : (b : Bool) → length (missing ms others) ≡ length (filter (λ o. not (is_listed others o.key)) ms)
+        → length (cond b (missing ms others) (m ∷ missing ms others))
+        ≡ length (cond (not b) (m ∷ filter (λ o. not (is_listed others o.key)) ms) (filter (λ o. not (is_listed others o.key)) ms))
+    go true h = h
+    go false h = ap suc h
 
-    -- a month that is not in the next place has the number that it has in the rest
-    pub number-next : i < n → ((get_or a i unused).key ≡ m → ⊥) → number_of (drop (i + 1) (take n a)) m ≡ number_of (drop i (take n a)) m
-    unfolding number_of
-    number-next h e = sym (rw (part-next h, ne_eqb _ _ e))
-
-    -- after the last place each month has number 0
-    pub number-none : n ≤ i → number_of (drop i (take n a)) m ≡ 0
-    unfolding number_of
-    number-none h = rw (part-done h)
-
-  module _ (others : List Maturity) where
-    -- the count of those that are missing elsewhere
-    pub missing-next : i < n → length (missing (drop i (take n a)) others)
-        ≡ cond (is_listed others (get_or a i unused).key) 0 1 + length (missing (drop (i + 1) (take n a)) others)
-    unfolding missing
-    missing-next h = rw (part-next h) (go (is_listed others (get_or a i unused).key))
-      where
-        go : (b : Bool) → length (cond b (missing (drop (i + 1) (take n a)) others) (get_or a i unused ∷ missing (drop (i + 1) (take n a)) others))
-            ≡ cond b 0 1 + length (missing (drop (i + 1) (take n a)) others)
-        go true = omega arith
-        go false = omega arith
-
-    -- after the last place no maturity is missing elsewhere
-    pub missing-none : n ≤ i → length (missing (drop i (take n a)) others) ≡ 0
-    unfolding missing
-    missing-none h = rw (part-done h)
-
--- one maturity adds at most 1 to the count of those missing elsewhere
-pub cond-most : (b : Bool) → cond b 0 1 ≤ 1
-cond-most true = omega arith
-cond-most false = omega arith
+-- no more are missing elsewhere than there are
+pub missing-few : (others ms : List Maturity) → length (missing ms others) ≤ length ms
+unfolding missing
+missing-few others [] = omega arith
+missing-few others (m ∷ ms) = go (is_listed others m.key) (missing-few others ms)
+  where
+    go : (b : Bool) → length (missing ms others) ≤ length ms → length (cond b (missing ms others) (m ∷ missing ms others)) ≤ suc (length ms)
+    go true h = omega arith
+    go false h = omega arith
 
 -- a store to the first place that is unused
 put-place : (done : List Maturity) (m : Maturity) (out : List Maturity) (i : ℕ) → length done ≡ i → i < 15 → out ≡ places15 done
@@ -101,36 +101,33 @@ module _ (old : List Maturity) where
       go false = refl
 
   -- the state of the loop: the places that are filled, and the whole once the rest is
-  pub record Numbering (fresh : List Maturity) (n given : ℕ) (out : List Maturity) (g i : ℕ) : Type 0 where
+  pub record Numbering (fresh : List Maturity) (given : ℕ) (out : List Maturity) (g i : ℕ) : Type 0 where
     -- the maturities that are numbered
     pub done : List Maturity
     -- they are as many as the places passed
     pub filled : length done ≡ i
-    -- the places passed are at most those to be numbered
-    pub within : i ≤ n
     -- at most one number was given for each place passed
     pub few : g ≤ given + i
     -- the array holds them in its first places, and its other places are unused
     pub places : out ≡ places15 done
     -- they and the rest, numbered on from the last number given, are the renumbered fresh listing
-    pub whole : done ++ renumbered old g (drop i (take n fresh)) ≡ renumbered old given (take n fresh)
+    pub whole : done ++ renumbered old g (drop i fresh) ≡ renumbered old given fresh
 
-  module _ (fresh : List Maturity) (n given : ℕ) (fits : n ≤ length fresh) (room : n ≤ 15) where
+  module _ (fresh : List Maturity) (given : ℕ) where
     -- before the first place the state holds, with all places unused
-    pub starts : Numbering fresh n given (replicate 15 unused) given 0
+    pub starts : Numbering fresh given (replicate 15 unused) given 0
     unfolding places15
-    starts = record { done = []; filled = refl; within = omega arith; few = omega arith; places = refl; whole = refl }
+    starts = record { done = []; filled = refl; few = omega arith; places = refl; whole = refl }
 
     -- a maturity put in the next place, with its old number or else the next one, leaves the state
-    pub next : (out : List Maturity) (g i : ℕ) (m : Maturity) (h : ℕ) → Numbering fresh n given out g i → i < n
+    pub next : (out : List Maturity) (g i : ℕ) (m : Maturity) (h : ℕ) → Numbering fresh given out g i → length fresh ≤ 15 → i < length fresh
         → m ≡ with_number (get_or fresh i unused) (cond (is_listed old (get_or fresh i unused).key) (number_of old (get_or fresh i unused).key) (g + 1))
         → h ≡ cond (is_listed old (get_or fresh i unused).key) g (g + 1)
-        → Numbering fresh n given (set out i m) h (i + 1)
-    next out g i m h s l p q =
+        → Numbering fresh given (set out i m) h (i + 1)
+    next out g i m h s room l p q =
         record {
           done = s.done ++ (m ∷ []);
           filled = length-append s.done (m ∷ []) ∙ (omega (arith, s.filled));
-          within = omega arith;
           few = omega (arith, s.few, q, step (is_listed old (get_or fresh i unused).key));
           places = placed;
           whole = grown;
@@ -143,15 +140,15 @@ module _ (old : List Maturity) where
         placed : set out i m ≡ places15 (s.done ++ (m ∷ []))
         placed = put-place s.done m out i s.filled (omega arith) s.places
 
-        grown : (s.done ++ (m ∷ [])) ++ renumbered old h (drop (i + 1) (take n fresh)) ≡ renumbered old given (take n fresh)
+        grown : (s.done ++ (m ∷ [])) ++ renumbered old h (drop (i + 1) fresh) ≡ renumbered old given fresh
         grown =
-            append_snoc s.done m (renumbered old h (drop (i + 1) (take n fresh))) ∙
+            append_snoc s.done m (renumbered old h (drop (i + 1) fresh)) ∙
             (rw (p, q) (ap (λ (zs : List Maturity). s.done ++ zs)
-            (sym (rw (part-next fresh n i fits l) (renumber-cons g (get_or fresh i unused) (drop (i + 1) (take n fresh))))) ∙ s.whole))
+            (sym (rw (drop-cons fresh i unused l, ← add-one i) (renumber-cons g (get_or fresh i unused) (drop (i + 1) fresh)))) ∙ s.whole))
 
     -- after the last place the array holds the renumbered fresh listing
-    pub ends : (out : List Maturity) (g i : ℕ) → Numbering fresh n given out g i → n ≤ i → out ≡ places15 (renumbered old given (take n fresh))
+    pub ends : (out : List Maturity) (g i : ℕ) → Numbering fresh given out g i → length fresh ≤ i → out ≡ places15 (renumbered old given fresh)
     unfolding renumbered
     ends out g i s l =
-        let z : drop i (take n fresh) ≡ [] = part-done fresh n i fits l in
+        let z : drop i fresh ≡ [] = drop_of_length-le fresh l in
         s.places ∙ ap places15 (sym (append-nil s.done) ∙ (rw z at s.whole))

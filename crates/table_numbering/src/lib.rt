@@ -24,19 +24,7 @@ fn is_place_right(maturities: [Maturity; 15], fresh: [Maturity; 15], n: usize, i
 {
     let m = maturities[i];
     let f = fresh[i];
-    if m.key != f.key {
-        return false;
-    }
-    if m.day != f.day {
-        return false;
-    }
-    if m.back != f.back {
-        return false;
-    }
-    if i < n {
-        return true;
-    }
-    m.number == 0
+    m.key == f.key && m.day == f.day && m.back == f.back && (i < n || m.number == 0)
 }
 
 // Whether all places are right.
@@ -44,30 +32,14 @@ pub fn are_places_right(maturities: [Maturity; 15], fresh: [Maturity; 15], kind:
     ensures { result ≡ every 15 (place_right maturities fresh (places_of_kind kind)) }
 {
     let n = listing::places_of_kind(kind) as usize;
-    let mut i: usize = 0;
-    while i < 15 {
-        if !is_place_right(maturities, fresh, n, i) {
-            return false;
-        }
-        i += 1;
-    }
-    true
+    (0..15).all(|i| is_place_right(maturities, fresh, n, i))
 }
 
-// Whether a month is among the first n maturities.
-fn is_among(maturities: [Maturity; 15], n: usize, key: u16) -> bool
-    requires { n ≤ 15 }
-    ensures { result ≡ is_listed (take n maturities) key }
+// Whether a month is among the maturities.
+fn is_among(maturities: &[Maturity], key: u16) -> bool
+    ensures { result ≡ is_listed maturities.now key }
 {
-    let mut i: usize = 0;
-    while i < n {
-        let m = maturities[i];
-        if m.key == key {
-            return true;
-        }
-        i += 1;
-    }
-    false
+    maturities.iter().any(|m| m.key == key)
 }
 
 // Whether a month is in the places that a kind uses.
@@ -75,49 +47,18 @@ pub fn is_listed(maturities: [Maturity; 15], kind: Kind, key: u16) -> bool
     ensures { result ≡ is_listed (take (places_of_kind kind) maturities) key }
 {
     let n = listing::places_of_kind(kind) as usize;
-    is_among(maturities, n, key)
+    is_among(&maturities[..n], key)
 }
 
-// The listing number of a month among the first n maturities; 0 where it is not there.
-fn number_of(maturities: [Maturity; 15], n: usize, key: u16) -> u16
-    requires { n ≤ 15 }
-    ensures { result ≡ number_of (take n maturities) key }
+// How many of the maturities have a month that the others have not.
+fn count_absent(maturities: &[Maturity], others: &[Maturity]) -> u16
+    requires { length maturities.now ≤ 15 }
+    ensures { (result ≡ length (missing maturities.now others.now)) × (result ≤ 15) }
 {
-    let mut i: usize = 0;
-    while i < n {
-        let m = maturities[i];
-        if m.key == key {
-            return m.number;
-        }
-        i += 1;
-    }
-    0
-}
-
-// 1 where a month is not among the first n maturities.
-fn absent(others: [Maturity; 15], n: usize, key: u16) -> u16
-    requires { n ≤ 15 }
-    ensures { result ≡ cond (is_listed (take n others) key) 0 1 }
-{
-    if is_among(others, n, key) {
-        return 0;
-    }
-    1
-}
-
-// How many of the first n maturities have a month that the first n of others have not.
-fn count_absent(maturities: [Maturity; 15], others: [Maturity; 15], n: usize) -> u16
-    requires { n ≤ 15 }
-    ensures { (result ≡ length (missing (take n maturities) (take n others))) × (result ≤ 15) }
-{
-    let mut count: u16 = 0;
-    let mut i: usize = 0;
-    while i < n {
-        let m = maturities[i];
-        count += absent(others, n, m.key);
-        i += 1;
-    }
-    count
+    maturities
+        .iter()
+        .filter(|m| !is_among(others, m.key))
+        .count() as u16
 }
 
 // How many of the maturities in the places that a kind uses have a month that those of others have not.
@@ -125,55 +66,44 @@ pub fn count_missing(maturities: [Maturity; 15], others: [Maturity; 15], kind: K
     ensures { (result ≡ length (missing (take (places_of_kind kind) maturities) (take (places_of_kind kind) others))) × (result ≤ 15) }
 {
     let n = listing::places_of_kind(kind) as usize;
-    count_absent(maturities, others, n)
+    count_absent(&maturities[..n], &others[..n])
 }
 
 // A month that was there keeps its number, and one that enters takes the next.
-fn numbered(old: [Maturity; 15], n: usize, m: Maturity, given: u16) -> NumberedMaturity
-    requires { (n ≤ 15) × (given < 65535) }
-    ensures { (result.maturity ≡ with_number m (cond (is_listed (take n old) m.key) (number_of (take n old) m.key) (given + 1))) × (result.given ≡ cond (is_listed (take n old) m.key) given (given + 1)) }
+fn numbered(old: &[Maturity], m: Maturity, given: u16) -> NumberedMaturity
+    requires { given < 65535 }
+    ensures { (result.maturity ≡ with_number m (cond (is_listed old.now m.key) (number_of old.now m.key) (given + 1))) × (result.given ≡ cond (is_listed old.now m.key) given (given + 1)) }
 {
     let key = m.key;
-    let day = m.day;
-    let back = m.back;
-    if is_among(old, n, key) {
-        let number = number_of(old, n, key);
-        let maturity = Maturity {
-            key,
-            day,
-            back,
-            number,
-        };
-        return NumberedMaturity { maturity, given };
-    }
-    let number = given + 1;
-    let maturity = Maturity {
-        key,
-        day,
-        back,
-        number,
-    };
-    NumberedMaturity {
-        maturity,
-        given: number,
+    match old.iter().find(|o| o.key == key) {
+        Some(same) => NumberedMaturity {
+            maturity: Maturity {
+                number: same.number,
+                ..m
+            },
+            given,
+        },
+        None => NumberedMaturity {
+            maturity: Maturity {
+                number: given + 1,
+                ..m
+            },
+            given: given + 1,
+        },
     }
 }
 
-// The first n fresh maturities with their numbers, where k old places are used.
-fn number_fresh(old: Places, k: usize, fresh: Places, n: usize, given: u16) -> Places
-    requires { (k ≤ 15) × (n ≤ 15) × (given ≤ 60000) }
-    ensures { result ≡ places15 (renumbered (take k old) given (take n fresh)) }
+// The fresh maturities with their numbers, after the old ones and the count given.
+fn number_fresh(old: &[Maturity], fresh: &[Maturity], given: u16) -> Places
+    requires { (length fresh.now ≤ 15) × (given ≤ 60000) }
+    ensures { result ≡ places15 (renumbered old.now given fresh.now) }
 {
     let mut maturities = listing::unused_places();
     let mut given_so_far = given;
-    let mut i: usize = 0;
-    while i < n {
-        let m = fresh[i];
-        let s = numbered(old, k, m, given_so_far);
-        let t = s.maturity;
-        maturities[i] = t;
+    for (i, m) in fresh.iter().enumerate() {
+        let s = numbered(old, *m, given_so_far);
+        maturities[i] = s.maturity;
         given_so_far = s.given;
-        i += 1;
     }
     maturities
 }
@@ -186,7 +116,7 @@ pub fn renumber(old: Places, fresh: Places, kind: Kind, given: u16) -> Places
         return old;
     }
     let n = listing::places_of_kind(kind) as usize;
-    number_fresh(old, n, fresh, n, given)
+    number_fresh(&old[..n], &fresh[..n], given)
 }
 
 // The fresh maturities in the places that a kind uses, numbered 1, 2, ..
@@ -194,7 +124,7 @@ pub fn number_opened(fresh: Places, kind: Kind) -> Places
     ensures { result ≡ places15 (numbered_fresh (take (places_of_kind kind) fresh)) }
 {
     let n = listing::places_of_kind(kind) as usize;
-    number_fresh(fresh, 0, fresh, n, 0)
+    number_fresh(&[], &fresh[..n], 0)
 }
 
 // Whether no place before i has the number of place i.
@@ -203,15 +133,7 @@ fn is_unlike_before(maturities: [Maturity; 15], i: usize) -> bool
     ensures { result ≡ unlike_before maturities i }
 {
     let last = maturities[i];
-    let mut j: usize = 0;
-    while j < i {
-        let m = maturities[j];
-        if m.number == last.number {
-            return false;
-        }
-        j += 1;
-    }
-    true
+    maturities[..i].iter().all(|m| m.number != last.number)
 }
 
 // Whether the number of place i is from 1 to given, and no place before it has it.
@@ -220,13 +142,7 @@ fn is_number_right(maturities: [Maturity; 15], given: u16, i: usize) -> bool
     ensures { result ≡ number_right maturities given i }
 {
     let m = maturities[i];
-    if m.number < 1 {
-        return false;
-    }
-    if given < m.number {
-        return false;
-    }
-    is_unlike_before(maturities, i)
+    1 <= m.number && m.number <= given && is_unlike_before(maturities, i)
 }
 
 // Whether the numbers of the first n places are distinct and from 1 to given.
@@ -234,14 +150,7 @@ fn are_first_right(maturities: [Maturity; 15], n: usize, given: u16) -> bool
     requires { n ≤ 15 }
     ensures { result ≡ numbers_right maturities n given }
 {
-    let mut i: usize = 0;
-    while i < n {
-        if !is_number_right(maturities, given, i) {
-            return false;
-        }
-        i += 1;
-    }
-    true
+    (0..n).all(|i| is_number_right(maturities, given, i))
 }
 
 // Whether the numbers in the places that a kind uses are distinct and from 1 to given.

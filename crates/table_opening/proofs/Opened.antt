@@ -5,15 +5,16 @@ use mathlib.Core.Bool.{Bool, true, false, ◌&&◌, cond}
 use mathlib.Core.List.{List, [], ◌∷◌, ◌++◌}
 use Prim.Native.Nat.{ℕ, zero, suc, ◌*◌, ◌/◌, ◌%◌}
 use native.Mathlib.Omega.{arith}
-use lib.Dec.{ltb, eqb-suc-zero}
-use lib.ListN.{replicate}
-use borrow.Author.Tests.{ltb-true}
+use lib.Dec.{ltb, eqb, eqb-suc-zero}
+use borrow.Author.Tests.{ltb-true, ne_eqb}
+use Rattle.std.specs.Prelude.{Result, Ok, Err}
+use Rattle.std.specs.Result.{is_ok, IsErr, IsErrAnd}
+use Rattle.std.proofs.lemmas.Bool.{false≢true}
 use Rattle.questions.specs.Questions.{Ask, ask, first_no, Answer, answer}
 use Rattle.questions.proofs.Bools.{and-fst, and-snd}
 use Rattle.questions.proofs.Asks.{none-no, no-asks, first-yes, accepted}
 use Rattle.calendar.specs.declared.Calendar.{Calendar}
 use Rattle.calendar.specs.Trading.{in_cover}
-use Rattle.listing.specs.Rules.{unused}
 use Rattle.listing.specs.Months.{listing_of, all_in_cover, week_into_cover}
 use Rattle.file_calendar.specs.Calendars.{calendar_of}
 use Rattle.file_load.specs.Products.{product_at}
@@ -24,10 +25,8 @@ use Rattle.file_load.specs.declared.Found.TheVariants.{At, Nothing}
 use Rattle.file_load.specs.declared.Place.{Place}
 use Rattle.file_load.proofs.LoadAnswers.{judge-accepted}
 use Rattle.file_load.proofs.Halving.{halves-found, halves_product}
-use Rattle.table_opening.specs.declared.Opening.{Opening}
-use Rattle.table_opening.specs.declared.Listed.{Listed}
-use Rattle.product.specs.Fields.{zero_product}
-use Rattle.table_opening.specs.Opening.{opening_asks, open_asks, refused_opening, opening_of, asks_in, opening_in, listing_in}
+use Rattle.table_opening.specs.declared.ListedFindings.{ListedFindings}
+use Rattle.table_opening.specs.Opening.{Listed, opening_result, listed_result, opening_asks, open_asks, refused_opening, opening_of, asks_in, opening_in, listing_in}
 
 -- of two lists of questions, one after the other
 append-no : (qs rs : List Ask) (n : ℕ) → first_no qs ≡ suc n → first_no (qs ++ rs) ≡ suc n
@@ -84,6 +83,35 @@ find_none f id e = go (found_by_halves f id) refl (find-refusal f id Nothing e)
     go true q r = let z : ◌≡◌ {A = ℕ} 9 0 = rw q at r in absurd (omega arith)
     go false q r = q
 
+-- ---- a number of a refusal and a value, as a result
+
+-- the number of a refusal; 0 where there is none
+abbrev number_of : {A : Type 0} → Result A ℕ → ℕ
+number_of (Ok v) = 0
+number_of (Err n) = n
+
+-- the value; another where there is none
+abbrev value_or : {A : Type 0} → A → Result A ℕ → A
+value_or d (Ok v) = v
+value_or d (Err n) = d
+
+-- a refusal that is handed on
+pub err-is : {A : Type 0} (r : Result A ℕ) (n : ℕ) → IsErr r × IsErrAnd r (λ m. m ≡ n) → r ≡ Err n
+err-is (Ok v) n h = absurd (false≢true h.0)
+err-is (Err m) n h = ap Err h.1
+
+-- a refused one has the number of the refusal, which is not 0
+pub result-err : {A : Type 0} (n m : ℕ) (v : A) → cond (eqb n 0) (Ok v) (Err n) ≡ Err m → (n ≡ m) × (m ≡ 0 → ⊥)
+result-err zero m v e = absurd (false≢true (sym (ap is_ok e)))
+result-err (suc n) m v e =
+    let q : suc n ≡ m = ap number_of (rw (eqb-suc-zero n) at e) in
+    (q, λ z. omega (arith, q, z))
+
+-- an accepted one has the value
+pub result-ok : {A : Type 0} (n : ℕ) (v r : A) → cond (eqb n 0) (Ok v) (Err n) ≡ Ok r → (n ≡ 0) × (v ≡ r)
+result-ok zero v r e = (refl, ap (value_or v) e)
+result-ok (suc n) v r e = absurd (false≢true (ap is_ok (rw (eqb-suc-zero n) at e)))
+
 -- an opening by a verdict, question by question
 module _ (verdict : Answer Calendar) (f id : List ℕ) (date : ℕ) where
   in-no : (n : ℕ) → first_no (asks_in verdict f id date) ≡ suc n → opening_in verdict f id date ≡ refused_opening (suc n)
@@ -105,21 +133,19 @@ module _ (verdict : Answer Calendar) (f id : List ℕ) (date : ℕ) where
     rest_in = rw a refl
 
   -- what is listed is the opening but for its calendar: refused with the number of the first question answered no
-  pub listed-no : (n : ℕ) → first_no (asks_in verdict f id date) ≡ suc n
-      → record { refusal = suc n; product = zero_product; fresh = replicate 15 unused } ≡ listing_in verdict f id date
+  pub listed-no : (n : ℕ) → first_no (asks_in verdict f id date) ≡ suc n → Err (suc n) ≡ listed_result (listing_in verdict f id date)
   unfolding listing_in
-  listed-no n e = ap (λ (o : Opening). record { refusal = o.refusal; product = o.product; fresh = o.fresh }) (sym (in-no n e))
+  listed-no n e = rw (in-no n e, eqb-suc-zero n) refl
 
   -- a refused verdict gives its number
-  pub listed-refused : (q : ℕ) → verdict.refusal ≡ q → (q ≡ 0 → ⊥)
-      → record { refusal = q; product = zero_product; fresh = replicate 15 unused } ≡ listing_in verdict f id date
+  pub listed-refused : (q : ℕ) → verdict.refusal ≡ q → (q ≡ 0 → ⊥) → Err q ≡ listed_result (listing_in verdict f id date)
   listed-refused zero e h = absurd (h refl)
   listed-refused (suc n) e h = listed-no n (first-in n e)
 
   -- where no question refuses, the product and the fresh listing are listed
   pub listed-yes : first_no (asks_in verdict f id date) ≡ 0
-      → (let p = product_by_halves f id in record { refusal = 0; product = p; fresh = (listing_of verdict.value p.kind p.group date).maturities })
-      ≡ listing_in verdict f id date
+      → (let p = product_by_halves f id in Ok (record { product = p; fresh = (listing_of verdict.value p.kind p.group date).maturities }))
+      ≡ listed_result (listing_in verdict f id date)
   unfolding listing_in opening_in listing_of
   listed-yes e = rw e
 
@@ -148,6 +174,21 @@ module _ (verdict : Answer Calendar) (f id : List ℕ) (date : ℕ) where
         go (suc n) q =
             let r : l.refusal ≡ suc n = ap (λ (x : Listed). x.refusal) is ∙ rw (q, eqb-suc-zero n) in
             absurd (omega (arith, h))
+
+  -- a refused listing refuses the opening with its number
+  pub refused-opens : (n : ℕ) → listed_result (listing_in verdict f id date) ≡ Err n → Err n ≡ opening_result (opening_in verdict f id date)
+  unfolding listing_in
+  refused-opens n e =
+      let (q, h) = result-err (opening_in verdict f id date).refusal n _ e in
+      rw (q, ne_eqb n 0 h) refl
+
+  -- a listing that is accepted, with the verdict's calendar, is the opening
+  pub accepted-opens : (r : ListedFindings) → listed_result (listing_in verdict f id date) ≡ Ok r
+      → Ok (record { product = r.product; calendar = verdict.value; fresh = r.fresh }) ≡ opening_result (opening_in verdict f id date)
+  accepted-opens r e =
+      let (z, q) = result-ok (listing_in verdict f id date).refusal _ r e in
+      ap (λ (x : ListedFindings). Ok (record { product = x.product; calendar = verdict.value; fresh = x.fresh })) (sym q)
+      ∙ ap opening_result (accepted-listed (listing_in verdict f id date) refl z)
 
 -- the questions after load's
 module _ (f id : List ℕ) (date : ℕ) where

@@ -1,7 +1,7 @@
 -- What the call that opens a table asks of a file, and what it finds there
 -- (01, Questions, in order, 'Open'; Master file, 'Open finds its record by id'; 02, note 3).
 -- Assumes nothing.
-use Rattle.std.specs.Prelude.{ℕ, cond, List, [], ◌∷◌, ◌++◌, eqb, replicate}
+use Rattle.std.specs.Prelude.{ℕ, cond, List, [], ◌∷◌, ◌++◌, Result, Ok, Err, eqb, replicate}
 use Rattle.questions.specs.Questions.{Ask, ask, first_no, Answer}
 use Rattle.calendar.specs.Trading.{in_cover, zero_calendar}
 use Rattle.calendar.specs.declared.Calendar.{Calendar}
@@ -11,8 +11,10 @@ use Rattle.listing.specs.Months.{fresh_of, all_in_cover, week_into_cover}
 use Rattle.file_calendar.specs.Calendars.{calendar_of}
 use Rattle.file_load.specs.Load.{load_asks, found, product_of}
 use Rattle.file_load.specs.Halves.{found_by_halves, product_by_halves}
-use Rattle.table_opening.specs.declared.Opening.{Opening}
-use Rattle.table_opening.specs.declared.Listed.{Listed}
+use Rattle.product.specs.declared.Product.{Product}
+use Rattle.listing.specs.declared.Maturity.{Maturity}
+use Rattle.table_opening.specs.declared.Findings.{Findings}
+use Rattle.table_opening.specs.declared.ListedFindings.{ListedFindings}
 
 -- '9, 11, 16'; '24, after 11, in opening kind 5' (02, note 3):
 -- what open asks after the questions of load
@@ -27,6 +29,19 @@ opening_asks f id date =
 -- 'Open: 1–9, 11, 16', where 1–8 are those of load
 unfoldable pub open_asks : List ℕ → List ℕ → ℕ → List Ask
 open_asks f id date = load_asks f ++ opening_asks f id date
+
+-- what an open finds: the number of the refusal, 0 where there is none; the product, the file's calendar, and the fresh listing, zeros with a refusal
+pub record Opening : Type 0 where
+  pub refusal : ℕ
+  pub product : Product
+  pub calendar : Calendar
+  pub fresh : List Maturity
+
+-- the same but for the calendar
+pub record Listed : Type 0 where
+  pub refusal : ℕ
+  pub product : Product
+  pub fresh : List Maturity
 
 -- with a refusal: its number, and zeros
 abbrev pub refused_opening : ℕ → Opening
@@ -72,3 +87,11 @@ unfoldable pub listing_in : Answer Calendar → List ℕ → List ℕ → ℕ �
 listing_in verdict f id date =
     let o = opening_in verdict f id date in
     record { refusal = o.refusal; product = o.product; fresh = o.fresh }
+
+-- as the code gives it: what is found, or the number of the refusal
+abbrev pub opening_result : Opening → Result Findings ℕ
+opening_result o = cond (eqb o.refusal 0) (Ok (record { product = o.product; calendar = o.calendar; fresh = o.fresh })) (Err o.refusal)
+
+-- the same but for the calendar
+abbrev pub listed_result : Listed → Result ListedFindings ℕ
+listed_result l = cond (eqb l.refusal 0) (Ok (record { product = l.product; fresh = l.fresh })) (Err l.refusal)

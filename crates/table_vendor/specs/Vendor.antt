@@ -2,14 +2,15 @@
 -- A month, or a weekly maturity's Friday, is named by its key, and no definition asks which of the two it is:
 -- 'Both kinds of maturity are judged by one method'.
 -- Assumes nothing.
-use Rattle.std.specs.Prelude.{ℕ, suc, ◌+◌, ◌≤◌, ◌<◌, ◌≡◌, Bool, true, false, not, ◌&&◌, ◌||◌, cond, List, [], ◌∷◌, map, ◌↔◌, eqb, leb, length, get_or}
+use Rattle.std.specs.Prelude.{ℕ, suc, ◌+◌, ◌≤◌, ◌<◌, ◌≡◌, Bool, true, false, not, ◌&&◌, ◌||◌, cond, ◌↔◌, eqb, leb}
+use Rattle.std.specs.Prelude.{List, [], ◌∷◌, map, length, get_or, Option, Some, None, Result, Ok, Err}
 use Rattle.questions.specs.Questions.{Ask, ask, Answer, answer}
+use Rattle.questions.specs.Refusals.{refusal_number}
 use Rattle.questions.specs.Search.{first_from}
+use Rattle.questions.specs.declared.Refusal.{Refusal}
 use Rattle.listing.specs.declared.Maturity.{Maturity}
 use Rattle.table.specs.declared.Table.{Table}
 use Rattle.table.specs.Table.{sound, fresh_in}
-use Rattle.table_vendor.specs.declared.Verdict.{Verdict}
-use Rattle.table_vendor.specs.declared.Verdict.TheVariants.{Same, Differs, Unsound}
 
 -- a month, or a Friday, with a last trading day
 pub record VendorEntry : Type 0 where
@@ -85,11 +86,11 @@ nothing_said = record { same = false; key = 0 }
 unfoldable pub vendor_call : Table → List ℕ → Answer Judgement
 vendor_call t list = answer (vendor_asks t) nothing_said (judgement (fresh_entries t) (entries_of list))
 
--- the number and the values that each case of the answer stands for
-abbrev pub verdict_answer : Verdict → Answer Judgement
-verdict_answer Same = record { refusal = 0; value = yes_said }
-verdict_answer (Differs k) = record { refusal = 0; value = record { same = false; key = k } }
-verdict_answer Unsound = record { refusal = 10; value = nothing_said }
+-- the number and the values that the result of a verdict stands for
+abbrev pub verdict_answer : Result (Option ℕ) Refusal → Answer Judgement
+verdict_answer (Ok None) = record { refusal = 0; value = yes_said }
+verdict_answer (Ok (Some k)) = record { refusal = 0; value = record { same = false; key = k } }
+verdict_answer (Err r) = record { refusal = refusal_number r; value = nothing_said }
 
 -- 'in any order and each month once':
 -- each key stands with each day as often in one list as in the other; that no key stands twice in a fresh listing is `once` below

@@ -1,9 +1,8 @@
--- The reply is the answer: a day with refusal 0, or refusal 23. In each case of the answer both sides compute to the same.
-use mathlib.Core.Path.{refl}
+-- The reply is the answer: a day with refusal 0, or a refusal by its number. In each case of the answer both sides compute to the same.
 use Rattle.c_types.proofs.reply_of_day.Goals as goal
 
-pub returns-in-Day : goal.returns-in-Day
-returns-in-Day c = rw c.in-Day.is refl
+pub returns-in-Ok : goal.returns-in-Ok
+returns-in-Ok c = rw c.in-Ok.is
 
-pub returns-in-NotADate : goal.returns-in-NotADate
-returns-in-NotADate c = rw c.in-NotADate.is refl
+pub returns-in-Err : goal.returns-in-Err
+returns-in-Err c = rw (c.in-Err.is, c.number.ensures)

@@ -1,12 +1,8 @@
--- Whether a day is a Monday to Friday in the cover that is not closed. The first two `return`s cite the test that fails; where the map ends before
--- the day's byte, the bit counts as 0 (`bit_past`); the last reads the bit at the day's slot.
-use Rattle.calendar.proofs.Bits.{bit_past}
+-- Whether a day is a Monday to Friday in the cover that is not closed. The first two `return`s cite the test that fails; the last reads the bit at the
+-- day's slot.
 use Rattle.questions.proofs.Bools.{said-no, said-yes}
-use Rattle.calendar.specs.Bits.{bit_at}
-use Rattle.calendar.specs.Trading.{closed_on, slot_of, trading_day}
+use Rattle.calendar.specs.Trading.{closed_on, trading_day}
 use borrow.Author.Tests.{lt-ltb, le-ltb}
-use native.Mathlib.Omega.{arith}
-use mathlib.Core.Path.{sym}
 use Rattle.calendar.proofs.is_trading_day_in.Goals as goal
 
 -- ---- a day outside the cover, or of a weekend
@@ -21,27 +17,12 @@ returns-then-weekday-ge5 c = simp (
   le-ltb _ _ (rw c.weekday.ensures at c.if-weekday-ge5.true),
 )
 
--- ---- a slot past the map's end
-pub returns-then-closed-at : goal.returns-then-closed-at
-unfolding trading_day closed_on
-returns-then-closed-at c =
-    let at-if2 = c in
-    let at-if1 = at-if2 in
-    let start = at-if1 in
-    simp (
-      said-yes at-if1.has_year_of.ensures at-if1.if-not-has_year_of.false,
-      lt-ltb _ _ (rw at-if2.weekday.ensures at at-if2.if-weekday-ge5.false),
-      bit_past start.args.closed.now (slot_of start.args.cover start.args.day) (omega (arith, c.slot_of-slot.ensures)),
-    )
-
 -- ---- the bit in the map
 pub returns : goal.returns
-unfolding trading_day closed_on bit_at
-returns c =
-    let at-if2 = c in
-    let at-if1 = at-if2 in
-    simp (
-      said-yes at-if1.has_year_of.ensures at-if1.if-not-has_year_of.false,
-      lt-ltb _ _ (rw at-if2.weekday.ensures at at-if2.if-weekday-ge5.false),
-      sym c.slot_of-slot.ensures,
-    )
+unfolding trading_day closed_on
+returns c = simp (
+  said-yes c.has_year_of.ensures c.if-not-has_year_of.false,
+  lt-ltb _ _ (rw c.weekday.ensures at c.if-weekday-ge5.false),
+  c.has_bit.ensures,
+  c.slot_of.ensures,
+)

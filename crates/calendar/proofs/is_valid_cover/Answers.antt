@@ -1,29 +1,35 @@
--- 1 to 16 years from 2000 to 2099. Each `return` of no cites the bounds that hold before it; a first year after 2100 makes the definition's sum too
--- large, so the test before the sum leaves the answer as it is and keeps the sum small.
-use Rattle.calendar.specs.Trading.{valid_cover}
-use borrow.Author.Tests.{le-leb, lt-leb}
-use Prim.Native.Nat.{◌+◌, ◌<◌}
+-- 1 to 16 years from 2000 to 2099: the years are the definition's first two tests, and where they hold, the first year's last one is 2100 less the years.
+use Rattle.std.proofs.Common.{rules, tests, ◌≡◌, ◌&&◌, ◌∙◌}
+use lib.Dec.{leb}
+use borrow.Author.Tests.{leb-true, le-leb}
+use mathlib.Core.Bool.{Bool, and_assoc}
+use mathlib.Core.Path.{sym, ap}
+use Prim.Native.Nat.{◌+◌, ◌-◌, ◌≤◌}
 use native.Mathlib.Omega.{arith}
+use Rattle.questions.proofs.Bools.{both, same_test}
+use Rattle.calendar.specs.Trading.{valid_cover}
 use Rattle.calendar.proofs.is_valid_cover.Goals as goal
 
-pub returns-then-years-lt1 : goal.returns-then-years-lt1
+pub returns-then-contains : goal.returns-then-contains
 unfolding valid_cover
-returns-then-years-lt1 c = simp (lt-leb _ _ c.if-years-lt1.true)
+returns-then-contains c =
+    let f = c.args.cover.first_year in
+    let y = c.args.cover.years in
+    let few : c.contains.result ≡ (leb 1 y && leb y 16) = search (rules, tests) in
+    let (one, most) = both (leb 1 y) (leb y 16) (sym few ∙ c.if-contains.true) in
+    let m : y ≤ 16 = leb-true y 16 most in
+    let first : c.contains-then-contains.result ≡ (leb 2000 f && leb f (2100 - y)) = search (rules, tests) in
+    let last : leb f (2100 - y) ≡ leb (f + y) 2100 =
+    same_test _ _
+    (λ e. let l : f ≤ 2100 - y = leb-true f (2100 - y) e in le-leb (f + y) 2100 (omega (arith, l, m)))
+    (λ e. let l : f + y ≤ 2100 = leb-true (f + y) 2100 e in le-leb f (2100 - y) (omega (arith, l, m))) in
+    rw (one, most, ← last) first
 
-pub returns-then-years-gt16 : goal.returns-then-years-gt16
+pub returns-else-contains : goal.returns-else-contains
 unfolding valid_cover
-returns-then-years-gt16 c = simp (le-leb _ _ c.if-years-lt1.false, lt-leb _ _ c.if-years-gt16.true)
-
-pub returns-then-first-lt2000 : goal.returns-then-first-lt2000
-unfolding valid_cover
-returns-then-first-lt2000 c = simp (le-leb _ _ c.if-years-lt1.false, le-leb _ _ c.if-years-gt16.false, lt-leb _ _ c.if-first-lt2000.true)
-
-pub returns-then-first-gt2100 : goal.returns-then-first-gt2100
-unfolding valid_cover
-returns-then-first-gt2100 c =
-    let over : 2100 < c.args.cover.first_year + c.args.cover.years = omega arith in
-    simp (le-leb _ _ c.if-years-lt1.false, le-leb _ _ c.if-years-gt16.false, le-leb _ _ c.if-first-lt2000.false, lt-leb _ _ over)
-
-pub returns : goal.returns
-unfolding valid_cover
-returns c = simp (le-leb _ _ c.if-years-lt1.false, le-leb _ _ c.if-years-gt16.false, le-leb _ _ c.if-first-lt2000.false)
+returns-else-contains c =
+    let f = c.args.cover.first_year in
+    let y = c.args.cover.years in
+    let rest = leb 2000 f && leb (f + y) 2100 in
+    let few : c.contains.result ≡ (leb 1 y && leb y 16) = search (rules, tests) in
+    c.if-contains.false ∙ sym (ap (λ (b : Bool). b && rest) (sym few ∙ c.if-contains.false)) ∙ and_assoc (leb 1 y) (leb y 16) rest

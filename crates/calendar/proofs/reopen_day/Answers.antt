@@ -1,10 +1,8 @@
--- The calendar with one day open again in both maps. A day outside the cover changes nothing (`reopen-out`), nor does a slot past the 736 bytes of
--- either map (`reopen-past`); else `reopen-store`: the bytes without the day's bit are the maps with that bit cleared.
-use Rattle.calendar.proofs.Reopening.{reopen-out, reopen-past, reopen-store}
-use lib.ListN.{length}
+-- The calendar with one day open again in both maps: a day outside the cover changes nothing, and both maps of another have its slot's bit cleared.
+use Rattle.calendar.proofs.Reopening.{reopen-out}
+use Rattle.calendar.specs.Trading.{reopen_day}
 use Rattle.questions.proofs.Bools.{said-no, said-yes}
-use native.Mathlib.Omega.{arith}
-use mathlib.Core.Path.{◌≡◌}
+use mathlib.Core.Path.{refl}
 use Rattle.calendar.proofs.reopen_day.Goals as goal
 
 -- ---- where nothing changes
@@ -13,12 +11,5 @@ returns-then-not-in_cover c = reopen-out _ _ (said-no c.in_cover.ensures c.if-no
 
 -- ---- both maps
 pub returns : goal.returns
-returns c = reopen-store _ _ _ c.slot_of-slot.ensures
-    (said-yes c.in_cover.ensures c.if-not-in_cover.false)
-
-pub returns-then-at-ge736 : goal.returns-then-at-ge736
-returns-then-at-ge736 c =
-    let start = c in
-    let l : length start.args.cal.closed ≡ 736 = start.well_formed.0.1.1.1.0.1.0.1 in
-    let m : length start.args.cal.exchange ≡ 736 = start.well_formed.0.1.1.1.1.0.1.0.1 in
-    reopen-past _ _ (omega (arith, c.slot_of-slot.ensures)) (omega (arith, c.slot_of-slot.ensures))
+unfolding reopen_day
+returns c = rw (said-yes c.in_cover.ensures c.if-not-in_cover.false, c.clear_bit.ensures, c.clear_bit-2.ensures, c.slot_of-slot.ensures) refl

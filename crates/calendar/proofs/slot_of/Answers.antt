@@ -5,4 +5,4 @@ use Rattle.calendar.proofs.slot_of.Goals as goal
 
 pub returns : goal.returns
 unfolding slot_of
-returns c = simp (c.day_in_year.ensures, c.years_after-year.ensures, c.year_of.ensures)
+returns c = simp (c.day_in_year.ensures, c.saturating_sub-year.ensures, c.year_of.ensures)

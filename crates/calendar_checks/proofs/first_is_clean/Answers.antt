@@ -1,63 +1,28 @@
--- Question 5, of the first map. The loop keeps: k is at most the number of maps used, and every slot of the first k years passes. `slots-year`: these
--- are the days that `year_is_clean` looks at. A no fails the whole (`every-fails`); after the maps used no bit may be set (`slots-after`).
-use Rattle.calendar_checks.proofs.Maps.{slot_day, slots-year, slots-after, every-fails}
+-- Question 5, of the first map. `slots-year`: the slots of a year's map are the days that `year_is_clean` looks at; those of the maps used are the first
+-- 368 for each year (`every-blocks`). After these no bit may be set (`slots-after`).
+use Rattle.std.proofs.Common.{rules, ◌≡◌, ◌∙◌, sym, ℕ, Bool, true, false, ◌&&◌, ◌*◌, ◌+◌}
+use Rattle.std.proofs.lemmas.Iterator.{cases_from_all, YieldsList-from_range}
 use Rattle.questions.specs.Search.{every}
-use Rattle.questions.proofs.Search.{every-none, every-add}
-use Rattle.questions.proofs.Bools.{said-no, said-yes}
-use mathlib.Core.Bool.{true}
-use mathlib.Core.Path.{◌≡◌, ◌∙◌, sym, ap}
-use Prim.Native.Nat.{ℕ, ◌+◌, ◌*◌}
+use Rattle.calendar_checks.proofs.Maps.{map_day, slot_day, slots-year, slots-after}
+use Rattle.calendar_words.proofs.DayWords.{every-same}
+use Rattle.calendar_checks.proofs.Ranges.{all-every, every-blocks}
+use mathlib.Core.Path.{refl, ap₂}
 use native.Mathlib.Omega.{arith}
 use Rattle.calendar_checks.proofs.first_is_clean.Goals as goal
 
--- ---- the loop begins with no years
-pub loop-k-init : goal.loop-k-init
-loop-k-init c = (omega arith, every-none _)
-
-pub overflow_add-cover : goal.overflow_add-cover
-overflow_add-cover c =
-    let u = c.maps_used-used.ensures in
-    omega (arith, u.most, u.early (omega arith))
-
-pub year_is_clean-requires : goal.year_is_clean-requires
-year_is_clean-requires c =
-    let u = c.maps_used-used.ensures in
-    (omega (arith, u.most), omega (arith, u.most, u.early (omega arith)))
-
--- ---- a year that fails
-pub returns-then-not-year_is_clean : goal.returns-then-not-year_is_clean
-returns-then-not-year_is_clean c =
-    let at-loop = c.before.before.before.before in
-    let at-used = at-loop.before in
-    let start = at-used in
-    let map = start.args.closed.now in
-    let k = at-loop.loop-k.k in
-    sym (every-fails (slot_day map start.args.cover) (368 * k) 368 5888
-    (slots-year map start.args.cover _ at-used.maps_used-used.ensures k c.loop-k-test.true ∙
-    said-no c.year_is_clean.ensures c.if-not-year_is_clean.true) (omega (arith, at-used.maps_used-used.ensures.most)))
-
--- ---- a year that passes
-pub loop-k-preserved : goal.loop-k-preserved
-loop-k-preserved c =
-    let at-loop = c.before.before.before.before in
-    let at-used = at-loop.before in
-    let start = at-used in
-    let map = start.args.closed.now in
-    let k = at-loop.loop-k.k in
-    let e : 368 * (k + 1) ≡ 368 * k + 368 = omega arith in (
-      omega arith,
-      ap (λ (n : ℕ). every n (slot_day map start.args.cover)) e ∙
-          every-add (slot_day map start.args.cover) (368 * k) 368 at-loop.loop-k.invariant.1
-          (slots-year map start.args.cover _ at-used.maps_used-used.ensures k c.loop-k-test.true ∙
-          said-yes c.year_is_clean.ensures c.if-not-year_is_clean.false),
-    )
-
--- ---- the maps after those used
 pub returns : goal.returns
 returns c =
-    let at-loop = c.before.before in
-    let at-used = at-loop.before in
-    let start = at-used in
-    let e : at-loop.loop-k.k ≡ at-used.maps_used-used.result = omega arith in
-    c.is_empty_after.ensures ∙ sym (slots-after start.args.closed.now start.args.cover _ at-used.maps_used-used.ensures
-    (rw e at at-loop.loop-k.invariant.1))
+    let map = c.args.closed.now in
+    let cover = c.args.cover in
+    let used = c.maps_used-used.result in
+    let u = c.maps_used-used.ensures in
+    let slot = slot_day map cover in
+    -- the test of the k-th year
+    let year : ℕ → Bool = (λ k. every 368 (map_day map k (cover.first_year + k))) in
+    let found = cases_from_all _ _ c.all.result (λ k. year k ≡ true) (λ k. year k ≡ false) c.all.ensures.ran (YieldsList-from_range 0 used used refl (omega arith))
+    (λ x q h. search rules) (λ x q h. search rules) in
+    let years : c.all.result ≡ every (368 * used) slot =
+    all-every used year c.all.result found ∙
+    every-same year (λ k. every 368 (λ p. slot (368 * k + p))) used (λ k l. sym (slots-year map cover used u k l)) ∙
+    every-blocks slot 368 used in
+    ap₂ ◌&&◌ years c.is_empty_after.ensures ∙ slots-after map cover used u

@@ -1,12 +1,12 @@
--- A yes carries the runs from those that end before year k to those that end with it. The loop keeps: j is at most 6, and `Next`: the window ends
--- with the last eight days of the first j times eight weeks, and a yes so far carries the runs to the end of these weeks. A turn is `next-weeks`;
+-- A yes carries the runs from those that end before year k to those that end with it. The loop keeps `Next`: the window ends with the last eight
+-- days of the first j times eight weeks, and a yes so far carries the runs to the end of these weeks. A turn is `next-weeks`;
 -- a no claims nothing.
 use Rattle.calendar_words.proofs.Equations.{weekends-are, weeks-shows, weeks-below, moved}
 use Rattle.calendar_words.proofs.Windows.{next-first, next-weeks, year-in-cover}
-use Rattle.questions.proofs.Bools.{clash, said-yes}
+use Rattle.questions.proofs.Bools.{said-yes}
 use Rattle.calendar.specs.Trading.{calendar_with}
 use Rattle.calendar.proofs.Covered.{years}
-use mathlib.Core.Path.{◌≡◌, refl}
+use mathlib.Core.Path.{◌≡◌}
 use Prim.Native.Nat.{◌*◌, ◌<◌}
 use native.Mathlib.Omega.{arith}
 use Rattle.calendar_checks.proofs.year_trades.Goals as goal
@@ -15,18 +15,8 @@ use Rattle.calendar_checks.proofs.year_trades.Goals as goal
 pub overflow_add-cover : goal.overflow_add-cover
 overflow_add-cover c = omega (arith, year-in-cover c.args.cover c.args.k c.requires.1 c.requires.0)
 
-pub overflow_add-year_start : goal.overflow_add-year_start
-overflow_add-year_start c = omega (arith, c.year_start.ensures)
-
-pub days_before-window-requires : goal.days_before-window-requires
-days_before-window-requires c = c.requires
-
 pub loop-j-init : goal.loop-j-init
-loop-j-init c = (omega arith, next-first _ _ _ c.days_before-window.ensures)
-
--- ---- a no
-pub returns-then-not-no_seven : goal.returns-then-not-no_seven
-returns-then-not-no_seven c = λ e. clash e refl
+loop-j-init c = next-first _ _ _ c.days_before-window.ensures
 
 -- ---- the next eight weeks
 pub loop-j-preserved : goal.loop-j-preserved
@@ -38,15 +28,13 @@ loop-j-preserved c =
     let start = at-weekends in
     let cal = calendar_with start.args.cover start.args.closed.now in
     let l = at-weeks.loop-j-test.true in
-    let k : start.args.k < 16 = omega (arith, years start.args.cover start.requires.1, start.requires.0) in (
-      omega arith,
-      next-weeks cal start.args.k start.requires.1 start.requires.0 at-loop.loop-j.j at-loop.loop-j.window at-weeks.weeks_of.result
-          at_moved.moved_on-window.result at-weekends.weekends_from-weekends.result l
-          at-loop.loop-j.invariant.1 (weeks-shows _ _ _ _ at-weeks.weeks_of.ensures k l)
-          (moved _ _ _ (omega arith) (weeks-below _ _ _ _ at-weeks.weeks_of.ensures) _ at_moved.moved_on-window.ensures)
-          (rw at-weekends.year_start.ensures.0 at (weekends-are _ _ at-weekends.weekends_from-weekends.ensures))
-          (said-yes c.no_seven.ensures c.if-not-no_seven.false),
-    )
+    let k : start.args.k < 16 = omega (arith, years start.args.cover start.requires.1, start.requires.0) in
+    next-weeks cal start.args.k start.requires.1 start.requires.0 at-loop.loop-j.j at-loop.loop-j.window at-weeks.weeks_of.result
+    at_moved.moved_on-window.result at-weekends.weekends_from-weekends.result l
+    at-loop.loop-j.invariant (weeks-shows _ _ _ _ at-weeks.weeks_of.ensures k l)
+    (moved _ _ _ (omega arith) (weeks-below _ _ _ _ at-weeks.weeks_of.ensures) _ at_moved.moved_on-window.ensures)
+    (rw at-weekends.year_start.ensures.0 at (weekends-are _ _ at-weekends.weekends_from-weekends.ensures))
+    (said-yes c.no_seven.ensures c.if-not-no_seven.false)
 
 -- ---- after the loop: the rest of the year
 pub rest_trades-requires : goal.rest_trades-requires
@@ -55,10 +43,10 @@ rest_trades-requires c =
     let start = at-loop in
     let cal = calendar_with start.args.cover start.args.closed.now in
     let e : 56 * at-loop.loop-j.j ≡ 336 = omega (arith, c.loop-j-test.false) in
-    (start.requires.0, start.requires.1, rw e at at-loop.loop-j.invariant.1.ends)
+    (start.requires.0, start.requires.1, rw e at at-loop.loop-j.invariant.ends)
 
 pub returns : goal.returns
 returns c = λ e u.
     let at-loop = c in
     let q : 56 * at-loop.loop-j.j ≡ 336 = omega (arith, c.loop-j-test.false) in
-    c.rest_trades.ensures e (rw q at (at-loop.loop-j.invariant.1.trades u))
+    c.rest_trades.ensures e (rw q at (at-loop.loop-j.invariant.trades u))

@@ -1,39 +1,19 @@
--- A yes says that every run of seven days in the cover holds a trading day; a no claims nothing. The loop keeps: k is at most the cover's years, and
--- the runs that end before year k trade. After the last year these are all (`all-trade`).
-use Rattle.calendar_words.proofs.Windows.{none_yet, all-trade}
-use Rattle.questions.proofs.Bools.{clash, said-yes}
+-- A yes says that every run of seven days in the cover holds a trading day; a no claims nothing. Each year that answers yes carries the runs from those
+-- that end before it to those that end with it; so all years carry them to the last year's end (`carried`), and these are all (`all-trade`).
+use Rattle.std.proofs.Common.{rules, ◌+◌, arith}
+use Rattle.std.specs.Prelude.{⊤}
+use Rattle.std.proofs.lemmas.Iterator.{cases_from_all, YieldsList-from_range}
+use Rattle.calendar_checks.proofs.Ranges.{carried}
+use Rattle.calendar_words.proofs.Windows.{none_yet, all-trade, year_first, TradesUntil}
 use Rattle.calendar.specs.Trading.{calendar_with, cover_end}
-use Rattle.days.specs.Dates.{year_start}
-use mathlib.Core.Path.{◌≡◌, refl, ap}
-use Prim.Native.Nat.{◌+◌}
-use native.Mathlib.Omega.{arith}
+use mathlib.Core.Path.{refl}
 use Rattle.calendar_checks.proofs.years_trade.Goals as goal
 
--- ---- the loop begins with no runs
-pub loop-k-init : goal.loop-k-init
-loop-k-init c = (omega arith, none_yet _)
-
-pub year_trades-requires : goal.year_trades-requires
-year_trades-requires c = (c.loop-k-test.true, c.requires)
-
--- ---- a no
-pub returns-then-not-year_trades : goal.returns-then-not-year_trades
-returns-then-not-year_trades c = λ e. clash e refl
-
--- ---- the next year
-pub loop-k-preserved : goal.loop-k-preserved
-loop-k-preserved c =
-    let at-loop = c.before.before.before in
-    let start = at-loop in
-    let k = at-loop.loop-k.k in
-    let e : start.args.cover.first_year + k + 1 ≡ start.args.cover.first_year + (k + 1) = omega arith in
-    (omega arith, rw (← ap year_start e) (c.year_trades.ensures (said-yes refl c.if-not-year_trades.false) at-loop.loop-k.invariant.1))
-
--- ---- a yes
 pub returns : goal.returns
 unfolding cover_end
 returns c = λ e.
-    let at-loop = c in
-    let cal = calendar_with at-loop.args.cover at-loop.args.closed.now in
-    let q : at-loop.loop-k.k ≡ at-loop.args.cover.years = omega arith in
-    all-trade cal (rw q at at-loop.loop-k.invariant.1)
+    let cal = calendar_with c.args.cover c.args.closed.now in
+    let each = cases_from_all _ _ c.all.result (λ k. TradesUntil cal (year_first cal.cover k) → TradesUntil cal (year_first cal.cover (k + 1))) (λ k. ⊤) c.all.ensures.ran
+    (YieldsList-from_range 0 c.args.cover.years c.args.cover.years refl (omega arith))
+    (λ x q k. search rules) (λ x q k. tt) in
+    all-trade cal (carried c.args.cover.years _ (λ k. TradesUntil cal (year_first cal.cover k)) c.all.result each e (none_yet cal))

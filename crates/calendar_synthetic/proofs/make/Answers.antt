@@ -1,4 +1,4 @@
--- The calendar of a seed and a cover; 4 and zeros where the cover is not valid. The loop keeps: the end is at most 36,525, and going on from this
+-- The calendar of a seed and a cover; 4 and zeros where the cover is not valid. The loop keeps: going on from this
 -- day, value and calendar makes what the start makes. A turn is `made-next`; at the end `walked` gives the definition's calendar.
 use mathlib.Core.Path.{refl, ◌∙◌, sym}
 use mathlib.Core.List.{[]}
@@ -12,21 +12,21 @@ use Rattle.calendar_synthetic.proofs.make.Goals as goal
 pub returns-then-not-is_valid_cover : goal.returns-then-not-is_valid_cover
 unfolding made_call
 returns-then-not-is_valid_cover c =
-    rw c.zero_calendar-zeros.ensures (sym (refused _ _ _ 3 (first-no 4 [] (said-no c.is_valid_cover.ensures c.if-not-is_valid_cover.true))))
+    sym (refused _ _ _ 3 (first-no 4 [] (said-no c.is_valid_cover.ensures c.if-not-is_valid_cover.true)))
 
 -- ---- the loop begins at the cover's first day
 pub loop-day-init : goal.loop-day-init
-loop-day-init c = (c.cover_end-end.ensures.1, refl)
+loop-day-init c = refl
 
 -- ---- a day visited
 pub loop-day-preserved : goal.loop-day-preserved
 loop-day-preserved c =
     let l = c.loop-day in
-    (l.invariant.0, rw (c.calendar_at-cal.ensures, c.value_at-value.ensures) (made-next _ _ _ _ c.loop-day-test.true ∙ l.invariant.1))
+    rw (c.calendar_at-cal.ensures, c.value_at-value.ensures) (made-next _ _ _ _ c.loop-day-test.true ∙ l.invariant)
 
 -- ---- after the loop: the whole cover
 pub returns : goal.returns
 returns c =
-    walked _ _ _ _ _ _ _ _ c.cover_end-end.ensures.0 c.cover_start-day.ensures.0 c.open_calendar-cal.ensures
+    walked _ _ _ _ _ _ _ _ c.cover_end-day-end.ensures.0 c.cover_start-day.ensures.0 c.open_calendar-cal.ensures
     (said-yes c.is_valid_cover.ensures c.if-not-is_valid_cover.false)
-    c.loop-day-test.false c.loop-day.invariant.1
+    c.loop-day-test.false c.loop-day.invariant

@@ -1,5 +1,4 @@
--- `run` is shown to end and to hand the host only right queues. The loop keeps: the turns are at most 1,000,000, and each
--- uses up one; that the taken tables are a right queue is what `calls::step` promises. The other needs are found by search.
+-- `run` is shown to hand the host only right queues: that the taken tables are one is what `calls::step` promises.
 use Rattle.compare_rounds.proofs.run.Goals as goal
 
 -- ---- the loop

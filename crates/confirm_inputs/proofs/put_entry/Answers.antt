@@ -2,15 +2,14 @@
 use mathlib.Core.Path.{refl}
 use native.Mathlib.Omega.{arith}
 use lib.ListN.{length-set}
-use borrow.Author.Tests.{not-true, not-false}
 use Rattle.confirm_inputs.proofs.EntryLines.{put-none, put_both}
 use Rattle.confirm_inputs.proofs.put_entry.Goals as goal
 
-pub returns-then-not-entry : goal.returns-then-not-entry
-returns-then-not-entry c = put-none _ _ _ (not-true _ c.if-not-entry.true)
+pub returns-in_default : goal.returns-in_default
+returns-in_default c = put-none _ _ _ c.in_default.is
 
 pub bounds-list-at-2 : goal.bounds-list-at-2
 bounds-list-at-2 c = simp length-set (omega (arith, c.requires))
 
 pub returns : goal.returns
-returns c = put_both _ _ _ (not-false _ c.if-not-entry.false) c.requires _ refl
+returns c = put_both _ _ _ _ c.in-Some.is c.requires _ refl

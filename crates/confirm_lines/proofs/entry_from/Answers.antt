@@ -4,7 +4,7 @@ use Rattle.confirm_lines.proofs.entry_from.Goals as goal
 
 pub returns-then-name-last : goal.returns-then-name-last
 unfolding entry_from
-returns-then-name-last c = rw c.if-name-last.true c.no_entry.ensures
+returns-then-name-last c = rw c.if-name-last.true
 
 pub returns : goal.returns
 unfolding entry_from

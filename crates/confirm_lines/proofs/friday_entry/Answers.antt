@@ -8,10 +8,10 @@ use Rattle.confirm_lines.proofs.friday_entry.Goals as goal
 
 -- ---- the lines that are no entry
 pub returns-then-line-ne21 : goal.returns-then-line-ne21
-returns-then-line-ne21 c = c.no_entry.ensures ∙ sym (friday-short _ c.if-line-ne21.true)
+returns-then-line-ne21 c = sym (friday-short _ c.if-line-ne21.true)
 
 pub returns-then-line-ne32 : goal.returns-then-line-ne32
-returns-then-line-ne32 c = c.no_entry-then-line-ne32.ensures ∙ sym (friday-unspaced _ c.if-line-ne21.false c.if-line-ne32.true)
+returns-then-line-ne32 c = sym (friday-unspaced _ c.if-line-ne21.false c.if-line-ne32.true)
 
 -- ---- the two dates and the entry
 pub slice_bounds-date_in-end : goal.slice_bounds-date_in-end

@@ -10,10 +10,10 @@ use Rattle.confirm_lines.proofs.month_entry.Goals as goal
 
 -- ---- the lines that are no entry
 pub returns-then-line-ne18 : goal.returns-then-line-ne18
-returns-then-line-ne18 c = c.no_entry.ensures ∙ sym (month-short _ c.if-line-ne18.true)
+returns-then-line-ne18 c = sym (month-short _ c.if-line-ne18.true)
 
 pub returns-then-line-ne32 : goal.returns-then-line-ne32
-returns-then-line-ne32 c = c.no_entry-then-line-ne32.ensures ∙ sym (month-unspaced _ c.if-line-ne18.false c.if-line-ne32.true)
+returns-then-line-ne32 c = sym (month-unspaced _ c.if-line-ne18.false c.if-line-ne32.true)
 
 -- ---- the month, the date and the entry
 pub slice_bounds-month_in-end : goal.slice_bounds-month_in-end

@@ -1,51 +1,45 @@
--- Question 23, of a date: each `return` cites the tests passed before it, and the first test that fails makes the definition's conjunction false.
--- The last answer is the comparison with the length of the month.
+-- Question 23, of a date: the answers of the three ranges, each the definition's two comparisons (`at-most`), joined in its order.
+use Rattle.std.specs.Prelude.{ℕ, Bool, true, false, ◌≡◌, eqb, leb, ltb, ◌≤◌}
+use Rattle.std.specs.Ordering.{is_le, nat_cmp}
+use mathlib.Core.Path.{refl}
+use mathlib.Core.Bool.{and_assoc}
+use borrow.Author.Tests.{lt-leb, le-leb, eqb-true, eqb-false, ltb-true, ltb-false}
+use native.Mathlib.Omega.{arith}
 use Rattle.days.specs.Dates.{valid_date}
-use borrow.Author.Tests.{le-leb, lt-leb}
 use Rattle.days.proofs.is_date.Goals as goal
 
-pub returns-then-year-lt2000 : goal.returns-then-year-lt2000
-unfolding valid_date
-returns-then-year-lt2000 c = simp (lt-leb _ _ c.if-year-lt2000.true)
-
-pub returns-then-year-gt2099 : goal.returns-then-year-gt2099
-unfolding valid_date
-returns-then-year-gt2099 c = simp (le-leb _ _ c.if-year-lt2000.false, lt-leb _ _ c.if-year-gt2099.true)
-
-pub returns-then-month-lt1 : goal.returns-then-month-lt1
-unfolding valid_date
-returns-then-month-lt1 c = simp (le-leb _ _ c.if-year-lt2000.false, le-leb _ _ c.if-year-gt2099.false, lt-leb _ _ c.if-month-lt1.true)
-
-pub returns-then-month-gt12 : goal.returns-then-month-gt12
-unfolding valid_date
-returns-then-month-gt12 c = simp (
-  le-leb _ _ c.if-year-lt2000.false,
-  le-leb _ _ c.if-year-gt2099.false,
-  le-leb _ _ c.if-month-lt1.false,
-  lt-leb _ _ c.if-month-gt12.true,
-)
-
-pub returns-then-day-lt1 : goal.returns-then-day-lt1
-unfolding valid_date
-returns-then-day-lt1 c = simp (
-  le-leb _ _ c.if-year-lt2000.false,
-  le-leb _ _ c.if-year-gt2099.false,
-  le-leb _ _ c.if-month-lt1.false,
-  le-leb _ _ c.if-month-gt12.false,
-  lt-leb _ _ c.if-day-lt1.true,
-)
+-- a number is at most another in the order of numbers where the test says so
+at-most : (a b : ℕ) → is_le (nat_cmp a b) ≡ leb a b
+at-most a b = go (ltb a b) refl (eqb a b) refl
+  where
+    go : (x : Bool) → ltb a b ≡ x → (y : Bool) → eqb a b ≡ y → is_le (nat_cmp a b) ≡ leb a b
+    go true e y f =
+        let h : a ≤ b = omega (arith, ltb-true a b e) in
+        rw (e, le-leb a b h)
+    go false e true f =
+        let h : a ≤ b = omega (arith, eqb-true a b f) in
+        rw (e, f, le-leb a b h)
+    go false e false f =
+        let z = eqb-false a b f in
+        let w = ltb-false a b e in
+        rw (e, f, lt-leb a b (omega arith))
 
 pub returns : goal.returns
 unfolding valid_date
-returns c =
-    let at-if3 = c in
-    let at-if2 = at-if3 in
-    let at-if1 = at-if2 in
-    simp (
-      le-leb _ _ at-if1.if-year-lt2000.false,
-      le-leb _ _ at-if2.if-year-gt2099.false,
-      le-leb _ _ at-if3.if-month-lt1.false,
-      le-leb _ _ c.if-month-gt12.false,
-      le-leb _ _ c.if-day-lt1.false,
-      c.month_length.ensures,
-    )
+returns c = simp (
+  c.contains.ensures.value,
+  c.contains-2.ensures.value,
+  c.contains-3.ensures.value,
+  c.new.ensures.start,
+  c.new.ensures.end,
+  c.new.ensures.exhausted,
+  c.new-2.ensures.start,
+  c.new-2.ensures.end,
+  c.new-2.ensures.exhausted,
+  c.new-3.ensures.start,
+  c.new-3.ensures.end,
+  c.new-3.ensures.exhausted,
+  at-most,
+  c.month_length.ensures,
+  and_assoc,
+)

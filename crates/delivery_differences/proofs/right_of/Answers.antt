@@ -1,20 +1,17 @@
--- `right_of` gives the maturity with a key among the first n. The loop keeps: n is within the list, and the maturity with the key
--- among those from i on is that among all. It returns where the key is (`right-here`), and at n there is none (`right-none`).
-use mathlib.Core.Path.{refl, ◌∙◌, sym}
-use native.Mathlib.Omega.{arith}
-use Rattle.delivery_differences.proofs.KeyRows.{right-here, right-next, right-none}
+-- `right_of` gives the maturity with a key among the first n: the first that the search finds (`right-found`).
+use Rattle.std.proofs.Common.{◌∙◌, ap, rules, tests}
+use Rattle.std.proofs.lemmas.Iterator.{YieldsList-from_slice}
+use Rattle.std.proofs.lemmas.Iterator.Search.{find_from_yields_List}
+use lib.Dec.{eqb}
+use lib.ListN.{take}
+use Rattle.listing.specs.declared.Maturity.{Maturity}
+use Rattle.delivery_differences.specs.DifferencePasses.{right_found}
+use Rattle.delivery_differences.proofs.KeyRows.{right-found}
 use Rattle.delivery_differences.proofs.right_of.Goals as goal
 
-pub loop-i-init : goal.loop-i-init
-loop-i-init c = (omega (arith, c.well_formed.0.1.0.1), refl)
-
-pub returns-then-m-key : goal.returns-then-m-key
-returns-then-m-key c =
-    sym (right-here _ _ c.loop-i.invariant.0 _ _ c.loop-i-test.true c.if-m-key.true) ∙ c.loop-i.invariant.1
-
-pub loop-i-preserved : goal.loop-i-preserved
-loop-i-preserved c =
-    (c.loop-i.invariant.0, right-next _ _ c.loop-i.invariant.0 _ _ c.loop-i-test.true c.if-m-key.false ∙ c.loop-i.invariant.1)
-
 pub returns : goal.returns
-returns c = sym (right-none _ _ c.loop-i.invariant.0 _ _ c.loop-i-test.false) ∙ c.loop-i.invariant.1
+returns c =
+    let ms = take c.args.n c.args.maturities in
+    let key = c.args.key in
+    ap right_found (c.copied.ensures ∙ find_from_yields_List (λ (m : Maturity). eqb m.key key) _ _ c.find.result c.find.ensures.ran
+    (YieldsList-from_slice ms cc) (λ x b q k. search (rules, tests))) ∙ right-found ms key

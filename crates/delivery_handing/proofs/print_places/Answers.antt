@@ -9,7 +9,7 @@ at-end : (f notices : List ℕ) (p q n m : ℕ) → p ≡ q → HandedTo f notic
 at-end f notices p q n m e w = rw (← e) w
 
 pub loop-p-init : goal.loop-p-init
-loop-p-init c = ((λ g w. w), omega arith, search rules, search rules)
+loop-p-init c = ((λ g w. w), search rules, search rules)
 
 pub returns-then-not-is_open : goal.returns-then-not-is_open
 returns-then-not-is_open c = λ g w e. absurd (true≢false (sym e ∙ said-no c.is_open.ensures c.if-not-is_open.true))
@@ -18,8 +18,7 @@ pub loop-p-preserved : goal.loop-p-preserved
 loop-p-preserved c =
     let v = c.loop-p.invariant in
     let taken = said-yes c.is_open.ensures c.if-not-is_open.false in (
-      (λ g w. c.print_place-h.ensures g (v.0 g w) (omega (arith, c.loop-p-test.true)) (omega (arith, v.2)) v.3 taken),
-      omega (arith, c.loop-p-test.true),
+      (λ g w. c.print_place-h.ensures g (v.0 g w) (omega (arith, c.loop-p-test.true)) (omega (arith, v.1)) v.2 taken),
       c.refusals-in-loop-p-1.given,
       c.out-in-loop-p-1.given,
     )
@@ -27,4 +26,4 @@ loop-p-preserved c =
 pub returns : goal.returns
 returns c = λ g w e.
     let v = c.loop-p.invariant in
-    at-end _ _ _ _ _ _ (omega (arith, v.1, c.loop-p-test.false)) (v.0 g w)
+    at-end _ _ _ _ _ _ (omega (arith, c.loop-p.auto.p-end, c.loop-p-test.false)) (v.0 g w)

@@ -29,17 +29,10 @@ returns-then-count-gt6553 c = (refl, λ k s x. absurd (omega (arith, k, c.if-cou
 pub loop-i-init : goal.loop-i-init
 loop-i-init c =
     let p = c.args.part in
-    (omega arith, refl, λ s x. omega (arith, no-refusals p.id c.args.opened p.refusal c.args.calls.now c.args.refusals.now))
+    (refl, λ s x. omega (arith, no-refusals p.id c.args.opened p.refusal c.args.calls.now c.args.refusals.now))
 
-pub overflow_add-count : goal.overflow_add-count
-overflow_add-count c = omega (arith, c.if-count-gt6553.false)
-
-pub overflow_add-i : goal.overflow_add-i
-overflow_add-i c =
-    omega (arith, c.loop-i-test.true, c.if-count-gt6553.false)
-
-pub loop-i-smaller : goal.loop-i-smaller
-loop-i-smaller c = omega (arith, c.loop-i-test.true)
+pub overflow_add-i-end : goal.overflow_add-i-end
+overflow_add-i-end c = omega (arith, c.if-count-gt6553.false)
 
 pub returns : goal.returns
 returns c =
@@ -50,11 +43,11 @@ returns c =
     let n = c.args.count + 1 in
     let v = c.loop-i.invariant in
     let four : length p.id ≡ 4 = c.well_formed.1.1.1.1.0.1.1.1.1.0.1.0.1 in
-    let e : c.loop-i.i ≡ n = omega (arith, v.0, c.loop-i-test.false) in (
-      v.1,
+    let e : c.loop-i.i ≡ n = omega (arith, c.loop-i.auto.i-end, c.loop-i-test.false) in (
+      v.0,
       λ k s x.
           let t : c.loop-i.h.told ≡ c.args.handed.told + length (refusal_lines p.id o p.refusal calls rs n) =
-          v.2 s (held p.holds _ _ _ (not-false _ c.if-not-part.false) x)
+          v.1 s (held p.holds _ _ _ (not-false _ c.if-not-part.false) x)
           ∙ ap (λ (j : ℕ). c.args.handed.told + length (refusal_lines p.id o p.refusal calls rs j)) e
           in (
             omega (arith, t, held-long p.holds (refusal_lines p.id o p.refusal calls rs n) (not-false _ c.if-not-part.false)),
@@ -74,10 +67,9 @@ loop-i-preserved c =
     let made = c.refusal_line-line.ensures in
     let v = c.loop-i.invariant in
     let u = c.tell-h.ensures in (
-      omega (arith, c.loop-i-test.true),
-      u.0 ∙ v.1,
+      u.0 ∙ v.0,
       λ s x.
-          let far : c.loop-i.h.told ≡ c.args.handed.told + length (refusal_lines p.id o p.refusal calls rs i) = v.2 s x in
+          let far : c.loop-i.h.told ≡ c.args.handed.told + length (refusal_lines p.id o p.refusal calls rs i) = v.1 s x in
           let one = u.1 (line-few made (refusal-line-short _ _ _ _ _ four _))
           (omega (arith, far, few-refusals p.id o p.refusal calls rs four i, few, s, c.loop-i-test.true))
           (rw far (line-next made (refusal-line-short _ _ _ _ _ four _) (next-refusal p.id o p.refusal calls rs _ _ _ i c.loop-i-test.true x))) in

@@ -1,6 +1,6 @@
 -- What was told is as long as the lines before the next one, where all lines come next; each line then comes next, and at the end all lines of the
 -- place are there.
-use Rattle.std.proofs.Common.{◌≡◌, ◌+◌, ◌-◌, ◌≤◌, length}
+use Rattle.std.proofs.Common.{◌≡◌, ◌+◌, ◌≤◌, length}
 use Rattle.delivery_refusals.specs.Refusals.{refusal_lines}
 use Rattle.file_text_print.specs.WholeText.{NextOf}
 use Rattle.delivery_parts.specs.PlaceParts.{deliver_refusals}
@@ -8,10 +8,7 @@ use Rattle.delivery_handing.proofs.tell_place.Given as goal
 
 abbrev pub invariant-loop-i : goal.invariant-loop-i
 invariant-loop-i l =
-    (l.i ≤ l.count + 1) × (l.h.sent ≡ l.initial.h.sent)
+    (l.h.sent ≡ l.initial.h.sent)
     × (l.initial.h.told ≤ 1000000000
     → NextOf (deliver_refusals l.file l.text) l.initial.h.told (refusal_lines l.part.id l.opened l.part.refusal l.calls l.refusals (l.count + 1))
     → l.h.told ≡ l.initial.h.told + length (refusal_lines l.part.id l.opened l.part.refusal l.calls l.refusals l.i))
-
-abbrev pub decreases-loop-i : goal.decreases-loop-i
-decreases-loop-i l = l.count + 1 - l.i

@@ -6,14 +6,7 @@ use Rattle.delivery_handing.proofs.tell_unknown.Goals as goal
 
 pub loop-i-init : goal.loop-i-init
 loop-i-init c =
-    (omega arith, refl, λ k s x. omega (arith, no-unknown c.args.file.now c.args.calls.now c.args.ids.now))
-
-pub overflow_add-i : goal.overflow_add-i
-overflow_add-i c =
-    omega (arith, c.loop-i-test.true, c.ranges.count)
-
-pub loop-i-smaller : goal.loop-i-smaller
-loop-i-smaller c = omega (arith, c.loop-i-test.true)
+    (refl, λ k s x. omega (arith, no-unknown c.args.file.now c.args.calls.now c.args.ids.now))
 
 pub loop-i-preserved : goal.loop-i-preserved
 loop-i-preserved c =
@@ -24,10 +17,9 @@ loop-i-preserved c =
     let made = c.unknown_measure_line-line.ensures in
     let v = c.loop-i.invariant in
     let u = c.tell-h.ensures in (
-      omega (arith, c.loop-i-test.true),
-      u.0 ∙ v.1,
+      u.0 ∙ v.0,
       λ k s x.
-          let far : c.loop-i.h.told ≡ c.args.handed.told + length (unknown_lines f calls ids i) = v.2 k s x in
+          let far : c.loop-i.h.told ≡ c.args.handed.told + length (unknown_lines f calls ids i) = v.1 k s x in
           let one = u.1 (line-few made (unknown-short _ _ _ _))
           (omega (arith, far, few-unknown f calls ids i, k, s, c.loop-i-test.true))
           (rw far (line-next made (unknown-short _ _ _ _) (next-unknown f calls ids _ _ _ i c.loop-i-test.true x))) in
@@ -37,6 +29,6 @@ loop-i-preserved c =
 pub returns : goal.returns
 returns c =
     let v = c.loop-i.invariant in
-    let e : c.loop-i.i ≡ c.args.count = omega (arith, v.0, c.loop-i-test.false) in
+    let e : c.loop-i.i ≡ c.args.count = omega (arith, c.loop-i.auto.i-end, c.loop-i-test.false) in
     let lines : ℕ → List ℕ = unknown_lines c.args.file.now c.args.calls.now c.args.ids.now in
-    (v.1, λ k s x. v.2 k s x ∙ ap (λ (n : ℕ). c.args.handed.told + length (lines n)) e)
+    (v.0, λ k s x. v.1 k s x ∙ ap (λ (n : ℕ). c.args.handed.told + length (lines n)) e)

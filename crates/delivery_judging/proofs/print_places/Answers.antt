@@ -8,7 +8,7 @@ pub overflow_mul-count : goal.overflow_mul-count
 overflow_mul-count c = omega (arith, c.if-file-gt65537.false)
 
 pub loop-p-init : goal.loop-p-init
-loop-p-init c = (places-none _ _ _ _ _ _ _ _ _ _, refl, omega arith)
+loop-p-init c = (places-none _ _ _ _ _ _ _ _ _ _, refl)
 
 pub overflow_add-lines : goal.overflow_add-lines
 overflow_add-lines c = omega (
@@ -19,18 +19,11 @@ overflow_add-lines c = omega (
   c.if-file-gt65537.false,
 )
 
-pub overflow_add-p : goal.overflow_add-p
-overflow_add-p c = omega (arith, c.loop-p-test.true)
-
-pub loop-p-smaller : goal.loop-p-smaller
-loop-p-smaller c = omega (arith, c.loop-p-test.true)
-
 pub loop-p-preserved : goal.loop-p-preserved
 loop-p-preserved c =
     let v = c.loop-p.invariant in let k = c.print_place-part.auto in (
       places-more _ _ _ _ _ _ _ _ _ _ _ _ _ v.0 _ (place_at _ _ _ _ _ _ _ _ _ _ v.1 _ _ _ c.print_place-part.ensures),
       omega (arith, v.1),
-      omega (arith, c.loop-p-test.true),
     )
 
 pub shape_of-places : goal.shape_of-places

@@ -1,8 +1,6 @@
 -- Place after place, up to the last.
 use mathlib.Core.Path.{◌≡◌}
-use Prim.Native.Nat.{◌-◌, ◌≤◌}
 use lib.ListN.{length}
-use Rattle.file_ids.specs.Ids.{place_count}
 use Rattle.file_calendar.specs.Calendars.{calendar_answer}
 use Rattle.table.specs.Table.{open_in}
 use Rattle.delivery_judging.specs.LinesOut.{PlacesOut}
@@ -12,7 +10,4 @@ abbrev pub invariant-loop-p : goal.invariant-loop-p
 invariant-loop-p l =
     PlacesOut (open_in (calendar_answer l.judged) l.file) l.file l.t.date l.t.count l.calls l.of
     (record { ids = l.ids; keys = l.keys; days = l.days; fulls = l.fulls; numbers = l.numbers; backs = l.backs }) l.rows (length l.initial.places) l.p l.initial.so_far
-    (record { sent = l.so_far; lines = l.lines }) × (length l.places ≡ length l.initial.places) × (l.p ≤ place_count l.file)
-
-abbrev pub decreases-loop-p : goal.decreases-loop-p
-decreases-loop-p l = l.count - l.p
+    (record { sent = l.so_far; lines = l.lines }) × (length l.places ≡ length l.initial.places)

@@ -1,4 +1,4 @@
--- The bytes of the line go to the buffer one by one.
+-- The bytes of the line are copied to the buffer.
 use mathlib.Core.Path.{◌≡◌, sym}
 use native.Mathlib.Omega.{arith}
 use lib.ListN.{length}

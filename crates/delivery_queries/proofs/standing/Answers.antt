@@ -4,4 +4,4 @@ use Rattle.delivery_queries.proofs.standing.Goals as goal
 
 pub returns : goal.returns
 returns c =
-    stands _ _ _ _ _ _ _ _ _ _ _ c.known_id-k.ensures.0 c.known_id-k.ensures.1 c.deliver-d.ensures
+    stands _ _ _ _ _ _ _ _ _ _ c.weekly_in-weekly.ensures _ _ c.is_some.ensures c.unwrap_or.ensures c.deliver-d.ensures

@@ -7,12 +7,6 @@ use Rattle.delivery_reconciled.proofs.print_strangers.Goals as goal
 pub loop-line-init : goal.loop-line-init
 loop-line-init c = begins _ _ _ _ _
 
-pub append-length-requires : goal.append-length-requires
-append-length-requires c = (
-  line-fits _ (row-short _ _ _) _ c.id_row_line-line.ensures,
-  (has_more _ _ _ _ c.goes_on.ensures c.loop-line-test.true).1,
-)
-
 pub overflow_add-lines : goal.overflow_add-lines
 overflow_add-lines c =
     let h = has_more _ _ _ _ c.goes_on.ensures
@@ -34,10 +28,14 @@ loop-line-smaller c =
 
 pub loop-line-preserved : goal.loop-line-preserved
 loop-line-preserved c =
+    let put = c.append-length.ensures.put (
+      line-fits _ (row-short _ _ _) _ c.id_row_line-line.ensures,
+      (has_more _ _ _ _ c.goes_on.ensures c.loop-line-test.true).1,
+    ) in
     goes _ _ _ _ _ _ _ _ _ c.loop-line.invariant
     c.goes_on.ensures c.loop-line-test.true _
     c.id_row_line-line.ensures _ _
-    c.append-length.ensures.0 c.append-length.ensures.1 _ c.line_count-lines.ensures.0
+    put.0 put.1 _ c.line_count-lines.ensures.0
 
 pub shape_of-out : goal.shape_of-out
 shape_of-out c = c.loop-line.invariant.long

@@ -13,14 +13,6 @@ overflow_cast-next c =
     let h = has_more _ _ _ c.goes_on.ensures c.loop-kind-test.true in
     omega (arith, h.0)
 
-pub append-length-requires : goal.append-length-requires
-append-length-requires c = (
-  line-fits _ _ _ _
-      c.well_formed.1.0.1.0.1 _
-      c.key_line-line.ensures,
-  (has_more _ _ _ c.goes_on.ensures c.loop-kind-test.true).1,
-)
-
 pub overflow_add-lines : goal.overflow_add-lines
 overflow_add-lines c =
     let h = has_more _ _ _ c.goes_on.ensures c.loop-kind-test.true in
@@ -42,11 +34,14 @@ loop-kind-smaller c =
 
 pub loop-kind-preserved : goal.loop-kind-preserved
 loop-kind-preserved c =
+    let put = c.append-length.ensures.put (
+      line-fits _ _ _ _ c.well_formed.1.0.1.0.1 _ c.key_line-line.ensures,
+      (has_more _ _ _ c.goes_on.ensures c.loop-kind-test.true).1,
+    ) in
     goes _ _
     c.well_formed.1.0.1.0.1 _ _ _ _ _ _ _ _ c.loop-kind.invariant
     c.goes_on.ensures c.loop-kind-test.true _
-    c.key_line-line.ensures _ _ c.append-length.ensures.0
-    c.append-length.ensures.1 _ c.next_difference-next-in-loop-kind.ensures
+    c.key_line-line.ensures _ _ put.0 put.1 _ c.next_difference-next-in-loop-kind.ensures
 
 -- ---- the end
 pub shape_of-out : goal.shape_of-out

@@ -1,7 +1,7 @@
 -- The loop keeps: the table of the rest and its maps is the one that the calls so far leave, the buffer holds their refusals, and question 10 has
 -- the answer that it had at the start.
 use mathlib.Core.Path.{◌≡◌}
-use Prim.Native.Nat.{◌-◌, ◌≤◌}
+use Prim.Native.Nat.{◌≤◌}
 use lib.ListN.{length}
 use Rattle.table.specs.Table.{sound}
 use Rattle.session_apart.specs.Apart.{table_with}
@@ -12,6 +12,3 @@ abbrev pub invariant-loop-i : goal.invariant-loop-i
 invariant-loop-i l =
     (l.count ≤ length l.initial.refusals) × (l.i ≤ l.count) × (l.ten ≡ sound (table_with l.rest l.closed l.exchange))
     × Taking l.id l.calls l.ids l.initial.refusals (table_with l.initial.rest l.initial.closed l.initial.exchange) l.refusals (table_with l.rest l.closed l.exchange) l.i
-
-abbrev pub decreases-loop-i : goal.decreases-loop-i
-decreases-loop-i l = l.count - l.i

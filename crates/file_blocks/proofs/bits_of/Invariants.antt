@@ -1,13 +1,8 @@
--- The loop keeps: i is at most `count`, and `bits` is 0 just where the first i of them are. A turn adds one byte by `zeros-more`; at the end i is
--- `count`.
-use Rattle.file_blocks.specs.Blocks.{zeros}
-use lib.Dec.{eqb}
+-- The loop keeps: `bits` is 0 just where the bytes before the index are zero.
 use mathlib.Core.Path.{◌≡◌}
-use Prim.Native.Nat.{◌-◌, ◌≤◌}
+use lib.Dec.{eqb}
+use Rattle.file_blocks.specs.Blocks.{zeros}
 use Rattle.file_blocks.proofs.bits_of.Given as goal
 
-abbrev pub invariant-loop-i : goal.invariant-loop-i
-invariant-loop-i l = (l.i ≤ l.count) × (eqb l.bits 0 ≡ zeros l.bytes l.first l.i)
-
-abbrev pub decreases-loop-i : goal.decreases-loop-i
-decreases-loop-i l = l.count - l.i
+abbrev pub invariant-loop-byte : goal.invariant-loop-byte
+invariant-loop-byte l = eqb l.bits 0 ≡ zeros l.bytes 0 l.byte-index

@@ -1,8 +1,7 @@
--- Question 2, of a block of the file: the block exists, so it has 512 bytes, and what is left of `block_check_right` is its check.
-use borrow.Author.Tests.{eq-eqb}
+-- Whether a block's check is right: the two calls' contracts are the definition's sum and number.
+use Rattle.file_blocks.specs.Blocks.{check_right}
 use Rattle.file_blocks.proofs.check_right.Goals as goal
 
 pub returns : goal.returns
-returns c =
-    let d = c in
-    rw (c.block_check_right.ensures, eq-eqb _ _ (d.block_at.ensures.1 d.requires), d.block_at.ensures.0)
+unfolding check_right
+returns c = simp (c.number_at.ensures.0, c.weighted_sum.ensures)

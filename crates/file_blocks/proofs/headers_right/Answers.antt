@@ -1,25 +1,19 @@
--- Question 3. The loop keeps: k is at most the number of blocks, and the headers of the first k are right. A wrong one fails the whole (`every-not`),
--- a right one is one more (`every_more`); at the end k is the number of blocks.
-use mathlib.Core.Path.{◌≡◌, sym}
-use mathlib.Core.Bool.{true}
-use native.Mathlib.Omega.{arith}
-use Rattle.questions.proofs.Search.{every-none, every_more, every-not}
-use Rattle.questions.proofs.Bools.{said-no, said-yes}
-use Rattle.file_blocks.specs.Blocks.{block_count, header_right, headers_right}
+-- Question 3: `all` asks the header of each block, with its index.
+use Rattle.std.proofs.Common.{rules, ◌≡◌, ◌∙◌, ap}
+use Rattle.std.specs.Slice.Iter.{iter_rest}
+use Rattle.std.specs.Iterator.Adapters.{enumerate_source}
+use Rattle.std.proofs.lemmas.Iterator.{YieldsList-from_slice}
+use Rattle.std.proofs.lemmas.Iterator.Consumers.{YieldsList-from_enumerate}
+use Rattle.std.proofs.lemmas.Iterator.Search.{all_from_yields_List}
+use Rattle.file_blocks.specs.Blocks.{blocks_of, header_right, headers_right}
+use Rattle.file_blocks.proofs.Ranges.{numbered-every}
 use Rattle.file_blocks.proofs.headers_right.Goals as goal
-
-pub loop-k-init : goal.loop-k-init
-loop-k-init c = (omega arith, every-none _)
-
-pub returns-then-not-header_right : goal.returns-then-not-header_right
-unfolding headers_right
-returns-then-not-header_right c = sym (every-not _ _ _ (said-no c.header_right.ensures c.if-not-header_right.true) (omega arith))
-
-pub loop-k-preserved : goal.loop-k-preserved
-loop-k-preserved c = (omega arith, every_more _ _ c.loop-k.invariant.1 (said-yes c.header_right.ensures c.if-not-header_right.false))
 
 pub returns : goal.returns
 unfolding headers_right
 returns c =
-    let e : c.loop-k.k ≡ block_count c.args.file.now = omega arith in
-    sym (rw e at c.loop-k.invariant.1)
+    let rest : iter_rest (enumerate_source c.enumerate.result) ≡ blocks_of c.args.file.now =
+    ap iter_rest c.enumerate.ensures.source ∙ c.iter.ensures.rest ∙ c.blocks-2.ensures.0 in
+    all_from_yields_List (λ p. header_right p.1 p.0) _ _ _ c.all.ensures.ran
+    (YieldsList-from_enumerate (YieldsList-from_slice _ rest) c.enumerate.ensures.count) (λ x b q k. search rules)
+    ∙ numbered-every (λ p. header_right p.1 p.0) _

@@ -1,36 +1,27 @@
--- Whether every block is of the kind, and of the year, that its place asks for.
--- The loop keeps: the blocks before k are in order, and k ≤ blocks. A no of `in_order` at k refutes it of all; at k = blocks it is said of all.
-use mathlib.Core.Path.{◌≡◌, sym, ap, ◌∙◌}
-use mathlib.Core.Bool.{true}
-use mathlib.Core.List.{List}
+-- Whether every block is of the kind, and of the year, that its place asks for: `all` asks each block with its index, and the requirement and the first
+-- block say that the years and the first year are the file's.
+use Rattle.std.proofs.Common.{rules, ◌≡◌, ◌&&◌, ◌+◌, cond, eqb, ap, ◌∙◌, List}
+use lib.Dec.{ltb}
 use Prim.Native.Nat.{ℕ}
-use native.Mathlib.Omega.{arith}
-use Rattle.questions.proofs.Search.{every-none, every_more, every-not}
-use Rattle.questions.proofs.Bools.{said-no, said-yes}
-use Rattle.file_blocks.specs.Blocks.{block_count, number_at}
+use mathlib.Core.Bool.{Bool}
+use Rattle.std.specs.Slice.Iter.{iter_rest}
+use Rattle.std.specs.Iterator.Adapters.{enumerate_source}
+use Rattle.std.proofs.lemmas.Iterator.{YieldsList-from_slice}
+use Rattle.std.proofs.lemmas.Iterator.Consumers.{YieldsList-from_enumerate}
+use Rattle.std.proofs.lemmas.Iterator.Search.{all_from_yields_List}
+use Rattle.file_blocks.specs.Blocks.{blocks_of, number_at, is_calendar, is_products}
+use Rattle.file_blocks.proofs.Ranges.{numbered-every}
 use Rattle.file_calendar.specs.Calendars.{in_order}
 use Rattle.file_calendar.proofs.all_in_order.Goals as goal
 
-pub loop-k-init : goal.loop-k-init
-loop-k-init c = (omega arith, every-none _)
-
--- ---- what `in_order` asks: the count of years, and the first block's year
-pub in_order-requires : goal.in_order-requires
-in_order-requires c =
-    let p = c.requires in
-    let n = c.number_at-first.ensures in
-    (p.0, p.1, n.0 ∙ ap (λ (b : List ℕ). number_at b 2) c.block_at.ensures.0, n.1)
-
--- ---- a block out of order: no
-pub returns-then-not-in_order : goal.returns-then-not-in_order
-returns-then-not-in_order c = sym (every-not _ _ _ (said-no c.in_order.ensures c.if-not-in_order.true) (omega arith))
-
--- ---- the turn that goes on
-pub loop-k-preserved : goal.loop-k-preserved
-loop-k-preserved c = (omega arith, every_more _ _ c.loop-k.invariant.1 (said-yes c.in_order.ensures c.if-not-in_order.false))
-
--- ---- after the last block: yes
 pub returns : goal.returns
+unfolding in_order
 returns c =
-    let e : c.loop-k.k ≡ block_count c.args.file.now = omega arith in
-    sym (rw e at c.loop-k.invariant.1)
+    let test : ℕ × List ℕ → Bool =
+    λ p. cond (ltb p.0 c.args.years) (is_calendar p.1 && eqb (number_at p.1 2) (c.number_at-first.result + p.0)) (is_products p.1) in
+    let rest : iter_rest (enumerate_source c.enumerate.result) ≡ blocks_of c.args.file.now =
+    ap iter_rest c.enumerate.ensures.source ∙ c.iter.ensures.rest ∙ c.blocks-2.ensures.0 in
+    let all =
+    all_from_yields_List test _ _ _ c.all.ensures.ran (YieldsList-from_enumerate (YieldsList-from_slice _ rest) c.enumerate.ensures.count) (λ x b q k. search rules)
+    ∙ numbered-every test _ in
+    rw (c.requires.0, c.number_at-first.ensures.0, c.block_at.ensures.0) at all

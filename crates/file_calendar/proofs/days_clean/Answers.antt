@@ -1,34 +1,19 @@
--- Whether the bits of all 368 days of a calendar block are clean.
--- The loop keeps: the days before n are clean, and n ≤ 368. A day that is not clean refutes it of all; at n = 368 it is said of all.
-use mathlib.Core.Path.{◌≡◌, sym}
-use mathlib.Core.Bool.{true}
+-- Whether the bits of all 368 days of a calendar block are clean: `all` asks each day, and the year is the block's.
+use Rattle.std.proofs.Common.{rules}
+use Prim.Native.Nat.{ℕ}
+use mathlib.Core.Bool.{Bool}
 use native.Mathlib.Omega.{arith}
-use Rattle.questions.proofs.Search.{every-none, every_more, every-not}
-use Rattle.questions.proofs.Bools.{said-no, said-yes}
-use Rattle.file_calendar.specs.Calendars.{day_clean}
+use Rattle.calendar.specs.Trading.{may_close, bits_clean}
+use Rattle.file_blocks.proofs.Ranges.{every_from_all}
+use Rattle.file_calendar.specs.Calendars.{map_bit}
 use Rattle.file_calendar.proofs.days_clean.Goals as goal
 
 pub overflow_cast-year : goal.overflow_cast-year
-overflow_cast-year c = omega (arith, c.number_at-year.ensures.1)
+overflow_cast-year c = omega (arith, c.number_at.ensures.1)
 
-pub loop-n-init : goal.loop-n-init
-loop-n-init c = (omega arith, every-none _)
-
--- ---- a day that is not clean: no
-pub returns-then-not-day_clean : goal.returns-then-not-day_clean
-returns-then-not-day_clean c = sym (every-not (day_clean _) 368 _
-    (said-no (rw c.number_at-year.ensures.0 at c.day_clean.ensures) c.if-not-day_clean.true) (omega arith))
-
--- ---- the turn that goes on
-pub loop-n-preserved : goal.loop-n-preserved
-loop-n-preserved c = (
-  omega arith,
-  every_more (day_clean _) _ c.loop-n.invariant.1
-      (said-yes (rw c.number_at-year.ensures.0 at c.day_clean.ensures) c.if-not-day_clean.false),
-)
-
--- ---- after the last day: yes
 pub returns : goal.returns
 returns c =
-    let e : c.loop-n.n ≡ 368 = omega arith in
-    sym (rw e at c.loop-n.invariant.1)
+    let b = c.args.b.now in
+    let test : ℕ → Bool = λ n. bits_clean (may_close c.number_at.result n) (map_bit 16 b n) (map_bit 62 b n) in
+    let all = every_from_all test 368 _ _ _ c.all.ensures.ran (λ x b q k. search rules) in
+    rw c.number_at.ensures.0 at all

@@ -5,4 +5,4 @@ use Rattle.file_calendar.proofs.map_bit.Goals as goal
 
 pub returns : goal.returns
 unfolding map_bit
-returns c = simp c.byte_at-byte.ensures
+returns c = simp (c.byte_at-byte.ensures, c.from.ensures, c.from-2.ensures)

@@ -14,10 +14,10 @@ order_right-requires c = c.year_count-years.ensures.0
 pub returns-then-not-order_right : goal.returns-then-not-order_right
 unfolding order_call
 returns-then-not-order_right c =
-    rw c.refused_file.ensures (sym (refused _ _ _ 3 (first-no 4 [] (said-no c.order_right.ensures c.if-not-order_right.true))))
+    sym (refused _ _ _ 3 (first-no 4 [] (said-no c.order_right.ensures c.if-not-order_right.true)))
 
-pub calendar_blocks-calendar-requires : goal.calendar_blocks-calendar-requires
-calendar_blocks-calendar-requires c =
+pub calendar_blocks-requires : goal.calendar_blocks-requires
+calendar_blocks-requires c =
     let y = c.year_count-years.ensures in
     let o = ordered _ (said-yes c.order_right.ensures c.if-not-order_right.false) in
     (y.0, rw y.0 o.some, rw y.0 o.most, y.1)
@@ -26,4 +26,4 @@ pub returns : goal.returns
 unfolding order_call
 returns c =
     let yes = said-yes c.order_right.ensures c.if-not-order_right.false in
-    rw (c.calendar_blocks-calendar.ensures, sym (calendar-is _ (ordered _ yes))) (sym (accepted _ _ _ (first-yes 4 [] yes ∙ no-asks)))
+    rw (c.calendar_blocks.ensures, sym (calendar-is _ (ordered _ yes))) (sym (accepted _ _ _ (first-yes 4 [] yes ∙ no-asks)))

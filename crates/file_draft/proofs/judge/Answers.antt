@@ -1,4 +1,4 @@
--- The number of the first question answered no, 0 where there is none: 3 to 8 of the file, then 25, asked of the calendar and the list.
+-- The first question answered no, where there is one: 3 to 8 of the file, then 25, asked of the calendar and the list.
 -- A question answered yes leaves those after it (`yes-3` ..); a `return` is the first no among those left, or none. Two belong to 7:
 -- a list that ends within a record, and a record not right. The yes to 4 bounds the years, so `within_cover` may be called.
 use Prim.Native.Nat.{ℕ}

@@ -1,18 +1,16 @@
 -- Question 7 by the list: whether every record of it is right.
--- The loop keeps: the records before i are right, and i ≤ n. A record that is not refutes it of all; at i = n it is said of all.
+-- The loop keeps: the records before i are right. A record that is not refutes it of all; after the last it is said of all.
 use mathlib.Core.Path.{◌≡◌, sym}
-use mathlib.Core.Bool.{true}
 use Prim.Native.Nat.{◌/◌}
 use native.Mathlib.Omega.{arith}
 use lib.ListN.{length}
 use Rattle.questions.proofs.Search.{every-none, every_more, every-not}
 use Rattle.questions.proofs.Bools.{said-no, said-yes}
-use Rattle.file_records.specs.Records.{record_right}
-use Rattle.file_draft.specs.Drafts.{list_record, list_right}
+use Rattle.file_draft.specs.Drafts.{list_right}
 use Rattle.file_draft.proofs.list_right.Goals as goal
 
 pub loop-i-init : goal.loop-i-init
-loop-i-init c = (omega arith, every-none _)
+loop-i-init c = every-none _
 
 -- ---- a record that is not right: no
 pub returns-then-not-record_right : goal.returns-then-not-record_right
@@ -25,11 +23,11 @@ returns-then-not-record_right c =
 pub loop-i-preserved : goal.loop-i-preserved
 loop-i-preserved c =
     let e = rw c.list_record.ensures at c.record_right.ensures in
-    (omega arith, every_more _ _ c.loop-i.invariant.1 (said-yes e c.if-not-record_right.false))
+    every_more _ _ c.loop-i.invariant (said-yes e c.if-not-record_right.false)
 
 -- ---- after the last record: yes
 pub returns : goal.returns
 unfolding list_right
 returns c =
     let e : c.loop-i.i ≡ length c.args.records.now / 32 = omega arith in
-    sym (rw e at c.loop-i.invariant.1)
+    sym (rw e at c.loop-i.invariant)

@@ -1,8 +1,10 @@
--- Whether the second of two ids is greater, byte by byte: the answers of the three calls of `byte_rises`, one in the other, are `id_rises`.
--- The reads within the arrays are found by search.
-use Rattle.file_ids.specs.Ids.{id_rises}
+-- Whether the second of two ids is greater: the order of arrays is the definition's, byte by byte (`ids-order`).
+use Rattle.std.proofs.Common.{rules, ◌≡◌, length, ◌∙◌}
+use Rattle.file_ids.proofs.IdsRise.{ids-order}
 use Rattle.file_ids.proofs.id_rises.Goals as goal
 
 pub returns : goal.returns
-unfolding id_rises
-returns c = rw (c.byte_rises-3.ensures, c.byte_rises-2.ensures, c.byte_rises.ensures)
+returns c =
+    let a : length c.args.a ≡ 4 = search rules in
+    let b : length c.args.b ≡ 4 = search rules in
+    c.lt.ensures ∙ ids-order _ _ a b

@@ -1,33 +1,40 @@
 -- Question 8: the answer is whether the ids strictly rise over the file, though each id is compared only with the one before it.
--- The loop keeps `Walked`: before p every id is above all before it, and `last` is the last record's place, with the highest id, or `places`.
--- A no of `follows` refutes question 8 (walk-fails); at p = places the walk has answered it yes (walk_ends).
-use mathlib.Core.Path.{sym}
+-- The loop keeps `Walked`: before p every id is above all before it, and `last` is the last record's place, with the highest id, if there is one.
+-- A no of `follows` refutes question 8 (walk-fails); after the last place the walk has answered it yes.
+use mathlib.Core.Path.{◌≡◌, sym, ap, ◌∙◌}
+use Prim.Native.Nat.{ℕ}
 use native.Mathlib.Omega.{arith}
+use Rattle.questions.specs.Search.{every}
 use Rattle.questions.proofs.Bools.{said-no, said-yes}
-use Rattle.file_ids.specs.Ids.{ids_rise}
-use Rattle.file_ids.proofs.IdsRise.{walk_start, walk_step, walk-fails, walk_ends}
+use Rattle.file_ids.specs.Ids.{place_count, id_at, id_rises, place_rises, ids_rise}
+use Rattle.file_ids.proofs.IdsRise.{walk_start, walk_record, walk_on, walk-fails, follows-yes, follows-no}
 use Rattle.file_ids.proofs.ids_rise.Goals as goal
+use Rattle.file_ids.proofs.ids_rise.Goals.{then-is_record+else-not-follows, else-is_record}
 
 pub loop-p-init : goal.loop-p-init
-loop-p-init c = walk_start _ _
+loop-p-init c = walk_start _
 
--- ---- a place that does not follow: no
+-- ---- a record that does not follow: no
 pub returns-then-not-follows : goal.returns-then-not-follows
 unfolding ids_rise
 returns-then-not-follows c =
-    let at-is-record = c in
-    sym (walk-fails _ _ _ _ at-is-record.loop-p.invariant (omega arith)
-    (rw at-is-record.is_record-holds.ensures at (said-no c.follows.ensures c.if-not-follows.true)))
+    let f = c.args.file.now in
+    let (r, is, less) = follows-no (λ q. id_rises (id_at f q) (id_at f c.loop-p.p)) _ _ c.follows.ensures c.if-not-follows.true in
+    sym (walk-fails f _ _ c.loop-p.invariant _ r (omega arith) (said-yes c.is_record.ensures c.if-is_record.true) is less)
 
--- ---- the turn that goes on
+-- ---- the turn that goes on, by whether the place holds a record
 pub loop-p-preserved : goal.loop-p-preserved
 loop-p-preserved c =
-    let at-is-record = c in
-    let e = at-is-record.is_record-holds.ensures in
-    walk_step _ _ _ _ at-is-record.loop-p.invariant (omega arith) _ (rw e at c.last_record-last.ensures)
-    (rw e at (said-yes c.follows.ensures c.if-not-follows.false))
+    let f = c.args.file.now in
+    elim c.if-is_record.branch [
+      | then-is_record+else-not-follows w ↦ rw w.last-is (walk_record f _ _ c.loop-p.invariant (said-yes c.is_record.ensures w.if-is_record.true)
+          (follows-yes (λ q. id_rises (id_at f q) (id_at f c.loop-p.p)) _ _ w.follows.ensures w.if-not-follows.false))
+      | else-is_record w ↦ rw w.last-is (walk_on f _ _ c.loop-p.invariant (said-no c.is_record.ensures w.if-is_record.false))
+    ]
 
 -- ---- after the last place: yes
 pub returns : goal.returns
 unfolding ids_rise
-returns c = sym (walk_ends _ _ _ _ c.loop-p.invariant (omega arith))
+returns c =
+    let e : c.loop-p.p ≡ place_count c.args.file.now = omega arith in
+    sym (ap (λ (n : ℕ). every n (place_rises c.args.file.now)) (sym e) ∙ c.loop-p.invariant.risen)

@@ -1,5 +1,5 @@
 -- The days without trading at the end of a calendar block's year, counted up to seven; a block of another kind leaves the count.
--- The loop keeps: `run` is the count after the first n days of the year and at most 7, and n ≤ days. One day more is `through-more`.
+-- The loop keeps: `run` is the count after the first n days of the year and at most 7. One day more is `through-more`.
 use mathlib.Core.Path.{◌≡◌, sym, ◌∙◌}
 use native.Mathlib.Omega.{arith}
 use borrow.Author.Tests.{eq-eqb, ne_eqb}
@@ -13,18 +13,17 @@ returns-then-byte_at-ne1 c = simp (ne_eqb _ _ (λ h. c.if-byte_at-ne1.true (c.by
 
 -- ---- the loop over the days of the year
 pub loop-n-init : goal.loop-n-init
-loop-n-init c = (omega arith, through-none _ _, c.requires)
+loop-n-init c = (through-none _ _, c.requires)
 
 pub day_trades-requires : goal.day_trades-requires
 day_trades-requires c = omega (arith, rw c.field_at.ensures at c.days_in-days.ensures.1)
 
 pub idle_next-run-requires : goal.idle_next-run-requires
-idle_next-run-requires c = c.loop-n.invariant.2
+idle_next-run-requires c = c.loop-n.invariant.1
 
 pub loop-n-preserved : goal.loop-n-preserved
 loop-n-preserved c = (
-  omega arith,
-  through-more _ _ _ _ _ _ c.day_trades.ensures c.loop-n.invariant.1 c.idle_next-run.ensures.0,
+  through-more _ _ _ _ _ _ c.day_trades.ensures c.loop-n.invariant.0 c.idle_next-run.ensures.0,
   c.idle_next-run.ensures.1,
 )
 
@@ -34,4 +33,4 @@ returns c =
     let l = c.loop-n in
     let e : l.n ≡ days_of c.args.b.now =
     omega (arith, rw c.field_at.ensures at c.days_in-days.ensures.0) in
-    simp (eq-eqb _ _ (sym c.byte_at.ensures ∙ c.if-byte_at-ne1.false)) (rw e at l.invariant.1)
+    simp (eq-eqb _ _ (sym c.byte_at.ensures ∙ c.if-byte_at-ne1.false)) (rw e at l.invariant.0)

@@ -1,8 +1,8 @@
--- Whether two ids have the same four bytes: the code is the definition `same_id`, so it holds by computing; the reads are found by search.
-use mathlib.Core.Path.{refl}
-use Rattle.file_load.specs.Products.{same_id}
+-- Whether two ids have the same four bytes: the test of the lists is that of the bytes (same-bytes).
+use mathlib.Core.Path.{◌∙◌}
+use native.Mathlib.Omega.{arith}
+use Rattle.file_load.proofs.SameIds.{same-bytes}
 use Rattle.file_load.proofs.same_id.Goals as goal
 
 pub returns : goal.returns
-unfolding same_id
-returns c = refl
+returns c = c.eq.ensures ∙ same-bytes c.args.a c.args.b (omega arith) (omega arith)

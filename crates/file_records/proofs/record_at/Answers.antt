@@ -1,19 +1,21 @@
--- A record of a block of the file; no bytes where the file has no such block, since an empty block has no record (`record-none`). A block that exists
--- has 512 bytes, as `block_record` requires.
+-- A record of a block of the file; no bytes where the file has no such block, since an empty block has no record (`record-none`).
 use mathlib.Core.Path.{sym, ap, ◌∙◌}
-use mathlib.Core.List.{List}
+use mathlib.Core.List.{List, []}
 use Prim.Native.Nat.{ℕ}
 use native.Mathlib.Omega.{arith}
 use Rattle.file_records.specs.Records.{record_of}
-use Rattle.file_blocks.proofs.Files.{block_out}
+use Rattle.file_blocks.proofs.Files.{block_out, blocks-at}
 use Rattle.file_records.proofs.RecordPlaces.{record-none}
 use Rattle.file_records.proofs.record_at.Goals as goal
 
-pub returns-then-file-n : goal.returns-then-file-n
-returns-then-file-n c = sym (ap (λ (b : List ℕ). record_of b c.args.k) (block_out _ _ c.if-file-n.true) ∙ record-none _)
+pub returns-in-Some : goal.returns-in-Some
+returns-in-Some c =
+    let blocks = c.blocks-2.ensures in
+    let found = c.in-Some.ensures.lookup in
+    let is = rw blocks.0 at (found.3.1 []) ∙ blocks-at _ _ (omega arith) [] in
+    rw (c.block_record.ensures, is)
 
-pub block_record-requires : goal.block_record-requires
-block_record-requires c = c.block_at.ensures.1 (omega arith)
-
-pub returns : goal.returns
-returns c = rw (c.block_record.ensures, c.block_at.ensures.0)
+pub returns-in-None : goal.returns-in-None
+returns-in-None c =
+    let past = c.in-None.ensures.lookup.3 in
+    sym (ap (λ (b : List ℕ). record_of b c.args.k) (block_out _ _ (omega (arith, past, c.blocks-2.ensures.1))) ∙ record-none _)

@@ -1,4 +1,4 @@
--- Whether a place of a lent block holds a record as stated, or is unused and zero. Each `return` cites whether k is below the block's count, which
+-- Whether a place of a block holds a record as stated, or is unused and zero. Each `return` cites whether k is below the block's count, which
 -- decides the definition's case.
 use mathlib.Core.Path.{ap, ◌∙◌}
 use mathlib.Core.List.{List}
@@ -7,9 +7,6 @@ use borrow.Author.Tests.{lt-ltb, le-ltb}
 use Rattle.file_blocks.specs.Blocks.{zeros}
 use Rattle.file_records.specs.Records.{record_right, record_place_right}
 use Rattle.file_records.proofs.record_place_right.Goals as goal
-
-pub block_record-r-requires : goal.block_record-r-requires
-block_record-r-requires c = c.requires
 
 pub returns-then-k-count : goal.returns-then-k-count
 unfolding record_place_right

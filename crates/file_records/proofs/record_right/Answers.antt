@@ -6,26 +6,17 @@ use Rattle.file_records.proofs.record_right.Goals as goal
 pub returns : goal.returns
 unfolding record_right
 returns c =
-    let at-field-at2 = c.before.before.before in
-    let at-fields-right = at-field-at2.before in
-    let at-three-at = at-fields-right.before in
-    let at-field-at = at-three-at.before in
-    let at-size-at = at-field-at.before in
-    let at-byte-at = at-size-at.before in
-    let at-four-at3 = at-byte-at.before in
-    let at-four-at2 = at-four-at3.before in
-    let at-four-at = at-four-at2 in
     simp (
       c.are_zero.ensures,
       c.file_size_right.ensures,
       c.field_at-3.ensures,
-      at-field-at2.field_at-2.ensures,
-      at-fields-right.fields_right.ensures,
-      at-three-at.three_at.ensures,
-      at-field-at.field_at.ensures,
-      at-size-at.size_at.ensures,
-      at-byte-at.byte_at.ensures,
-      at-four-at3.four_at-3.ensures,
-      at-four-at2.four_at-2.ensures,
-      at-four-at.four_at.ensures,
+      c.field_at-2.ensures,
+      c.fields_right.ensures,
+      c.three_at.ensures,
+      c.field_at.ensures,
+      c.size_at.ensures,
+      c.byte_at.ensures,
+      c.four_at-3.ensures,
+      c.four_at-2.ensures,
+      c.four_at.ensures,
     )

@@ -5,4 +5,4 @@ use Rattle.file_records.proofs.size_at.Goals as goal
 
 pub returns : goal.returns
 unfolding size_at
-returns c = simp (c.field_at-part.ensures, c.field_at-shares.ensures)
+returns c = simp (c.from.ensures, c.from-2.ensures, c.field_at-part.ensures, c.field_at-shares.ensures)

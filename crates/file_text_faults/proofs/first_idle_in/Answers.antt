@@ -3,7 +3,6 @@ use native.Mathlib.Omega.{arith}
 use mathlib.Core.Path.{sym, ap, ◌∙◌}
 use mathlib.Core.Bool.{not}
 use Rattle.questions.proofs.Search.{search-none, search-here, search-next}
-use Rattle.calendar.specs.Trading.{some_trades}
 use Rattle.file_text_faults.proofs.FirstIdleRun.{search-start, no_run}
 use Rattle.file_text_faults.proofs.first_idle_in.Goals as goal
 
@@ -15,9 +14,6 @@ loop-day-init c = search-start _ _ _ c.cover_start-day.ensures.0 c.cover_end-end
 
 pub some_trades-requires : goal.some_trades-requires
 some_trades-requires c = omega (arith, c.cover_end-end.ensures.1)
-
-pub overflow_add-day : goal.overflow_add-day
-overflow_add-day c = omega (arith, c.cover_end-end.ensures.1)
 
 pub returns : goal.returns
 returns c = sym (search-none _ _ _ _ c.loop-day-test.false) ∙ c.loop-day.invariant

@@ -9,7 +9,4 @@ use Rattle.file_text_faults.proofs.first_idle_in.Given as goal
 
 abbrev pub invariant-loop-day : goal.invariant-loop-day
 invariant-loop-day l =
-    first_from (λ d. not (some_trades (calendar_with l.cover l.closed) d 7)) 36525 (l.last - l.day) l.day ≡ first_idle (calendar_with l.cover l.closed)
-
-abbrev pub decreases-loop-day : goal.decreases-loop-day
-decreases-loop-day l = l.last - l.day
+    first_from (λ d. not (some_trades (calendar_with l.cover l.closed) d 7)) 36525 (l.day-end - l.day) l.day ≡ first_idle (calendar_with l.cover l.closed)

@@ -1,4 +1,4 @@
--- The cover that words k and m of a line are: the answers of `number_in`, put together, are `cover_at`.
+-- The cover that words k and m of a line are, where both are numbers: the answers of `number_in`, put together, are `cover_at`.
 -- No number passes its most (at_most), so both years fit 16 bits.
 use native.Mathlib.Omega.{arith}
 use Prim.Native.Nat.{◌≤◌}
@@ -17,7 +17,10 @@ overflow_cast-result-2 c =
     let h : c.number_in-years.result.value ≤ 65535 = at_most _ _ _ c.number_in-years.ensures in
     omega (arith, h)
 
+pub returns-then-not-first-years : goal.returns-then-not-first-years
+unfolding cover_at
+returns-then-not-first-years c = rw (← c.number_in-years.ensures, ← c.number_in-first.ensures, c.if-not-first-years.true) refl
+
 pub returns : goal.returns
 unfolding cover_at
-returns c =
-    rw (c.number_in-years.ensures, c.number_in-first.ensures) refl
+returns c = rw (← c.number_in-years.ensures, ← c.number_in-first.ensures, c.if-not-first-years.false) refl

@@ -1,5 +1,5 @@
 -- The number that a word is, where it is one and at most a given number.
--- The loop keeps: `value` followed by the bytes from i on makes the number that the whole word makes, and value ≤ most (one-digit).
+-- The loop keeps: `value` followed by the bytes that are left makes the number that the whole word makes, and value ≤ most (one-digit).
 -- The returns of none are: no bytes, a byte that is no digit (no_digit), a number above the most (too-great); at the end the value is the number.
 use native.Mathlib.Omega.{arith}
 use mathlib.Core.Path.{refl, sym, ◌∙◌}
@@ -12,34 +12,33 @@ pub returns-then-word-eq0 : goal.returns-then-word-eq0
 returns-then-word-eq0 c = number-none _ _ c.if-word-eq0.true
 
 -- ---- the loop, and what ends it with no number
-pub loop-i-init : goal.loop-i-init
-loop-i-init c = (omega arith, omega arith, refl)
+pub loop-byte-init : goal.loop-byte-init
+loop-byte-init c = (omega arith, refl)
 
 pub returns-then-not-is_digit : goal.returns-then-not-is_digit
 returns-then-not-is_digit c =
-    let v = c.loop-i.invariant in
-    sym (no_digit _ _ _ _ c.loop-i-test.true (said-no c.is_digit.ensures c.if-not-is_digit.true)) ∙ v.2 ∙
+    let v = c.loop-byte.invariant in
+    sym (no_digit _ _ _ _ c.loop-byte-test.true (said-no c.is_digit.ensures c.if-not-is_digit.true)) ∙ v.1 ∙
     number-some _ _ c.if-word-eq0.false
 
 pub returns-then-most-next : goal.returns-then-most-next
 returns-then-most-next c =
-    let v = c.loop-i.invariant in
-    sym (too-great _ _ _ _ c.loop-i-test.true (omega (arith, c.digit_value.ensures.0))) ∙ v.2 ∙
+    let v = c.loop-byte.invariant in
+    sym (too-great _ _ _ _ c.loop-byte-test.true (omega (arith, c.digit_value.ensures.0))) ∙ v.1 ∙
     number-some _ _ c.if-word-eq0.false
 
 -- ---- one digit more
-pub loop-i-preserved : goal.loop-i-preserved
-loop-i-preserved c =
-    let v = c.loop-i.invariant in
+pub loop-byte-preserved : goal.loop-byte-preserved
+loop-byte-preserved c =
+    let v = c.loop-byte.invariant in
     let e = c.digit_value.ensures.0 in (
       omega arith,
-      omega arith,
-      rw e (sym (one-digit _ _ _ _ c.loop-i-test.true (said-yes c.is_digit.ensures c.if-not-is_digit.false)
-          (omega (arith, e))) ∙ v.2),
+      rw e (sym (one-digit _ _ _ _ c.loop-byte-test.true (said-yes c.is_digit.ensures c.if-not-is_digit.false)
+          (omega (arith, e))) ∙ v.1),
     )
 
 -- ---- the word's end
 pub returns : goal.returns
 returns c =
-    let v = c.loop-i.invariant in
-    sym (number-whole _ _ _ _ v.1 c.loop-i-test.false) ∙ v.2 ∙ number-some _ _ c.if-word-eq0.false
+    let v = c.loop-byte.invariant in
+    sym (number-whole _ _ _ _ (omega arith) c.loop-byte-test.false) ∙ v.1 ∙ number-some _ _ c.if-word-eq0.false

@@ -30,15 +30,9 @@ pub returns : goal.returns
 returns c = ends _ _ _ _ _ _ _ c.loop-cal.invariant _ c.line_count-count.ensures c.goes_on.ensures
     c.loop-cal-test.false
 
--- ---- there is room for the line
-pub append-length-requires : goal.append-length-requires
-append-length-requires c = (
-  line-fits _ _ _ _ c.line_at.ensures,
-  (has_more _ _ _ _ c.goes_on.ensures c.loop-cal-test.true).1,
-)
-
--- ---- one line more
+-- ---- one line more, for which there is room
 pub loop-cal-preserved : goal.loop-cal-preserved
 loop-cal-preserved c =
+    let put = c.append-length.ensures.put (line-fits _ _ _ _ c.line_at.ensures, (has_more _ _ _ _ c.goes_on.ensures c.loop-cal-test.true).1) in
     goes _ _ _ _ _ _ _ c.loop-cal.invariant _ c.line_count-count.ensures c.goes_on.ensures c.loop-cal-test.true _
-    c.line_at.ensures _ _ c.append-length.ensures.0 c.append-length.ensures.1
+    c.line_at.ensures _ _ put.0 put.1

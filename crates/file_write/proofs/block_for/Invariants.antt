@@ -1,13 +1,9 @@
--- The loop keeps: of the 512 bytes of `body` those before j are the block's and the others zero (`Filled`), and j ≤ 510. With the check that
+-- The loop keeps: of the 512 bytes of `body` those before j are the block's and the others zero (`Filled`). With the check that
 -- `checked` writes after them they are the block of the definition (block_made).
-use Prim.Native.Nat.{◌-◌, ◌≤◌}
 use Rattle.calendar.specs.Trading.{calendar_of_maps}
 use Rattle.file_calendar.proofs.Filling.{Filled}
 use Rattle.file_draft.specs.Drafts.{block_byte}
 use Rattle.file_write.proofs.block_for.Given as goal
 
 abbrev pub invariant-loop-j : goal.invariant-loop-j
-invariant-loop-j l = (l.j ≤ 510) × Filled (block_byte (calendar_of_maps l.cover l.closed l.exchange) l.records l.k) 512 l.j l.body
-
-abbrev pub decreases-loop-j : goal.decreases-loop-j
-decreases-loop-j l = 510 - l.j
+invariant-loop-j l = Filled (block_byte (calendar_of_maps l.cover l.closed l.exchange) l.records l.k) 512 l.j l.body

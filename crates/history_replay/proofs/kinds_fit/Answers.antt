@@ -2,7 +2,6 @@
 -- The loop keeps: k is at most the number of calls, and the calls before k have such a kind. A call with another ends it
 -- with no (`kinds-no`); after the last one all have (`kinds-yes`).
 use native.Mathlib.Omega.{arith}
-use mathlib.Core.Bool.{true}
 use borrow.Author.Tests.{le-leb}
 use Rattle.questions.proofs.Search.{every-none, every_more}
 use Rattle.history_replay.proofs.ReplayBuffer.{kinds-no, kinds-yes}

@@ -18,10 +18,6 @@ write_reply-requires c =
     let v = c.loop-i.invariant in
     omega (arith, v.0, v.1, long _ _ _ v.0 v.1 _ _ _ v.2 v.3, c.loop-i-test.true)
 
-pub overflow_add-i : goal.overflow_add-i
-overflow_add-i c =
-    omega (arith, c.well_formed.1.0.0, c.loop-i-test.true)
-
 pub loop-i-preserved : goal.loop-i-preserved
 loop-i-preserved c =
     let v = c.loop-i.invariant in (

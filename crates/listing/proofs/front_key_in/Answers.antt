@@ -1,27 +1,18 @@
--- The front of a kind on a date; the first key beyond the cover where it has none. The loop keeps: the search from `key` on gives what the search
--- from the date's key gives. A key that may be the front is it (`front-here`), another is passed by (`search-next`); `key` comes nearer to `end`.
-use Rattle.questions.proofs.Search.{search-next}
-use Rattle.listing.proofs.Front.{front-here, front-none}
-use mathlib.Core.Path.{refl, ◌∙◌}
+-- The front of a kind on a date; the first key beyond the cover where it has none: the search of the keys from the date's to the end finds what the
+-- definition's finds (`first-found`, `front-is`).
+use Rattle.std.proofs.Common.{true, false, rules}
+use Rattle.std.proofs.lemmas.Iterator.{first_from_Range}
+use Rattle.questions.proofs.Chains.{first-found}
+use Rattle.calendar.specs.Trading.{calendar_with}
+use Rattle.listing.proofs.Front.{may_be_front, front-is}
+use mathlib.Core.Path.{◌≡◌, ◌∙◌, sym}
 use Rattle.listing.proofs.front_key_in.Goals as goal
 
--- ---- the loop begins at the date's key
-pub loop-key-init : goal.loop-key-init
-loop-key-init c = refl
-
--- ---- a key that may be the front
-pub returns-then-may_be_front : goal.returns-then-may_be_front
-returns-then-may_be_front c =
-    front-here _ _ _ _ _ _ _ c.loop-key.invariant c.end_key-end.ensures.0 c.key_of-key.ensures
-    c.loop-key-test.true (rw c.may_be_front.ensures at c.if-may_be_front.true)
-
--- ---- the next key
-pub loop-key-preserved : goal.loop-key-preserved
-loop-key-preserved c = search-next _ _ _ _ c.loop-key-test.true (rw c.may_be_front.ensures at c.if-may_be_front.false) ∙
-    c.loop-key.invariant
-
--- ---- after the loop: the cover has none
 pub returns : goal.returns
 returns c =
-    front-none _ _ _ _ _ _ _ c.loop-key.invariant c.end_key-end.ensures.0 c.key_of-key.ensures
-    c.loop-key-test.false
+    let f = may_be_front (calendar_with c.args.cover c.args.closed.now) c.args.kind c.args.group c.args.date in
+    let e =
+    c.unwrap_or.ensures
+    ∙ first-found f c.key_of-start.result c.end_key-end.result c.find.result
+    (first_from_Range _ _ _ c.find.result (λ k. f k ≡ true) (λ k. f k ≡ false) c.find.ensures.ran (λ x q k. search rules) (λ x q k. search rules)) in
+    (rw (c.end_key-end.ensures.0, c.key_of-start.ensures) at e) ∙ sym (front-is _ c.args.kind c.args.group c.args.date)

@@ -22,7 +22,7 @@ loop-j-init c = enters c.steps.step c.steps-test.true c.steps.invariant
 
 -- ---- a place is filled
 pub next_in_set-key-requires : goal.next_in_set-key-requires
-next_in_set-key-requires c = (c.loop-j.invariant.0.row, c.steps-test.true)
+next_in_set-key-requires c = c.steps-test.true
 
 pub offset_bounds-maturities-listed : goal.offset_bounds-maturities-listed
 offset_bounds-maturities-listed c = omega (arith, has_room _ _ _ _ c.loop-j.invariant.0 c.loop-j-test.true)
@@ -36,7 +36,7 @@ overflow_add-listed c = omega (arith, has_room _ _ _ _ c.loop-j.invariant.0 c.lo
 pub loop-j-preserved : goal.loop-j-preserved
 loop-j-preserved c = (
   rw c.last_trading_day_in-last.ensures (takes _ _ _ _ c.loop-j.invariant.0 c.next_in_set-key.result c.loop-j-test.true
-      c.next_in_set-key.ensures c.if-end-key.false),
+      (rw (← c.kind_number-row.ensures) at c.next_in_set-key.ensures) c.if-end-key.false),
   c.loop-j.invariant.1,
 )
 
@@ -52,6 +52,6 @@ returns-after-steps c =
 
 pub returns-then-end-key : goal.returns-then-end-key
 returns-then-end-key c =
-    stops _ _ _ _ c.loop-j.invariant.0 c.next_in_set-key.result c.loop-j-test.true c.next_in_set-key.ensures
+    stops _ _ _ _ c.loop-j.invariant.0 c.next_in_set-key.result c.loop-j-test.true (rw (← c.kind_number-row.ensures) at c.next_in_set-key.ensures)
     c.if-end-key.true ∙
     listing-is _ c.args.kind _ c.args.date _ _ _ c.kind_number-row.ensures c.end_key-end.ensures.0 refl

@@ -17,13 +17,7 @@ invariant-loop-j l =
     (front (rule_of (calendar_with l.cover l.closed) l.kind l.group) (calendar_with l.cover l.closed) l.date) l.maturities l.listed l.from l.complete
     (replicate (l.count - l.j) (set_at l.row l.step) ++ rest l.row (l.step + 1)) × (l.count ≤ 255)
 
-abbrev pub decreases-loop-j : goal.decreases-loop-j
-decreases-loop-j l = l.count - l.j
-
 abbrev pub invariant-steps : goal.invariant-steps
 invariant-steps l =
     Walking (mat_of (calendar_with l.cover l.closed) l.kind l.group) l.end l.row
     (front (rule_of (calendar_with l.cover l.closed) l.kind l.group) (calendar_with l.cover l.closed) l.date) l.maturities l.listed l.from l.complete (rest l.row l.step)
-
-abbrev pub decreases-steps : goal.decreases-steps
-decreases-steps l = 4 - l.step

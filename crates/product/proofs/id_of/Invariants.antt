@@ -1,6 +1,6 @@
 -- The loop keeps: i is at most 4, and the first i bytes pass. A byte that fails fails the id (`every-not`), one that passes is one more
 -- (`every_more`); at the end i is 4.
-use Prim.Native.Nat.{◌≤◌, ◌-◌}
+use Prim.Native.Nat.{◌≤◌}
 use mathlib.Core.Path.{◌≡◌}
 use mathlib.Core.Bool.{true}
 use lib.ListN.{get_or}
@@ -11,6 +11,3 @@ use Rattle.product.proofs.id_of.Given as goal
 
 abbrev pub invariant-loop-i : goal.invariant-loop-i
 invariant-loop-i l = (l.i ≤ 4) × (every l.i (λ k. id_byte (ltb k l.count) (get_or l.id k 0)) ≡ true)
-
-abbrev pub decreases-loop-i : goal.decreases-loop-i
-decreases-loop-i l = 4 - l.i

@@ -13,29 +13,29 @@ pub put_after-first-requires : goal.put_after-first-requires
 put_after-first-requires c =
     let start = c in
     let l : length start.args.q.tables ≡ 200 = start.well_formed.0.1.1.0.1.0.1 in
-    let m = few-least start.args.q.tables start.args.q.count (omega (arith, l)) _ _ c.fewer-few.ensures in
+    let m = few-least start.args.q.tables start.args.q.count (omega (arith, l)) _ _ c.min-few.ensures in
     (omega arith, omega (arith, m), omega (arith, m), c.no_tables-none.ensures)
 
 pub put_after-rest-requires : goal.put_after-rest-requires
 put_after-rest-requires c =
     let start = c in
     let l : length start.args.q.tables ≡ 200 = start.well_formed.0.1.1.0.1.0.1 in
-    let m = few-least start.args.q.tables start.args.q.count (omega (arith, l)) _ _ c.fewer-few.ensures in
+    let m = few-least start.args.q.tables start.args.q.count (omega (arith, l)) _ _ c.min-few.ensures in
     (m, omega arith, omega (arith, m), c.no_tables-none.ensures)
 
 pub overflow_sub-n : goal.overflow_sub-n
 overflow_sub-n c =
     let start = c in
     let l : length start.args.q.tables ≡ 200 = start.well_formed.0.1.1.0.1.0.1 in
-    few-least start.args.q.tables start.args.q.count (omega (arith, l)) _ _ c.fewer-few.ensures
+    few-least start.args.q.tables start.args.q.count (omega (arith, l)) _ _ c.min-few.ensures
 
 pub put_after-all-requires : goal.put_after-all-requires
 put_after-all-requires c =
     let start = c in
     let l : length start.args.q.tables ≡ 200 = start.well_formed.0.1.1.0.1.0.1 in
     let fits : start.args.q.count ≤ length start.args.q.tables = omega (arith, l) in
-    let m = few-least start.args.q.tables start.args.q.count fits _ _ c.fewer-few.ensures in
-    let r = rest-length start.args.q.tables start.args.q.count fits _ _ c.fewer-few.ensures in
+    let m = few-least start.args.q.tables start.args.q.count fits _ _ c.min-few.ensures in
+    let r = rest-length start.args.q.tables start.args.q.count fits _ _ c.min-few.ensures in
     (omega arith, omega (arith, m), omega (arith, m), placed _ _ _ c.put_after-rest.ensures r)
 
 -- ---- the answer
@@ -44,5 +44,5 @@ returns c =
     let start = c in
     let l : length start.args.q.tables ≡ 200 = start.well_formed.0.1.1.0.1.0.1 in
     let fits : start.args.q.count ≤ length start.args.q.tables = omega (arith, l) in
-    handled-is start.args.q.tables start.args.q.count fits _ _ c.fewer-few.ensures _ _ _
+    handled-is start.args.q.tables start.args.q.count fits _ _ c.min-few.ensures _ _ _
     c.put_after-first.ensures c.put_after-rest.ensures c.put_after-all.ensures

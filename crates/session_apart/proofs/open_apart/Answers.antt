@@ -1,11 +1,13 @@
 -- A refused open leaves the rest and the maps; an accepted one leaves the numbered listing and the maps of the verdict's calendar.
-use mathlib.Core.Path.{refl}
-use Rattle.session_apart.proofs.Keeping.{whole-refused, whole-accepted, open-refused, open-accepted}
+use mathlib.Core.Path.{refl, ◌∙◌, sym}
+use Rattle.session_apart.proofs.Keeping.{whole-refused, whole-accepted, result-refused, result-accepted}
 use Rattle.session_apart.proofs.open_apart.Goals as goal
 
-pub returns-then-refusal-ne0 : goal.returns-then-refusal-ne0
-returns-then-refusal-ne0 c = whole-refused _ _ _ _ _ _ (open-refused _ _ _ _ _ c.listed_in-l.ensures c.if-refusal-ne0.true) c.if-refusal-ne0.true refl
+pub returns-in-Err : goal.returns-in-Err
+returns-in-Err c =
+    let e = sym c.listed_in.ensures ∙ c.in-Err.is in
+    whole-refused _ _ _ _ _ _ (result-refused _ _ _ _ _ e).0 (result-refused _ _ _ _ _ e).1 refl
 
 pub returns : goal.returns
 returns c =
-    rw c.opened_rest.ensures (whole-accepted _ _ _ (open-accepted _ _ _ _ _ c.listed_in-l.ensures c.if-refusal-ne0.false) refl)
+    rw c.opened_rest.ensures (whole-accepted _ _ _ (result-accepted _ _ _ _ _ (sym c.listed_in.ensures ∙ c.in-Ok.is)) refl)

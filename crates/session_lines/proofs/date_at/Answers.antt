@@ -20,19 +20,19 @@ pub overflow_add-year : goal.overflow_add-year
 overflow_add-year c = omega (arith, c.two_value.ensures.1, c.two_value-2.ensures.1)
 
 -- ---- a day
-pub returns-in-Day : goal.returns-in-Day
-returns-in-Day c =
+pub returns-in-Ok : goal.returns-in-Ok
+returns-in-Ok c =
     let yes-is-date-form = said-yes c.is_date_form.ensures c.if-not-is_date_form.false in
     date-there _ _ yes-is-date-form _ _ _
     (ap₂ (λ (a b : ℕ). 100 * a + b) c.two_value.ensures.0 c.two_value-2.ensures.0) c.two_value-3.ensures.0
     c.two_value-4.ensures.0
-    _ c.day_of_date.ensures _ c.in-Day.is
+    _ c.day_of_date.ensures _ c.in-Ok.is
 
 -- ---- not a date
-pub returns-in-NotADate : goal.returns-in-NotADate
-returns-in-NotADate c =
+pub returns-in-Err : goal.returns-in-Err
+returns-in-Err c =
     let yes-is-date-form = said-yes c.is_date_form.ensures c.if-not-is_date_form.false in
     date-refused _ _ yes-is-date-form _ _ _
     (ap₂ (λ (a b : ℕ). 100 * a + b) c.two_value.ensures.0 c.two_value-2.ensures.0) c.two_value-3.ensures.0
     c.two_value-4.ensures.0
-    _ c.day_of_date.ensures c.in-NotADate.is
+    _ c.day_of_date.ensures _ c.in-Err.is

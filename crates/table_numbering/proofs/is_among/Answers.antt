@@ -1,21 +1,13 @@
--- Shown: yes exactly where the month is among the first n maturities.
--- The loop keeps: n places are there, and the month is among the places from i to n exactly where it is among the first n.
--- `listed_here` is the `return` with yes, `listed_next` a turn; from n on no place is left (`listed-none`).
-use Rattle.table_numbering.proofs.FirstMaturities.{listed_here, listed_next, listed-none}
-use native.Mathlib.Omega.{arith}
-use mathlib.Core.Path.{refl, ◌∙◌, sym}
+-- Shown: yes exactly where one of the maturities has the month (`listed-any`).
+use Rattle.std.proofs.Common.{rules, tests, nat_eq}
+use Rattle.std.proofs.lemmas.Iterator.{YieldsList-from_slice}
+use Rattle.std.proofs.lemmas.Iterator.Search.{any_from_yields_List}
+use Rattle.table_numbering.proofs.FirstMaturities.{listed-any}
+use mathlib.Core.Path.{◌∙◌, sym}
 use Rattle.table_numbering.proofs.is_among.Goals as goal
 
-pub loop-i-init : goal.loop-i-init
-loop-i-init c = (omega (arith, c.well_formed.0.1.0.1), refl)
-
-pub returns-then-m-key : goal.returns-then-m-key
-returns-then-m-key c =
-    sym (listed_here _ _ _ c.loop-i.invariant.0 _ c.loop-i-test.true c.if-m-key.true) ∙ c.loop-i.invariant.1
-
-pub loop-i-preserved : goal.loop-i-preserved
-loop-i-preserved c =
-    (c.loop-i.invariant.0, listed_next _ _ _ c.loop-i.invariant.0 _ c.loop-i-test.true c.if-m-key.false ∙ c.loop-i.invariant.1)
-
 pub returns : goal.returns
-returns c = sym (listed-none _ _ _ c.loop-i.invariant.0 _ c.loop-i-test.false) ∙ c.loop-i.invariant.1
+returns c =
+    any_from_yields_List (λ m. nat_eq m.key c.args.key) _ _ c.any.result c.any.ensures.ran (YieldsList-from_slice c.args.maturities.now c.iter.ensures.rest)
+    (λ x b q k. search (rules, tests))
+    ∙ sym (listed-any c.args.key c.args.maturities.now)

@@ -52,32 +52,32 @@ yes-24 c =
 
 -- ---- the refusals
 pub returns-then-refusal-ne0 : goal.returns-then-refusal-ne0
-returns-then-refusal-ne0 c = rw c.none_listed.ensures (listed-refused _ _ _ _ _ refl c.if-refusal-ne0.true)
+returns-then-refusal-ne0 c = listed-refused _ _ _ _ _ refl c.if-refusal-ne0.true
 
 pub returns-in_default : goal.returns-in_default
 unfolding asks_in
 returns-in_default c =
     let said = find_none _ _ (rw c.in_default.is at c.find_rising.ensures) in
-    rw c.none_listed-in_default.ensures (listed-no _ _ _ _ 8 (yes-8 (goal.at.returns-in_default c).Else-refusal-ne0 ∙ first-no 9 _ said))
+    rw c.number.ensures (listed-no _ _ _ _ 8 (yes-8 (goal.at.returns-in_default c).Else-refusal-ne0 ∙ first-no 9 _ said))
 
 pub returns-then-not-in_cover : goal.returns-then-not-in_cover
 unfolding asks_in
 returns-then-not-in_cover c =
     let said = said-no c.in_cover.ensures c.if-not-in_cover.true in
-    rw c.none_listed-then-not-in_cover.ensures (listed-no _ _ _ _ 10 (yes-9 (goal.at.returns-then-not-in_cover c).After-in_cover ∙ first-no 11 _ said))
+    rw c.number-then-not-in_cover.ensures (listed-no _ _ _ _ 10 (yes-9 (goal.at.returns-then-not-in_cover c).After-in_cover ∙ first-no 11 _ said))
 
 pub returns-then-not-is_week_into_cover : goal.returns-then-not-is_week_into_cover
 unfolding asks_in
 returns-then-not-is_week_into_cover c =
     let said = rw (product (goal.at.returns-then-not-is_week_into_cover c).After-product_at-product) at (said-no c.is_week_into_cover.ensures c.if-not-is_week_into_cover.true) in
-    rw c.none_listed-then-not-is_week_into_cover.ensures (listed-no _ _ _ _ 23 (yes-11 (goal.at.returns-then-not-is_week_into_cover c).Else-not-in_cover ∙ first-no 24 _ said))
+    rw c.number-then-not-is_week_into_cover.ensures (listed-no _ _ _ _ 23 (yes-11 (goal.at.returns-then-not-is_week_into_cover c).Else-not-in_cover ∙ first-no 24 _ said))
 
 -- ---- the listing
 pub returns-then-not-l : goal.returns-then-not-l
 unfolding asks_in
 returns-then-not-l c =
     let l = rw (product (goal.at.returns-then-not-l c).After-product_at-product) at (c.list_in-l.ensures ∙ listing-second c.args.judged.calendar [] _ _ _) in
-    rw c.none_listed-then-not-l.ensures (listed-no _ _ _ _ 15 (yes-24 (goal.at.returns-then-not-l c).Else-not-is_week_into_cover ∙
+    rw c.number-then-not-l.ensures (listed-no _ _ _ _ 15 (yes-24 (goal.at.returns-then-not-l c).Else-not-is_week_into_cover ∙
     first-no 16 _ (said-no (complete-is _ _ _ _ _ l) (not-true _ c.if-not-l.true))))
 
 pub returns : goal.returns

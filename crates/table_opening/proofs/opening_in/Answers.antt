@@ -1,9 +1,10 @@
--- What is listed, with the verdict's calendar, is the opening; a refused one has zeros.
-use Rattle.table_opening.proofs.Opened.{refused-listed, accepted-listed}
+-- What is listed, with the verdict's calendar, is the opening; a refused one has its number.
+use mathlib.Core.Path.{◌∙◌, sym}
+use Rattle.table_opening.proofs.Opened.{err-is, refused-opens, accepted-opens}
 use Rattle.table_opening.proofs.opening_in.Goals as goal
 
-pub returns-then-refusal-ne0 : goal.returns-then-refusal-ne0
-returns-then-refusal-ne0 c = rw c.refused_opening.ensures (refused-listed _ _ _ _ _ c.listed_in-l.ensures c.if-refusal-ne0.true)
+pub returns-in_err-l : goal.returns-in_err-l
+returns-in_err-l c = err-is _ _ c.from_residual.ensures ∙ refused-opens _ _ _ _ _ (sym c.in_err-l.ensures)
 
 pub returns : goal.returns
-returns c = accepted-listed _ _ _ _ _ c.listed_in-l.ensures c.if-refusal-ne0.false
+returns c = accepted-opens _ _ _ _ _ (sym c.in_ok-l.ensures)

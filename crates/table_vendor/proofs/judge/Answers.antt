@@ -10,8 +10,8 @@ use Rattle.table_vendor.proofs.judge.Goals as goal
 pub returns-then-not-is_sound : goal.returns-then-not-is_sound
 returns-then-not-is_sound c = sym (vendor-10 _ _ (said-no c.is_sound.ensures c.if-not-is_sound.true))
 
-pub verdict_of-requires : goal.verdict_of-requires
-verdict_of-requires c =
+pub key_of-requires : goal.key_of-requires
+key_of-requires c =
     let e = said-yes c.is_sound.ensures c.if-not-is_sound.false in
     let l : length c.args.t.maturities ≡ 15 = c.well_formed.0.1.1.1.1.1.0.1.0.1 in
     least-most c.args.t e l c.args.list.now _ _ _ c.places_of_kind-n.ensures.0 c.least_listed-found.ensures
@@ -21,6 +21,6 @@ pub returns : goal.returns
 returns c =
     let e = said-yes c.is_sound.ensures c.if-not-is_sound.false in
     let l : length c.args.t.maturities ≡ 15 = c.well_formed.0.1.1.1.1.1.0.1.0.1 in
-    c.verdict_of.ensures
+    c.key_of.ensures
     ∙ vendor-said c.args.t e l c.args.list.now _ _ _ c.places_of_kind-n.ensures.0 c.least_listed-found.ensures
     c.least_other-least.ensures

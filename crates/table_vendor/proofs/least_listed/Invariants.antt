@@ -3,7 +3,7 @@
 use Rattle.table_vendor.specs.VendorPasses.{least_listed}
 use Rattle.table_vendor.specs.Vendor.{entries_of}
 use mathlib.Core.Path.{◌≡◌}
-use Prim.Native.Nat.{◌-◌, ◌≤◌}
+use Prim.Native.Nat.{◌≤◌}
 use lib.ListN.{length, take, drop}
 use Rattle.table_vendor.proofs.least_listed.Given as goal
 
@@ -12,6 +12,3 @@ abbrev pub invariant-loop-i : goal.invariant-loop-i
 invariant-loop-i l =
     (l.n ≤ length l.maturities) × (l.n ≤ 15) × (least_listed (entries_of l.list) (drop l.i (take l.n l.maturities)) l.least
     ≡ least_listed (entries_of l.list) (take l.n l.maturities) 65536)
-
-abbrev pub decreases-loop-i : goal.decreases-loop-i
-decreases-loop-i l = l.n - l.i

@@ -4,7 +4,7 @@ use Rattle.table_vendor.specs.VendorPasses.{entry_count, least_other}
 use Rattle.listing.specs.Months.{places_of_kind}
 use Rattle.table_vendor.specs.Vendor.{entries_of}
 use mathlib.Core.Path.{◌≡◌}
-use Prim.Native.Nat.{◌-◌, ◌*◌, ◌≤◌}
+use Prim.Native.Nat.{◌*◌, ◌≤◌}
 use lib.ListN.{take, drop}
 use Rattle.table_vendor.proofs.least_other.Given as goal
 
@@ -14,6 +14,3 @@ invariant-loop-j l =
     (l.n ≡ entry_count l.list) × (2 * l.n ≤ 18446744073709551616)
     × (least_other (take (places_of_kind l.kind) l.maturities) (drop l.j (entries_of l.list)) l.least
     ≡ least_other (take (places_of_kind l.kind) l.maturities) (entries_of l.list) l.found)
-
-abbrev pub decreases-loop-j : goal.decreases-loop-j
-decreases-loop-j l = l.n - l.j

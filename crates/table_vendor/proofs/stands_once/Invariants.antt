@@ -3,7 +3,7 @@
 use Rattle.table_vendor.specs.VendorPasses.{entry_count}
 use Rattle.table_vendor.specs.Vendor.{entries_of, times, vendor_day_in}
 use mathlib.Core.Path.{◌≡◌}
-use Prim.Native.Nat.{◌-◌, ◌*◌, ◌≤◌}
+use Prim.Native.Nat.{◌*◌, ◌≤◌}
 use lib.ListN.{drop}
 use Rattle.table_vendor.proofs.stands_once.Given as goal
 
@@ -11,6 +11,3 @@ use Rattle.table_vendor.proofs.stands_once.Given as goal
 abbrev pub invariant-loop-j : goal.invariant-loop-j
 invariant-loop-j l = (l.n ≡ entry_count l.list) × (2 * l.n ≤ 18446744073709551616) × (times (drop l.j (entries_of l.list)) l.key ≡ times (entries_of l.list) l.key)
     × (vendor_day_in (drop l.j (entries_of l.list)) l.key ≡ vendor_day_in (entries_of l.list) l.key)
-
-abbrev pub decreases-loop-j : goal.decreases-loop-j
-decreases-loop-j l = l.n - l.j

@@ -4,7 +4,7 @@ use Prim.Native.Nat.{◌-◌, ◌+◌, ◌<◌}
 use Rattle.compare_rules.proofs.calendars.day_lines.Given as goal
 
 abbrev pub invariant-loop-day : goal.invariant-loop-day
-invariant-loop-day l = l.day < 65536
+invariant-loop-day g l = l.day < 65536
 
 abbrev pub decreases-loop-day : goal.decreases-loop-day
-decreases-loop-day l = l.to + 1 - l.day
+decreases-loop-day g l = l.to + 1 - l.day

@@ -8,17 +8,17 @@ use mathlib.Core.Path.{◌∙◌, sym}
 use Rattle.rounds.proofs.Queue.handle.Goals as goal
 
 pub returns-then-not-is_right : goal.returns-then-not-is_right
-returns-then-not-is_right c = c.none_taken.ensures ∙ sym (handle-10 _ _ (said-no c.is_right.ensures c.if-not-is_right.true))
+returns-then-not-is_right c = sym (handle-10 _ _ (said-no c.is_right.ensures c.if-not-is_right.true))
 
 pub returns-then-b-lt1 : goal.returns-then-b-lt1
 returns-then-b-lt1 c =
     let r = said-yes c.is_right.ensures c.if-not-is_right.false in
-    c.none_taken-then-b-lt1.ensures ∙ sym (handle-small _ _ r (lt-leb _ _ c.if-b-lt1.true))
+    sym (handle-small _ _ r (lt-leb _ _ c.if-b-lt1.true))
 
 pub returns-then-b-gt200 : goal.returns-then-b-gt200
 returns-then-b-gt200 c =
     let r = said-yes c.is_right.ensures c.if-not-is_right.false in
-    c.none_taken-then-b-gt200.ensures ∙ sym (handle-large _ _ r (le-leb _ _ c.if-b-lt1.false) (lt-leb _ _ c.if-b-gt200.true))
+    sym (handle-large _ _ r (le-leb _ _ c.if-b-lt1.false) (lt-leb _ _ c.if-b-gt200.true))
 
 pub first_to_end-requires : goal.first_to_end-requires
 first_to_end-requires c = right-count _ (said-yes c.is_right.ensures c.if-not-is_right.false)

@@ -1,0 +1,16 @@
+-- The byte with the slot's bit added is the map with that bit set; a slot past the map's end changes nothing (`set_out`).
+use Rattle.calendar.specs.Bits.{set_bit}
+use Rattle.calendar.proofs.Bits.{one_shl}
+use lib.Seq.{set_out}
+use Prim.Native.Nat.{◌-◌, ◌%◌}
+use native.Mathlib.Omega.{arith}
+use mathlib.Core.Path.{refl, sym}
+use Rattle.calendar.proofs.set_bit.Goals as goal
+
+pub returns-then-at-map : goal.returns-then-at-map
+unfolding set_bit
+returns-then-at-map c = rw (one_shl (7 - c.args.slot % 8) (omega arith)) refl
+
+pub returns-else-at-map : goal.returns-else-at-map
+unfolding set_bit
+returns-else-at-map c = sym (set_out _ _ _ c.if-at-map.false)

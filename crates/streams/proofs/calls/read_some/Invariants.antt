@@ -1,9 +1,0 @@
--- Each turn uses up one try.
-use Rattle.std.proofs.Common.{◌≡◌, length}
-use Rattle.streams.proofs.calls.read_some.Given as goal
-
-abbrev pub invariant-loop-tries : goal.invariant-loop-tries
-invariant-loop-tries g l = length l.part ≡ length l.initial.part
-
-abbrev pub decreases-loop-tries : goal.decreases-loop-tries
-decreases-loop-tries g l = l.tries
