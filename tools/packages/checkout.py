@@ -7,7 +7,7 @@ PROGRAMS = ('terms', 'compose', 'decompose', 'gateway', 'confirm', 'deliver', 'r
 ARCHIVE = 'staticlib/libscullpouch.a'
 WASM = 'wasm/scullpouch.wasm'
 # Beside the archive, in this order, what bindings/js/build sums to see whether its module is that of the archive.
-WASM_INPUTS = ('bindings/js/build', 'bindings/js/kit', 'bindings/js/section.py')
+WASM_INPUTS = ('bindings/js/build', 'bindings/js/kit', 'bindings/js/section.py', 'bindings/js/wasm32.py')
 
 
 class Stop(Exception):
